@@ -1,0 +1,71 @@
+// Little-endian reads at an offset of a slice of bytes. A byte past the end counts as 0, so every read is total.
+ghost use mathlib.Core.Path.{_≡_};
+ghost use Prim.Native.Nat.{_+_, _≤_};
+ghost use lib.ListN.{length};
+ghost use Rattle.little_endian.specs.Number.{le};
+
+fn whole_u16(s: &[u8], at: usize) -> u16
+    requires { ⌜ at + 2 ≤ length (now s) ⌝ }
+    ensures { λ r. ⌜ r ≡ le 2 (now (s .entry)) at ⌝ }
+{
+    s[at] as u16 + 256 * (s[at + 1] as u16)
+}
+
+fn whole_u32(s: &[u8], at: usize) -> u32
+    requires { ⌜ at + 4 ≤ length (now s) ⌝ }
+    ensures { λ r. ⌜ r ≡ le 4 (now (s .entry)) at ⌝ }
+{
+    whole_u16(s, at) as u32 + 65536 * (whole_u16(s, at + 2) as u32)
+}
+
+fn whole_u64(s: &[u8], at: usize) -> u64
+    requires { ⌜ at + 8 ≤ length (now s) ⌝ }
+    ensures { λ r. ⌜ r ≡ le 8 (now (s .entry)) at ⌝ }
+{
+    whole_u32(s, at) as u64 + 4294967296 * (whole_u32(s, at + 4) as u64)
+}
+
+pub fn u16_at(s: &[u8], at: usize) -> u16
+    ensures { λ r. ⌜ r ≡ le 2 (now (s .entry)) at ⌝ }
+{
+    if s.len() <= at {
+        return 0;
+    }
+    if s.len() - at < 2 {
+        return s[at] as u16;
+    }
+    whole_u16(s, at)
+}
+
+pub fn u32_at(s: &[u8], at: usize) -> u32
+    ensures { λ r. ⌜ r ≡ le 4 (now (s .entry)) at ⌝ }
+{
+    if s.len() <= at {
+        return 0;
+    }
+    if s.len() - at < 4 {
+        return u16_at(s, at) as u32 + 65536 * (u16_at(s, at + 2) as u32);
+    }
+    whole_u32(s, at)
+}
+
+pub fn u48_at(s: &[u8], at: usize) -> u64
+    ensures { λ r. ⌜ r ≡ le 6 (now (s .entry)) at ⌝ }
+{
+    if s.len() <= at {
+        return 0;
+    }
+    u32_at(s, at) as u64 + 4294967296 * (u16_at(s, at + 4) as u64)
+}
+
+pub fn u64_at(s: &[u8], at: usize) -> u64
+    ensures { λ r. ⌜ r ≡ le 8 (now (s .entry)) at ⌝ }
+{
+    if s.len() <= at {
+        return 0;
+    }
+    if s.len() - at < 8 {
+        return u32_at(s, at) as u64 + 4294967296 * (u32_at(s, at + 4) as u64);
+    }
+    whole_u64(s, at)
+}
