@@ -1,0 +1,58 @@
+-- Document 01's table of versions.
+use mathlib.Core.Path.{_≡_, refl}
+use mathlib.Core.Bool.{Bool, true, false}
+use Prim.Native.Nat.{ℕ, _+_, _≤_, _<_}
+use native.Mathlib.Omega.{arith}
+use lib.Dec.{eqb}
+use Rattle.layout.specs.declared.Version.{Version}
+use Rattle.layout.specs.declared.Version.the-variants.{V17, V23, V26}
+use Rattle.layout.specs.declared.Layout.{Layout}
+use Rattle.layout.specs.declared.KnownVersion.{KnownVersion}
+use Rattle.layout.specs.declared.KnownVersion.the-variants.{Known, Unknown}
+
+-- the greatest declared size
+abbrev pub sizeLimit : ℕ
+sizeLimit = 16777215
+
+-- one row: last run time | run count | H | metrics entry | name offset, length in it | volume entry | trace entry
+abbrev pub row : ℕ → ℕ → ℕ → ℕ → ℕ → ℕ → ℕ → ℕ → Layout
+row time runs head metric name units volume link =
+    record { time = time; runs = runs; head = head; metric = metric; name = name; units = units; volume = volume; link = link }
+
+abbrev pub layoutOf : Version → Layout
+layoutOf V17 = row 120 144 148 20 8 12 40 12
+layoutOf V23 = row 128 152 156 32 12 16 104 12
+layoutOf V26 = row 128 208 212 32 12 16 104 12
+
+-- the number that the file has for a version
+abbrev pub versionNumber : Version → ℕ
+versionNumber V17 = 17
+versionNumber V23 = 23
+versionNumber V26 = 26
+
+abbrev pub pickVersion : Bool → KnownVersion → KnownVersion → KnownVersion
+pickVersion true a b = a
+pickVersion false a b = b
+
+-- the version of a number, for 17, 23 and 26
+unfoldable pub versionOf : ℕ → KnownVersion
+versionOf v = pickVersion (eqb v 17) (Known V17) (pickVersion (eqb v 23) (Known V23) (pickVersion (eqb v 26) (Known V26) Unknown))
+
+-- what holds of the constants of every version
+pub record Sound (l : Layout) : Type 0 where
+  pub fixed : 120 ≤ l .head
+  pub small : l .head ≤ 212
+  pub time : l .time + 8 ≤ l .head
+  pub runs : l .runs + 4 ≤ l .head
+  pub metric : l .metric ≤ 32
+  pub name : l .name + 4 ≤ l .metric
+  pub units : l .units + 4 ≤ l .metric
+  pub volume : l .volume ≤ 104
+  pub entry : 36 ≤ l .volume
+  pub link : l .link ≤ 12
+  pub next : 4 ≤ l .link
+
+pub layout-sound : (v : Version) → Sound (layoutOf v)
+layout-sound V17 = omega arith
+layout-sound V23 = omega arith
+layout-sound V26 = omega arith
