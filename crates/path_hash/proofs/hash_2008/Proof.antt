@@ -1,0 +1,82 @@
+use mathlib.Core.Path.{_≡_, refl, sym, _∙_, ap}
+use Prim.Native.Nat.{_+_, _-_, _*_, _/_, _≤_, _<_}
+use native.Mathlib.Omega.{arith}
+use lib.ListN.{length, drop, getD}
+use Rattle.path_hash.specs.Hash.{plain, vista}
+use Rattle.path_hash.specs.Laws.{plain-eight, vista-2008}
+use Rattle.lists.specs.Table.{rest-all}
+use borrow.Author.Needs.{needs}
+use Rattle.path_hash.proofs.hash_2008.Statement.{statement}
+use Rattle.path_hash.proofs.hash_2008.Tie as tie
+use Rattle.path_hash.proofs.hash_2008.Reads as reads
+use Rattle.path_hash.proofs.hash_2008.Lts as lts
+use Rattle.path_hash.proofs.plain_from.Reads as plain-from-reads
+use Rattle.path_hash.proofs.eight_at.Reads as eight-at-reads
+
+abbrev Inv-loop : tie.InvT-loop
+Inv-loop cs h₀ i₀ h i = (i ≤ length cs) × (plain h (drop i cs) ≡ vista cs)
+
+abbrev μ-loop : tie.MeasureT-loop
+μ-loop cs h₀ i₀ h i = length cs - i
+
+loop-holds : tie.Need-loop-holds Inv-loop μ-loop
+loop-holds c = search needs
+
+sub-loop : tie.Need-sub-loop Inv-loop μ-loop
+sub-loop c = search needs
+
+eight-at-requires : tie.Need-eight-at-requires Inv-loop μ-loop
+eight-at-requires c κs = search needs
+
+add-i : tie.Need-add-i Inv-loop μ-loop
+add-i c = search needs
+
+loop-less : tie.Need-loop-less Inv-loop μ-loop
+loop-less c = search needs
+
+loop-again : tie.Need-loop-again Inv-loop μ-loop
+loop-again c =
+    let b = c .before .before in
+    let s = b .before .before .args .cs .now in
+    let l : b .loop .i + 8 ≤ length s = omega arith in
+    (omega arith, rw (c .eight-at .ensures) (sym (plain-eight s (b .loop .h) (b .loop .i) l) ∙ b .loop .inv .1))
+
+mul-plain-from : tie.Need-mul-plain-from Inv-loop μ-loop
+mul-plain-from c = search needs
+
+sub-plain-from : tie.Need-sub-plain-from Inv-loop μ-loop
+sub-plain-from c = search needs
+
+part-plain-from-start : tie.Need-part-plain-from-start Inv-loop μ-loop
+part-plain-from-start c = search needs
+
+part-plain-from-end : tie.Need-part-plain-from-end Inv-loop μ-loop
+part-plain-from-end c = search needs
+
+plain-from-requires : tie.Need-plain-from-requires Inv-loop μ-loop
+plain-from-requires c κs = search needs
+
+returns : tie.Need-returns Inv-loop μ-loop
+returns c =
+    let b = c .before .before .before in
+    let s = b .before .before .args .cs .now in
+    c .plain-from .ensures ∙ rw (rest-all (b .loop .i) s) (b .loop .inv .1) ∙ vista-2008 s
+
+pub hash-2008-spec : {M : Type 1} → statement M
+hash-2008-spec =
+    tie.close
+    (tie.spec
+    Inv-loop
+    μ-loop
+    loop-holds
+    sub-loop
+    eight-at-requires
+    add-i
+    loop-less
+    loop-again
+    mul-plain-from
+    sub-plain-from
+    part-plain-from-start
+    part-plain-from-end
+    plain-from-requires
+    returns)

@@ -1,0 +1,21 @@
+use mathlib.Core.Path.{_∙_, ap}
+use Rattle.path_hash.specs.Hash.{xpEnd}
+use borrow.Author.Needs.{needs}
+use Rattle.path_hash.proofs.xp_hash.Statement.{statement}
+use Rattle.path_hash.proofs.xp_hash.Tie as tie
+use Rattle.path_hash.proofs.xp_hash.Reads as reads
+use Rattle.path_hash.proofs.xp_hash.Lts as lts
+use Rattle.path_hash.proofs.plain_from.Reads as plain-from-reads
+use Rattle.path_hash.proofs.signed_end.Reads as signed-end-reads
+
+plain-from-requires : tie.Need-plain-from-requires
+plain-from-requires c κs = search needs
+
+signed-end-requires : tie.Need-signed-end-requires
+signed-end-requires c κs = search needs
+
+returns : tie.Need-returns
+returns c = c .signed-end .ensures ∙ ap xpEnd (c .before .plain-from .ensures)
+
+pub xp-hash-spec : {M : Type 1} → statement M
+xp-hash-spec = tie.close (tie.spec plain-from-requires signed-end-requires returns)
