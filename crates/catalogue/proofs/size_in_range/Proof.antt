@@ -1,0 +1,36 @@
+use mathlib.Core.Path.{sym, _≡_}
+use Prim.Native.Nat.{_≤_, _<_}
+use mathlib.Core.Path.{ap}
+use native.Mathlib.Omega.{arith}
+use borrow.Author.Tests.{le-leb, lt-leb}
+use Rattle.layout.specs.Versions.{layoutOf, sizeLimit}
+use Rattle.layout.specs.declared.Layout.{Layout}
+use borrow.Author.Needs.{needs}
+use Rattle.catalogue.proofs.size_in_range.Statement.{statement}
+use Rattle.catalogue.proofs.size_in_range.Tie as tie
+use Rattle.catalogue.proofs.size_in_range.Reads as reads
+use Rattle.catalogue.proofs.size_in_range.Lts as lts
+use Rattle.layout.proofs.Layout.of.Reads as of-reads
+
+-- src/lib.rt:118:26
+of-requires : tie.Need-of-requires
+of-requires c κs = search needs
+
+-- src/lib.rt:119:9
+returns : tie.Need-returns
+returns c =
+    let a = c .before .before .before .args in
+    let h = ap (λ (l : Layout). l .head) (c .before .before .of .ensures) in
+    let z : a .size < layoutOf (a .version) .head = omega arith in
+    rw (lt-leb _ _ z)
+
+-- src/lib.rt:115:1
+returns-2 : tie.Need-returns-2
+returns-2 c =
+    let a = c .before .before .before .args in
+    let h = ap (λ (l : Layout). l .head) (c .before .before .of .ensures) in
+    let z : layoutOf (a .version) .head ≤ a .size = omega arith in
+    rw (le-leb _ _ z)
+
+pub size-in-range-spec : {M : Type 1} → statement M
+size-in-range-spec = tie.close (tie.spec of-requires returns returns-2)

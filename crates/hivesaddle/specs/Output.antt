@@ -1,0 +1,48 @@
+-- Answers over the C boundary: a number, and values laid into an output that takes as many as fit.
+use mathlib.Core.Path.{_≡_, refl, sym, ap, _∙_}
+use mathlib.Core.List.{List, [], _∷_, _++_, append-nil}
+use mathlib.Core.Logic.{_⊎_, ⊎-elim}
+use Prim.Native.Nat.{ℕ, _+_, _≤_, _<_}
+use native.Mathlib.Nat.{zero-add}
+use native.Mathlib.Omega.{arith}
+use lib.ListN.{length, take, drop, drop-of-length-le}
+use lib.Seq.{paste, take-all}
+use Rattle.catalogue.specs.declared.Fields.{Fields}
+use Rattle.catalogue.specs.declared.ReadLine.{ReadLine}
+use Rattle.catalogue.specs.declared.WrittenLine.{WrittenLine}
+use Rattle.catalogue.specs.Line.{reading, readAnswer, canWrite, lineOf, pickℕ, pickList, Writing, writtenNumber}
+
+-- the values that fit, and the rest of the output as it was
+abbrev pub overlay : List ℕ → List ℕ → List ℕ
+overlay out values = take (length out) values ++ drop (length values) out
+
+-- a copy that stops at the shorter of the two
+pub overlay-done : (out values now : List ℕ) (i : ℕ) → i ≤ length out → i ≤ length values → (length out ≤ i) ⊎ (length values ≤ i) → now ≡ paste out 0 values i → now ≡ overlay out values
+overlay-done out values now i a b o e =
+    ⊎-elim
+    (λ l.
+    let q : i ≡ length out = omega arith in
+    e ∙ rw (q, drop-of-length-le out {i = 0 + length out} (omega arith), drop-of-length-le out {i = length values} (omega arith)))
+    (λ l.
+    let q : i ≡ length values = omega arith in
+    e ∙ rw (q, take-all (length values) values (omega arith), take-all (length out) values (omega arith)) (ap (λ (k : ℕ). values ++ drop k out) (zero-add (length values))))
+    o
+
+-- a line's fields in order
+abbrev pub lineValues : Fields → List ℕ
+lineValues f = f .size ∷ f .hash ∷ f .runs ∷ f .version ∷ []
+
+-- what reading a line gives, by the case that was found
+pub read-is : (s : List ℕ) (r t : ReadLine) → readAnswer r ≡ reading s → r ≡ t → reading s ≡ readAnswer t
+read-is s r t e q = sym e ∙ ap readAnswer q
+
+abbrev pub fieldsOf : ℕ → ℕ → ℕ → ℕ → Fields
+fieldsOf size hash runs version = record { size = size; hash = hash; runs = runs; version = version }
+
+-- writing a line: 0 or 19, and the output afterwards
+pub record LineWriting (f : Fields) (before : List ℕ) (r : ℕ) (after : List ℕ) : Type 0 where
+  pub number : r ≡ pickℕ (canWrite f (length before)) 0 19
+  pub output : after ≡ pickList (canWrite f (length before)) (lineOf f ++ drop 25 before) before
+
+pub writing-is : (f : Fields) (before after : List ℕ) (w : WrittenLine) (r : ℕ) → Writing f before w after → writtenNumber w ≡ r → LineWriting f before r after
+writing-is f before after w r h e = record { number = sym e ∙ h .number; output = h .output }
