@@ -5,6 +5,10 @@ use crate::tally::Tally;
 
 mod catalogue;
 mod hashes;
+#[cfg(feature = "readers")]
+mod reader_points;
+#[cfg(feature = "readers")]
+mod readers;
 
 /// What a run is asked for.
 pub struct Run {
@@ -23,4 +27,9 @@ impl Run {
 
 pub type Group = (&'static str, fn(&Run, &mut Tally));
 
-pub const GROUPS: &[Group] = &[("hashes", hashes::run), ("catalogue", catalogue::run)];
+pub const GROUPS: &[Group] = &[
+    ("hashes", hashes::run),
+    ("catalogue", catalogue::run),
+    #[cfg(feature = "readers")]
+    ("readers", readers::run),
+];
