@@ -38,6 +38,11 @@ impl<T: Copy> Lent<T> {
     }
 }
 
+/// The lent place out of a whole.
+pub fn lent_part<T>(whole: &[T]) -> &[T] {
+    &whole[MARGIN..whole.len() - MARGIN]
+}
+
 pub fn lent_bytes(random: &mut Random, length: usize) -> Lent<u8> {
     Lent::new(length, || random.byte())
 }

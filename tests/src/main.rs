@@ -1,9 +1,10 @@
 //! compare [--seed N] [--scale N] [group ...]
 //!
-//! Runs the named groups, or all of them. The last line is
-//! `N passed, M failed`, where N and M count comparisons.
+//! Runs the named groups, or all of them. The group `listing` runs the program
+//! that HIVESADDLE_PROGRAM names, and is left out of all where none is named.
+//! The last line is `N passed, M failed`, where N and M count comparisons.
 
-use compare::groups::{Group, Run, GROUPS};
+use compare::groups::{listing, Group, Run, GROUPS};
 use compare::tally::Tally;
 use std::process::ExitCode;
 
@@ -51,9 +52,16 @@ fn asked(mut words: impl Iterator<Item = String>) -> Result<Asked, String> {
         }
     }
     if asked.groups.is_empty() {
-        asked.groups = GROUPS.iter().collect();
+        asked.groups = GROUPS.iter().filter(|group| can_run(group)).collect();
     }
-    Ok(asked)
+    match asked.groups.iter().find(|group| !can_run(group)) {
+        Some((name, _)) => Err(format!("{name} needs {}", listing::PROGRAM)),
+        None => Ok(asked),
+    }
+}
+
+fn can_run(group: &Group) -> bool {
+    group.0 != "listing" || std::env::var_os(listing::PROGRAM).is_some()
 }
 
 fn number(word: Option<String>) -> Result<u64, String> {

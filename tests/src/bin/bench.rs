@@ -2,8 +2,17 @@
 //!
 //! The library over its C boundary beside a plain Rust loop: the same numbers,
 //! turn and turn about, medians. Nothing is cleared between the runs.
+//!
+//! bench readers
+//!
+//! The whole reader on files of one long chain, to see how its time grows with
+//! the trace count.
 
+#[cfg(feature = "readers")]
+use compare::generate::{lay_out, trace_section, Contents};
 use compare::random::Random;
+#[cfg(feature = "readers")]
+use compare::reference::layout::{END, LAYOUTS};
 use std::hint::black_box;
 use std::process::ExitCode;
 use std::time::Instant;
@@ -19,8 +28,13 @@ fn main() -> ExitCode {
             hashes();
             ExitCode::SUCCESS
         }
+        #[cfg(feature = "readers")]
+        Some("readers") => {
+            readers();
+            ExitCode::SUCCESS
+        }
         _ => {
-            eprintln!("bench hashes");
+            eprintln!("bench hashes, or with the feature readers: bench readers");
             ExitCode::from(2)
         }
     }
@@ -71,4 +85,37 @@ fn plain(numbers: &[u32]) -> u32 {
 fn median(mut list: Vec<f64>) -> f64 {
     list.sort_by(f64::total_cmp);
     list[list.len() / 2]
+}
+
+#[cfg(feature = "readers")]
+fn readers() {
+    let mut random = Random::new(37);
+    for count in [1_000, 2_000, 4_000, 8_000, 16_000] {
+        let forwards: Vec<u32> = (1..count).chain([END]).collect();
+        let backwards: Vec<u32> = [END].into_iter().chain(0..count - 1).collect();
+        time_of_chain("first to last", &mut random, &forwards);
+        time_of_chain("last to first", &mut random, &backwards);
+        time_of_chain("no links", &mut random, &vec![END; count as usize]);
+    }
+}
+
+#[cfg(feature = "readers")]
+fn time_of_chain(name: &str, random: &mut Random, links: &[u32]) {
+    let contents = Contents {
+        metrics: Vec::new(),
+        trace: trace_section(random, links),
+        strings: Vec::new(),
+        volumes: Vec::new(),
+        volume_count: 0,
+        stored_hash: 0,
+    };
+    let file = lay_out(random, &LAYOUTS[0], &contents);
+    let mut places = vec![0; links.len()];
+    let mut times = Vec::new();
+    for _ in 0..5 {
+        let start = Instant::now();
+        hivesaddle::read_file(&file, &mut places).expect("a sound file");
+        times.push(start.elapsed().as_nanos() as f64 / 1e6);
+    }
+    println!("{} trace entries, {name}: {:.3} ms", links.len(), median(times));
 }

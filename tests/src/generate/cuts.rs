@@ -1,7 +1,8 @@
 //! Prefix lengths at which an answer can change.
 
 use super::Sample;
-use crate::reference::head::{number_32, section};
+use crate::reference::checks::{entry_start, name_of_entry};
+use crate::reference::head::{known_layout, metrics_count, number_32, section, STRINGS};
 use crate::reference::layout::layout_of;
 
 /// One before, at and one after every reach, every section's start and end,
@@ -36,4 +37,18 @@ fn middles(file: &[u8]) -> Vec<u64> {
         }
     }
     middles
+}
+
+/// Around the end of every metrics entry and of every name, for a sound file.
+pub fn question_cuts(sample: &Sample) -> Vec<usize> {
+    let file = &sample.bytes[..];
+    let mut list = Vec::new();
+    for i in 0..metrics_count(file) {
+        let entry_end = entry_start(file, i) + known_layout(file).metrics_entry;
+        let name_end = section(file, STRINGS).start + name_of_entry(file, i).end();
+        for end in [entry_end as usize, name_end as usize] {
+            list.extend([end - 2, end - 1, end]);
+        }
+    }
+    list
 }

@@ -5,6 +5,13 @@ use crate::tally::Tally;
 
 mod catalogue;
 mod hashes;
+pub mod listing;
+#[cfg(feature = "readers")]
+mod prefixes;
+#[cfg(feature = "queries")]
+mod queries;
+#[cfg(feature = "queries")]
+mod query_points;
 #[cfg(feature = "readers")]
 mod reader_points;
 #[cfg(feature = "readers")]
@@ -32,4 +39,9 @@ pub const GROUPS: &[Group] = &[
     ("catalogue", catalogue::run),
     #[cfg(feature = "readers")]
     ("readers", readers::run),
+    #[cfg(feature = "readers")]
+    ("prefixes", prefixes::run),
+    #[cfg(feature = "queries")]
+    ("queries", queries::run),
+    ("listing", listing::run),
 ];

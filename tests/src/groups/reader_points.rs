@@ -143,26 +143,32 @@ fn program_names(tally: &mut Tally) {
     part(tally, "30 units, one byte short", &file[..75], Verdict::Wanted(76));
 }
 
-/// Each section in turn, alone: where its offset and its count or size stand,
-/// that number, and the bytes it makes.
-const SECTIONS: [(u64, usize, usize, u32, u32); 4] =
-    [(1, 84, 88, 1, 20), (2, 92, 96, 1, 12), (3, 100, 104, 5, 5), (4, 108, 116, 7, 7)];
+/// A section alone in a version 17 file of 188 bytes.
+struct Alone {
+    which: u64,
+    offset_field: usize,
+    /// Where its count or its size stands, and that number.
+    count_field: usize,
+    count: u32,
+    bytes: u32,
+    /// The check that finds something else to refuse once it lies inside: one
+    /// entry has no strings for its name, and one link of 0 is a ring.
+    otherwise: Option<u64>,
+}
+
+const ALONE: [Alone; 4] = [
+    Alone { which: 1, offset_field: 84, count_field: 88, count: 1, bytes: 20, otherwise: Some(9) },
+    Alone { which: 2, offset_field: 92, count_field: 96, count: 1, bytes: 12, otherwise: Some(13) },
+    Alone { which: 3, offset_field: 100, count_field: 104, count: 5, bytes: 5, otherwise: None },
+    Alone { which: 4, offset_field: 108, count_field: 116, count: 7, bytes: 7, otherwise: None },
+];
 
 fn section_ends(tally: &mut Tally) {
-    for (which, offset_field, count_field, count, bytes) in SECTIONS {
+    for Alone { which, offset_field, count_field, count, bytes, otherwise } in ALONE {
         let mut file = bare(17, 40);
         set_32(&mut file, count_field, count);
-        let inside = if which == 1 {
-            // Without strings the metrics entry's name has no room.
-            refused(9, 0)
-        } else {
-            let trace = u64::from(which == 2);
-            // A next index of 0 is the entry itself.
-            match which {
-                2 => refused(13, 0),
-                _ => Verdict::Accepted(Record { trace_count: trace, ..bare_record(&file) }),
-            }
-        };
+        let accepted = Verdict::Accepted(bare_record(&file));
+        let inside = otherwise.map_or(accepted, |number| refused(number, 0));
         let cases = [
             ("starting at H", 148, inside),
             ("starting at H - 1", 147, refused(5, which)),
@@ -178,10 +184,8 @@ fn section_ends(tally: &mut Tally) {
             set_32(&mut file, offset_field, offset);
             part(tally, &format!("section {which} {name}"), &file, verdict);
         }
-        // Empty, its offset is not looked at.
         set_32(&mut file, count_field, 0);
-        let record = Verdict::Accepted(bare_record(&file));
-        part(tally, &format!("section {which} empty"), &file, record);
+        part(tally, &format!("section {which}, empty and far away"), &file, accepted);
     }
 }
 

@@ -4,7 +4,7 @@ use super::Run;
 use crate::calls::{numbers_of, Places, RawReader, PART_READER, READER_OUT, WHOLE_READER};
 use crate::generate::cuts::cuts;
 use crate::generate::damage::{damage, edits, AIMS};
-use crate::generate::{any, rich, Sample};
+use crate::generate::{any, rich, sound, Counts, Sample};
 use crate::random::Random;
 use crate::reference::readers::{part_reader, whole_reader, Answer, Verdict};
 use crate::tally::{hex, Tally};
@@ -18,6 +18,7 @@ pub fn run(run: &Run, tally: &mut Tally) {
     readers.pairs_of_faults(50 * run.scale);
     readers.edited_files(60_000 * run.scale);
     readers.random_bytes(20_000 * run.scale);
+    readers.large_files(40 * run.scale);
     readers.seen.report(readers.tally);
 }
 
@@ -124,6 +125,29 @@ impl Readers<'_> {
             bytes[..kept].copy_from_slice(&head[..kept]);
             let sample = Sample { bytes, places: self.random.below(4) };
             self.prefix(&sample, length, sample.places);
+        }
+    }
+
+    /// Hundreds of names and thousands of trace entries, some damaged.
+    fn large_files(&mut self, rounds: usize) {
+        for round in 0..rounds {
+            let counts = Counts {
+                metrics: self.random.between(50, 300),
+                trace: self.random.between(500, 4_000),
+                volumes: self.random.between(5, 20),
+            };
+            let mut sample = sound(&mut self.random, counts);
+            if round % 2 == 1 {
+                let number = self.random.between(9, 15) as u64;
+                damage(&mut self.random, &mut sample, number);
+            }
+            sample.places += self.random.below(10_000);
+            self.prefix(&sample, sample.bytes.len(), sample.places);
+            for _ in 0..3 {
+                let length = *self.random.pick(&cuts(&sample));
+                self.prefix(&sample, length, sample.places);
+            }
+            self.rest_of(&sample);
         }
     }
 
