@@ -61,7 +61,18 @@ pub fn program_name(file: &[u8]) -> Option<&[u8]> {
 /// The bytes of metrics entry i's name, without its zero unit.
 ///
 /// ```
-/// assert_eq!(hivesaddle::entry_name(b"SCCA", 0), None);
+/// // Version 17: one metrics entry at 148, and the strings "A" at 168.
+/// let mut file = [0; 172];
+/// file[0] = 17;
+/// file[4..8].copy_from_slice(b"SCCA");
+/// file[12] = 172;
+/// (file[84], file[88]) = (148, 1);
+/// (file[100], file[104]) = (168, 4);
+/// file[148 + 12] = 1;
+/// file[168] = b'A';
+/// assert_eq!(hivesaddle::entry_name(&file, 0), Some(&b"A\0"[..]));
+/// assert_eq!(hivesaddle::entry_name(&file, 1), None);
+/// assert_eq!(hivesaddle::entry_name(&file[..171], 0), None);
 /// ```
 pub fn entry_name(file: &[u8], i: u64) -> Option<&[u8]> {
     let mut out = [0; 2];
@@ -73,7 +84,19 @@ pub fn entry_name(file: &[u8], i: u64) -> Option<&[u8]> {
 /// Volume i.
 ///
 /// ```
-/// assert_eq!(hivesaddle::volume(b"SCCA", 0), None);
+/// // Version 17: one volume at 148 with serial number 7 and the path "C".
+/// let mut file = [0; 190];
+/// file[0] = 17;
+/// file[4..8].copy_from_slice(b"SCCA");
+/// file[12] = 190;
+/// (file[108], file[112], file[116]) = (148, 1, 42);
+/// (file[148], file[152]) = (40, 1);
+/// file[148 + 16] = 7;
+/// file[188] = b'C';
+/// let volume = hivesaddle::volume(&file, 0).unwrap();
+/// assert_eq!((volume.serial_number, volume.path), (7, &b"C\0"[..]));
+/// assert_eq!((volume.references, volume.directories), (0, 0));
+/// assert_eq!(hivesaddle::volume(&file, 1), None);
 /// ```
 pub fn volume(file: &[u8], i: u64) -> Option<Volume<'_>> {
     let mut out = [0; 6];
@@ -91,7 +114,18 @@ pub fn volume(file: &[u8], i: u64) -> Option<Volume<'_>> {
 /// File reference k of volume i.
 ///
 /// ```
-/// assert_eq!(hivesaddle::reference(b"SCCA", 0, 0), None);
+/// // Version 17: one volume at 148 with a single file reference.
+/// let mut file = [0; 204];
+/// file[0] = 17;
+/// file[4..8].copy_from_slice(b"SCCA");
+/// file[12] = 204;
+/// (file[108], file[112], file[116]) = (148, 1, 56);
+/// (file[148 + 20], file[148 + 24]) = (40, 16);
+/// file[192] = 1;
+/// file[196..204].copy_from_slice(&[1, 2, 0, 0, 0, 0, 3, 0]);
+/// let reference = hivesaddle::reference(&file, 0, 0).unwrap();
+/// assert_eq!((reference.entry_index, reference.sequence_number), (0x0201, 3));
+/// assert_eq!(hivesaddle::reference(&file, 0, 1), None);
 /// ```
 pub fn reference(file: &[u8], i: u64, k: u64) -> Option<Reference> {
     let mut out = [0; 2];

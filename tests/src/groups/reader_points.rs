@@ -1,11 +1,12 @@
-//! Points on either edge, with answers taken from the papers by hand.
+//! Points on either edge, with answers taken from the papers by hand. The
+//! library and the reference both have to give them.
 
 use crate::calls::{numbers_of, Places, RawReader, PART_READER, READER_OUT, WHOLE_READER};
 use crate::generate::{set_16, set_32};
 use crate::random::Random;
 use crate::reference::checks::Refusal;
 use crate::reference::layout::END;
-use crate::reference::readers::{Answer, Record, Verdict};
+use crate::reference::readers::{part_reader, whole_reader, Answer, Record, Verdict};
 use crate::tally::Tally;
 use std::ptr::{null, null_mut};
 
@@ -29,24 +30,35 @@ fn refused(number: u64, index: u64) -> Verdict {
     Verdict::Refused(Refusal { number, index })
 }
 
-/// A reader's answer with the working buffer that goes with no acceptance.
-fn check(tally: &mut Tally, name: &str, reader: RawReader, bytes: &[u8], verdict: Verdict) {
+/// A reader of the library and that of the reference.
+struct Reader {
+    library: RawReader,
+    reference: fn(&[u8], usize) -> Answer,
+}
+
+const PART: Reader = Reader { library: PART_READER, reference: part_reader };
+const WHOLE: Reader = Reader { library: WHOLE_READER, reference: whole_reader };
+
+/// A verdict on a file without links: every place is filled.
+fn check(tally: &mut Tally, name: &str, reader: Reader, bytes: &[u8], verdict: Verdict) {
     let answer = Answer { verdict, buffer: vec![END; 8] };
     check_buffer(tally, name, reader, bytes, &answer);
 }
 
-fn check_buffer(tally: &mut Tally, name: &str, reader: RawReader, bytes: &[u8], answer: &Answer) {
-    let lent = Places::new(&mut Random::new(1), READER_OUT, answer.buffer.len());
+fn check_buffer(tally: &mut Tally, name: &str, reader: Reader, bytes: &[u8], answer: &Answer) {
+    let places = answer.buffer.len();
+    let lent = Places::new(&mut Random::new(1), READER_OUT, places);
     let expected = lent.expected(answer);
-    tally.named(name, &expected, &lent.call(reader, bytes));
+    tally.named(name, &expected, &lent.call(reader.library, bytes));
+    tally.named(name, answer, &(reader.reference)(bytes, places));
 }
 
 fn part(tally: &mut Tally, name: &str, bytes: &[u8], verdict: Verdict) {
-    check(tally, name, PART_READER, bytes, verdict);
+    check(tally, name, PART, bytes, verdict);
 }
 
 fn whole(tally: &mut Tally, name: &str, bytes: &[u8], verdict: Verdict) {
-    check(tally, name, WHOLE_READER, bytes, verdict);
+    check(tally, name, WHOLE, bytes, verdict);
 }
 
 /// H of each version, as the paper has it.
@@ -353,13 +365,13 @@ fn sound_links(tally: &mut Tally, links: &[u32], chains: u64, predecessors: &[u3
         buffer.extend(vec![END; more]);
         let answer = Answer { verdict: Verdict::Accepted(record), buffer };
         let name = format!("links {links:?}, {more} places more");
-        check_buffer(tally, &name, PART_READER, &file, &answer);
-        check_buffer(tally, &name, WHOLE_READER, &file, &answer);
+        check_buffer(tally, &name, PART, &file, &answer);
+        check_buffer(tally, &name, WHOLE, &file, &answer);
     }
     let answer = Answer { verdict: refused(7, 0), buffer: vec![END; links.len() - 1] };
     let name = format!("links {links:?}, one place short");
-    check_buffer(tally, &name, PART_READER, &file, &answer);
-    check_buffer(tally, &name, WHOLE_READER, &file[..148], &answer);
+    check_buffer(tally, &name, PART, &file, &answer);
+    check_buffer(tally, &name, WHOLE, &file[..148], &answer);
 }
 
 /// Trace damage that has arrived does not answer before the names are decided.
@@ -513,9 +525,9 @@ fn largest_files(tally: &mut Tally) {
     let predecessor = |entry: u32| if entry % 8 == 0 { END } else { entry - 1 };
     let buffer = (0..entries).map(predecessor).collect();
     let answer = Answer { verdict: Verdict::Accepted(record), buffer };
-    check_buffer(tally, "the largest file", WHOLE_READER, &file, &answer);
+    check_buffer(tally, "the largest file", WHOLE, &file, &answer);
     set_32(&mut file, 12, 16_777_216);
-    check(tally, "one too large", WHOLE_READER, &file, refused(3, 0));
+    check(tally, "one too large", WHOLE, &file, refused(3, 0));
 }
 
 fn null_pointers(tally: &mut Tally) {

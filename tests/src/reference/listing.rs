@@ -56,3 +56,25 @@ fn shown_path(found: Option<Found>) -> String {
         Report::Both => format!("{} both", found.entry),
     }
 }
+
+#[cfg(test)]
+mod points {
+    use super::*;
+
+    #[test]
+    fn the_listing_of_the_paper() {
+        let mut file = vec![0; 148];
+        file[0] = 17;
+        file[4..8].copy_from_slice(b"SCCA");
+        file[12] = 148;
+        file[16] = b'A';
+        file[76] = 65;
+        file[144] = 1;
+        let lines = "version 17\nname A\nhash 00000041\nruns 1\n\
+                     files 0\nchains 0\nvolumes 0\npath none\n";
+        assert_eq!(listing(&file), lines);
+        file[5] = 0;
+        assert_eq!(listing(&file), "refused 2 0\n");
+        assert_eq!(listing(&[0; 49_152]), "too long\n");
+    }
+}
