@@ -1,4 +1,6 @@
-//! compare [--seed N] [--scale N] [group ...]
+//! cargo run --release --offline --bin compare -- [--seed N] [--scale N] [group ...]
+//!
+//! `--features queries` adds the groups of the readers and the questions.
 //!
 //! Runs the named groups, or all of them. The group `listing` runs the program
 //! that HIVESADDLE_PROGRAM names, and is left out of all where none is named.

@@ -390,7 +390,7 @@ pub fn edits(random: &mut Random, sample: &mut Sample) {
 }
 
 fn edit(random: &mut Random, file: &mut [u8]) {
-    const HEAD_FIELDS: [usize; 11] = [0, 4, 12, 84, 88, 92, 96, 100, 104, 108, 116];
+    const HEAD_FIELDS: [usize; 12] = [0, 4, 12, 84, 88, 92, 96, 100, 104, 108, 112, 116];
     match random.below(6) {
         0 => file[random.below(file.len())] ^= 1 << random.below(8),
         1 => file[random.below(file.len())] = 0,
@@ -399,10 +399,21 @@ fn edit(random: &mut Random, file: &mut [u8]) {
             edit_number(random, file, field);
         }
         _ => {
-            let field = 4 * random.below(file.len() / 4);
+            let field = field_of_a_section(random, file);
             edit_number(random, file, field);
         }
     }
+}
+
+/// A number in some section, or anywhere where none lies in the file.
+fn field_of_a_section(random: &mut Random, file: &[u8]) -> usize {
+    if layout(file).is_some() {
+        let section = section(file, random.between(1, 4) as u64);
+        if section.length >= 4 && section.end() <= file.len() as u64 {
+            return section.start as usize + 4 * random.below(section.length as usize / 4);
+        }
+    }
+    random.below(file.len() - 3)
 }
 
 /// To an edge number, a neighbour of what it was, or another field's number.

@@ -20,17 +20,17 @@ pub fn listing(input: &[u8]) -> String {
 }
 
 fn lines(file: &[u8], record: &Record) -> String {
-    let name: String = shown_name(file);
-    let path = shown_path(find_path(file));
-    format!(
-        "version {}\nname {name}\nhash {:08X}\nruns {}\nfiles {}\nchains {}\nvolumes {}\npath {path}\n",
-        record.version,
-        record.stored_hash,
-        record.run_count,
-        record.metrics_count,
-        record.chain_count,
-        record.volume_count,
-    )
+    [
+        format!("version {}\n", record.version),
+        format!("name {}\n", shown_name(file)),
+        format!("hash {:08X}\n", record.stored_hash),
+        format!("runs {}\n", record.run_count),
+        format!("files {}\n", record.metrics_count),
+        format!("chains {}\n", record.chain_count),
+        format!("volumes {}\n", record.volume_count),
+        format!("path {}\n", shown_path(find_path(file))),
+    ]
+    .concat()
 }
 
 fn shown_name(file: &[u8]) -> String {
