@@ -1,0 +1,69 @@
+//! The catalogue line: 24 digits and a line feed.
+
+use crate::{raw, Refusal};
+
+/// Bytes of a catalogue line, its line feed included.
+pub const CATALOGUE_LINE_LENGTH: usize = 25;
+
+/// What a catalogue line says of one file.
+#[derive(Clone, Copy, Debug, PartialEq, Eq)]
+pub struct CatalogueFields {
+    pub size: u32,
+    pub stored_hash: u32,
+    pub run_count: u32,
+    pub version: u32,
+}
+
+/// Reads one line, its line feed included. Anything else gives refusal 18.
+///
+/// ```
+/// let fields = hivesaddle::catalogue_read(b"000094000000410000000111\n").unwrap();
+/// assert_eq!(fields.size, 148);
+/// assert_eq!(fields.stored_hash, 65);
+/// assert_eq!(fields.run_count, 1);
+/// assert_eq!(fields.version, 17);
+/// assert_eq!(hivesaddle::catalogue_read(b"no line").unwrap_err().number, 18);
+/// ```
+pub fn catalogue_read(line: &[u8]) -> Result<CatalogueFields, Refusal> {
+    let mut out = [0; 4];
+    let number =
+        unsafe { raw::hs_catalogue_read(line.as_ptr(), line.len(), out.as_mut_ptr(), out.len()) };
+    if number != 0 {
+        return Err(Refusal { number, index: 0 });
+    }
+    // Each field is a number of at most 32 bits.
+    Ok(CatalogueFields {
+        size: out[0] as u32,
+        stored_hash: out[1] as u32,
+        run_count: out[2] as u32,
+        version: out[3] as u32,
+    })
+}
+
+/// Writes the line into the first 25 bytes of the place. Fields that can't
+/// form a line and a shorter place give refusal 19, and nothing is written.
+///
+/// ```
+/// use hivesaddle::{catalogue_write, CatalogueFields};
+/// let fields = CatalogueFields { size: 148, stored_hash: 65, run_count: 1, version: 17 };
+/// let mut place = [b'.'; 26];
+/// catalogue_write(fields, &mut place).unwrap();
+/// assert_eq!(&place, b"000094000000410000000111\n.");
+/// assert_eq!(catalogue_write(fields, &mut place[..24]).unwrap_err().number, 19);
+/// ```
+pub fn catalogue_write(fields: CatalogueFields, place: &mut [u8]) -> Result<(), Refusal> {
+    let number = unsafe {
+        raw::hs_catalogue_write(
+            fields.size,
+            fields.stored_hash,
+            fields.run_count,
+            fields.version,
+            place.as_mut_ptr(),
+            place.len(),
+        )
+    };
+    match number {
+        0 => Ok(()),
+        number => Err(Refusal { number, index: 0 }),
+    }
+}

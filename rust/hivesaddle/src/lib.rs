@@ -1,0 +1,39 @@
+//! Safe calls into the proved reader of Windows Prefetch (SCCA) files.
+//!
+//! Every function takes any bytes, any index and any buffer length and comes
+//! to an end. Nothing is allocated.
+//!
+//! Numbers in a file are little-endian. A text is UTF-16 units kept as they
+//! stand, and is handed over as bytes, low byte first.
+
+mod catalogue;
+mod hashes;
+#[cfg(feature = "queries")]
+mod queries;
+pub mod raw;
+#[cfg(feature = "readers")]
+mod readers;
+
+pub use catalogue::{catalogue_read, catalogue_write, CatalogueFields, CATALOGUE_LINE_LENGTH};
+pub use hashes::{
+    hash_2008, hash_2008_units, hash_vista, hash_vista_units, hash_xp, hash_xp_units,
+};
+#[cfg(feature = "queries")]
+pub use queries::{
+    entry_name, find_path, program_name, reference, volume, FoundPath, Reference, Report, Volume,
+};
+#[cfg(feature = "readers")]
+pub use readers::{read_file, read_prefix, Record, Verdict};
+
+/// What a working place holds where no entry is named, and everywhere after
+/// an answer that is no acceptance.
+pub const NONE: u32 = u32::MAX;
+
+/// A numbered refusal and the place it speaks of.
+#[derive(Clone, Copy, Debug, PartialEq, Eq)]
+pub struct Refusal {
+    /// The number of the check that was not passed.
+    pub number: u32,
+    /// The section, entry or volume at fault; 0 where there is none to name.
+    pub index: u64,
+}

@@ -1,0 +1,183 @@
+//! Questions about one entry, and the path search. All of them work on a
+//! prefix of a file too, and hand back parts of the bytes they were lent.
+
+use crate::raw;
+
+/// A volume that can be shown.
+#[derive(Clone, Copy, Debug, PartialEq, Eq)]
+pub struct Volume<'a> {
+    /// Creation time, a FILETIME as it stands.
+    pub creation_time: u64,
+    pub serial_number: u32,
+    pub references: u32,
+    pub directories: u32,
+    /// The path's bytes, without a zero unit.
+    pub path: &'a [u8],
+}
+
+/// An NTFS file reference.
+#[derive(Clone, Copy, Debug, PartialEq, Eq)]
+pub struct Reference {
+    /// 48 bits.
+    pub entry_index: u64,
+    pub sequence_number: u16,
+}
+
+/// Which of its two hashes a version 23 file was matched by.
+#[derive(Clone, Copy, Debug, PartialEq, Eq)]
+pub enum Report {
+    /// Versions 17 and 26 have one hash each, so there is nothing to report.
+    NoneToMake,
+    VistaOnly,
+    Only2008,
+    Both,
+}
+
+/// The metrics entry whose name has the stored hash.
+#[derive(Clone, Copy, Debug, PartialEq, Eq)]
+pub struct FoundPath {
+    pub entry: u64,
+    pub report: Report,
+}
+
+/// The bytes of the program name before its first zero unit.
+///
+/// ```
+/// let mut file = [0; 148];
+/// file[0] = 17;
+/// file[4..8].copy_from_slice(b"SCCA");
+/// file[12] = 148;
+/// file[16] = b'A';
+/// assert_eq!(hivesaddle::program_name(&file), Some(&b"A\0"[..]));
+/// assert_eq!(hivesaddle::program_name(&file[..75]), None);
+/// ```
+pub fn program_name(file: &[u8]) -> Option<&[u8]> {
+    let mut out = [0; 2];
+    let answer =
+        unsafe { raw::hs_program_name(file.as_ptr(), file.len(), out.as_mut_ptr(), out.len()) };
+    yes(answer).then(|| part(file, out[0], out[1]))
+}
+
+/// The bytes of metrics entry i's name, without its zero unit.
+///
+/// ```
+/// // Version 17: one metrics entry at 148, and the strings "A" at 168.
+/// let mut file = [0; 172];
+/// file[0] = 17;
+/// file[4..8].copy_from_slice(b"SCCA");
+/// file[12] = 172;
+/// (file[84], file[88]) = (148, 1);
+/// (file[100], file[104]) = (168, 4);
+/// file[148 + 12] = 1;
+/// file[168] = b'A';
+/// assert_eq!(hivesaddle::entry_name(&file, 0), Some(&b"A\0"[..]));
+/// assert_eq!(hivesaddle::entry_name(&file, 1), None);
+/// assert_eq!(hivesaddle::entry_name(&file[..171], 0), None);
+/// ```
+pub fn entry_name(file: &[u8], i: u64) -> Option<&[u8]> {
+    let mut out = [0; 2];
+    let answer =
+        unsafe { raw::hs_entry_name(file.as_ptr(), file.len(), i, out.as_mut_ptr(), out.len()) };
+    yes(answer).then(|| part(file, out[0], out[1]))
+}
+
+/// Volume i.
+///
+/// ```
+/// // Version 17: one volume at 148 with serial number 7 and the path "C".
+/// let mut file = [0; 190];
+/// file[0] = 17;
+/// file[4..8].copy_from_slice(b"SCCA");
+/// file[12] = 190;
+/// (file[108], file[112], file[116]) = (148, 1, 42);
+/// (file[148], file[152]) = (40, 1);
+/// file[148 + 16] = 7;
+/// file[188] = b'C';
+/// let volume = hivesaddle::volume(&file, 0).unwrap();
+/// assert_eq!((volume.serial_number, volume.path), (7, &b"C\0"[..]));
+/// assert_eq!((volume.references, volume.directories), (0, 0));
+/// assert_eq!(hivesaddle::volume(&file, 1), None);
+/// ```
+pub fn volume(file: &[u8], i: u64) -> Option<Volume<'_>> {
+    let mut out = [0; 6];
+    let answer =
+        unsafe { raw::hs_volume(file.as_ptr(), file.len(), i, out.as_mut_ptr(), out.len()) };
+    yes(answer).then(|| Volume {
+        creation_time: out[0],
+        serial_number: out[1] as u32,
+        references: out[2] as u32,
+        directories: out[3] as u32,
+        path: part(file, out[4], out[5]),
+    })
+}
+
+/// File reference k of volume i.
+///
+/// ```
+/// // Version 17: one volume at 148 with a single file reference.
+/// let mut file = [0; 204];
+/// file[0] = 17;
+/// file[4..8].copy_from_slice(b"SCCA");
+/// file[12] = 204;
+/// (file[108], file[112], file[116]) = (148, 1, 56);
+/// (file[148 + 20], file[148 + 24]) = (40, 16);
+/// file[192] = 1;
+/// file[196..204].copy_from_slice(&[1, 2, 0, 0, 0, 0, 3, 0]);
+/// let reference = hivesaddle::reference(&file, 0, 0).unwrap();
+/// assert_eq!((reference.entry_index, reference.sequence_number), (0x0201, 3));
+/// assert_eq!(hivesaddle::reference(&file, 0, 1), None);
+/// ```
+pub fn reference(file: &[u8], i: u64, k: u64) -> Option<Reference> {
+    let mut out = [0; 2];
+    let answer =
+        unsafe { raw::hs_reference(file.as_ptr(), file.len(), i, k, out.as_mut_ptr(), out.len()) };
+    yes(answer).then(|| Reference { entry_index: out[0], sequence_number: out[1] as u16 })
+}
+
+/// The first metrics entry, among those that can be shown, whose name has the
+/// stored hash.
+///
+/// ```
+/// // Version 17, one name "A" after the head, and the XP hash of "A".
+/// let mut file = [0; 172];
+/// file[0] = 17;
+/// file[4..8].copy_from_slice(b"SCCA");
+/// file[12] = 172;
+/// file[76..80].copy_from_slice(&54483988u32.to_le_bytes());
+/// (file[84], file[88]) = (148, 1);
+/// (file[100], file[104]) = (168, 4);
+/// file[148 + 12] = 1;
+/// file[168] = b'A';
+/// let found = hivesaddle::find_path(&file).unwrap();
+/// assert_eq!((found.entry, found.report), (0, hivesaddle::Report::NoneToMake));
+/// file[168] = b'B';
+/// assert_eq!(hivesaddle::find_path(&file), None);
+/// ```
+pub fn find_path(file: &[u8]) -> Option<FoundPath> {
+    let mut out = [0; 2];
+    let answer =
+        unsafe { raw::hs_find_path(file.as_ptr(), file.len(), out.as_mut_ptr(), out.len()) };
+    yes(answer).then(|| FoundPath { entry: out[0], report: report(out[1]) })
+}
+
+fn yes(answer: u32) -> bool {
+    match answer {
+        0 => false,
+        1 => true,
+        other => unreachable!("no such answer: {other}"),
+    }
+}
+
+fn report(number: u64) -> Report {
+    match number {
+        0 => Report::NoneToMake,
+        1 => Report::VistaOnly,
+        2 => Report::Only2008,
+        3 => Report::Both,
+        other => unreachable!("no such report: {other}"),
+    }
+}
+
+fn part(file: &[u8], offset: u64, length: u64) -> &[u8] {
+    &file[offset as usize..][..length as usize]
+}

@@ -1,0 +1,128 @@
+//! The part reader, which looks at a prefix, and the whole reader.
+
+use crate::{raw, Refusal};
+
+/// What an accepted file says of itself.
+#[derive(Clone, Copy, Debug, PartialEq, Eq)]
+pub struct Record {
+    pub version: u32,
+    pub declared_size: u32,
+    /// Units of the program name before its first zero unit.
+    pub name_units: u32,
+    pub stored_hash: u32,
+    /// Latest run time, a FILETIME as it stands.
+    pub run_time: u64,
+    pub run_count: u32,
+    pub metrics_count: u32,
+    pub trace_count: u32,
+    pub volume_count: u32,
+    /// Trace entries that no entry names as next.
+    pub chain_count: u32,
+}
+
+/// The part reader's answer on a prefix.
+#[derive(Clone, Copy, Debug, PartialEq, Eq)]
+pub enum Verdict {
+    Accepted(Record),
+    Refused(Refusal),
+    /// The prefix has to have this many bytes before more can be said.
+    Wanted(u64),
+}
+
+/// Numbers in `out`.
+const OUT_LENGTH: usize = 13;
+
+/// Looks at the first bytes of a file. What it accepts or refuses stands,
+/// whatever bytes follow.
+///
+/// `predecessors` needs one place for each trace entry. After an acceptance
+/// place j holds the entry that names j as next, and [`crate::NONE`] where
+/// none does; after anything else every place holds [`crate::NONE`].
+///
+/// ```
+/// use hivesaddle::{read_prefix, Verdict};
+/// let mut places = [0; 4];
+/// assert_eq!(read_prefix(b"", &mut places), Verdict::Wanted(4));
+/// assert_eq!(places, [hivesaddle::NONE; 4]);
+/// assert_eq!(read_prefix(b"\x11\0\0\0SCCA", &mut places), Verdict::Wanted(16));
+/// match read_prefix(b"\x18\0\0\0", &mut places) {
+///     Verdict::Refused(refusal) => assert_eq!((refusal.number, refusal.index), (1, 0)),
+///     other => panic!("{other:?}"),
+/// }
+/// ```
+pub fn read_prefix(prefix: &[u8], predecessors: &mut [u32]) -> Verdict {
+    let mut out = [0; OUT_LENGTH];
+    let answer = unsafe {
+        raw::hs_read_prefix(
+            prefix.as_ptr(),
+            prefix.len(),
+            predecessors.as_mut_ptr(),
+            predecessors.len(),
+            out.as_mut_ptr(),
+            out.len(),
+        )
+    };
+    verdict(answer, &out)
+}
+
+/// Looks at a complete file. `predecessors` is as for [`read_prefix`].
+///
+/// ```
+/// let mut file = [0; 148];
+/// file[0] = 17;
+/// file[4..8].copy_from_slice(b"SCCA");
+/// file[12] = 148;
+/// file[16] = b'A';
+/// file[76] = 65;
+/// file[144] = 1;
+/// let record = hivesaddle::read_file(&file, &mut []).unwrap();
+/// assert_eq!((record.version, record.name_units), (17, 1));
+/// assert_eq!((record.stored_hash, record.run_count), (65, 1));
+/// assert_eq!(record.chain_count, 0);
+///
+/// // A file that has not come to its end is refused with 16.
+/// assert_eq!(hivesaddle::read_file(&file[..147], &mut []).unwrap_err().number, 16);
+/// ```
+pub fn read_file(file: &[u8], predecessors: &mut [u32]) -> Result<Record, Refusal> {
+    let mut out = [0; OUT_LENGTH];
+    let answer = unsafe {
+        raw::hs_read_file(
+            file.as_ptr(),
+            file.len(),
+            predecessors.as_mut_ptr(),
+            predecessors.len(),
+            out.as_mut_ptr(),
+            out.len(),
+        )
+    };
+    match verdict(answer, &out) {
+        Verdict::Accepted(record) => Ok(record),
+        Verdict::Refused(refusal) => Err(refusal),
+        Verdict::Wanted(bytes) => unreachable!("the whole reader asked for {bytes} bytes"),
+    }
+}
+
+fn verdict(answer: u32, out: &[u64; OUT_LENGTH]) -> Verdict {
+    match answer {
+        0 => Verdict::Accepted(record(out)),
+        1 => Verdict::Refused(Refusal { number: out[0] as u32, index: out[1] }),
+        2 => Verdict::Wanted(out[2]),
+        other => unreachable!("no such answer: {other}"),
+    }
+}
+
+/// Each field but the run time is a number of at most 32 bits.
+fn record(out: &[u64; OUT_LENGTH]) -> Record {
+    Record {
+        version: out[3] as u32,
+        declared_size: out[4] as u32,
+        name_units: out[5] as u32,
+        stored_hash: out[6] as u32,
+        run_time: out[7],
+        run_count: out[8] as u32,
+        metrics_count: out[9] as u32,
+        trace_count: out[10] as u32,
+        volume_count: out[11] as u32,
+        chain_count: out[12] as u32,
+    }
+}

@@ -1,0 +1,201 @@
+//! Seeded files: sound ones of every version, and aimed damage to them.
+
+pub mod cuts;
+pub mod damage;
+mod strings;
+mod volumes;
+
+use crate::random::Random;
+use crate::reference::hashes;
+use crate::reference::layout::{Layout, END, LAYOUTS, TRACE_ENTRY};
+use strings::Strings;
+
+/// A file, and the working places lent with it.
+#[derive(Clone, Debug)]
+pub struct Sample {
+    pub bytes: Vec<u8>,
+    pub places: usize,
+}
+
+/// How many of each the file has.
+#[derive(Clone, Copy)]
+pub struct Counts {
+    pub metrics: usize,
+    pub trace: usize,
+    pub volumes: usize,
+}
+
+/// Any small file: sections may be empty.
+pub fn any(random: &mut Random) -> Sample {
+    let counts =
+        Counts { metrics: few(random, 6), trace: few(random, 12), volumes: few(random, 3) };
+    sound(random, counts)
+}
+
+/// A small file in which every check has something to find.
+pub fn rich(random: &mut Random) -> Sample {
+    let counts = Counts {
+        metrics: random.between(2, 6),
+        trace: random.between(4, 12),
+        volumes: random.between(2, 3),
+    };
+    sound(random, counts)
+}
+
+/// None at all in one of four cases.
+fn few(random: &mut Random, most: usize) -> usize {
+    if random.one_in(4) {
+        0
+    } else {
+        random.between(1, most)
+    }
+}
+
+/// A file that every check passes, with as many working places as entries.
+pub fn sound(random: &mut Random, counts: Counts) -> Sample {
+    let layout = random.pick(&LAYOUTS);
+    sound_of(random, layout, counts)
+}
+
+pub fn sound_of(random: &mut Random, layout: &Layout, counts: Counts) -> Sample {
+    let strings = strings::section(random, counts.metrics);
+    let links = links(random, counts.trace);
+    let contents = Contents {
+        metrics: metrics_section(random, layout, &strings),
+        trace: trace_section(random, &links),
+        volumes: volumes::section(random, layout, counts.volumes),
+        volume_count: counts.volumes as u32,
+        stored_hash: stored_hash(random, layout, &strings),
+        strings: strings.bytes,
+    };
+    Sample { bytes: lay_out(random, layout, &contents), places: counts.trace }
+}
+
+/// The bytes of the four sections, and what the head says besides them.
+pub struct Contents {
+    pub metrics: Vec<u8>,
+    pub trace: Vec<u8>,
+    pub strings: Vec<u8>,
+    pub volumes: Vec<u8>,
+    pub volume_count: u32,
+    pub stored_hash: u32,
+}
+
+fn metrics_section(random: &mut Random, layout: &Layout, strings: &Strings) -> Vec<u8> {
+    let mut section = Vec::new();
+    for name in &strings.names {
+        let mut entry = random.bytes(layout.metrics_entry as usize);
+        set_32(&mut entry, layout.name_offset, name.offset);
+        set_32(&mut entry, layout.name_length, name.units);
+        section.extend(entry);
+    }
+    section
+}
+
+/// Chains over all entries in a random order, or every entry its own chain.
+pub fn links(random: &mut Random, count: usize) -> Vec<u32> {
+    let mut order: Vec<u32> = (0..count as u32).collect();
+    random.shuffle(&mut order);
+    let mut links = vec![END; count];
+    let cut = *random.pick(&[1, 2, 3, 8, 1_000]);
+    for pair in order.windows(2) {
+        if !random.one_in(cut) {
+            links[pair[0] as usize] = pair[1];
+        }
+    }
+    links
+}
+
+pub fn trace_section(random: &mut Random, links: &[u32]) -> Vec<u8> {
+    let mut section = Vec::new();
+    for link in links {
+        section.extend(link.to_le_bytes());
+        section.extend(random.bytes(TRACE_ENTRY as usize - 4));
+    }
+    section
+}
+
+/// Half the time the hash of one of the names.
+fn stored_hash(random: &mut Random, layout: &Layout, strings: &Strings) -> u32 {
+    if strings.names.is_empty() || random.one_in(2) {
+        return random.u32();
+    }
+    let name = random.pick(&strings.names);
+    let text = &strings.bytes[name.offset as usize..][..2 * name.units as usize];
+    let numbers = hashes::units(text);
+    match layout.version {
+        17 => hashes::xp(&numbers),
+        23 => hashes::vista(&numbers),
+        _ => hashes::of_2008(&numbers),
+    }
+}
+
+/// Head and sections, in a random order and with gaps. What isn't read is
+/// noise.
+pub fn lay_out(random: &mut Random, layout: &Layout, contents: &Contents) -> Vec<u8> {
+    let mut file = random.bytes(layout.head_end as usize);
+    set_32(&mut file, 0, layout.version);
+    file[4..8].copy_from_slice(b"SCCA");
+    set_program_name(random, &mut file);
+    set_32(&mut file, 76, contents.stored_hash);
+    place_sections(random, &mut file, contents);
+    set_32(&mut file, 88, (contents.metrics.len() as u64 / layout.metrics_entry) as u32);
+    set_32(&mut file, 96, (contents.trace.len() as u64 / TRACE_ENTRY) as u32);
+    set_32(&mut file, 104, contents.strings.len() as u32);
+    set_32(&mut file, 112, contents.volume_count);
+    set_32(&mut file, 116, contents.volumes.len() as u32);
+    gap(random, &mut file);
+    let size = file.len() as u32;
+    set_32(&mut file, 12, size);
+    file
+}
+
+fn place_sections(random: &mut Random, file: &mut Vec<u8>, contents: &Contents) {
+    let mut sections = [
+        (84, &contents.metrics),
+        (92, &contents.trace),
+        (100, &contents.strings),
+        (108, &contents.volumes),
+    ];
+    random.shuffle(&mut sections);
+    for (field, section) in sections {
+        gap(random, file);
+        let offset = match section.is_empty() {
+            true => ignored_offset(random),
+            false => file.len() as u32,
+        };
+        set_32(file, field, offset);
+        file.extend(section);
+    }
+}
+
+/// An offset that nothing looks at.
+fn ignored_offset(random: &mut Random) -> u32 {
+    let noise = random.u32();
+    *random.pick(&[0, 1, 148, 0x7FFF_FFFF, 0x8000_0000, u32::MAX, noise])
+}
+
+fn gap(random: &mut Random, bytes: &mut Vec<u8>) {
+    if random.one_in(2) {
+        let length = random.between(1, 9);
+        bytes.extend(random.bytes(length));
+    }
+}
+
+/// Up to 29 units, a zero unit, and noise behind it.
+fn set_program_name(random: &mut Random, file: &mut [u8]) {
+    let units = *random.pick(&[0, 1, 2, 5, 12, 28, 29]);
+    for place in 0..units {
+        let unit = strings::unit(random);
+        set_16(file, 16 + 2 * place, unit);
+    }
+    set_16(file, 16 + 2 * units, 0);
+}
+
+pub fn set_16(bytes: &mut [u8], at: usize, number: u16) {
+    bytes[at..at + 2].copy_from_slice(&number.to_le_bytes());
+}
+
+pub fn set_32(bytes: &mut [u8], at: usize, number: u32) {
+    bytes[at..at + 4].copy_from_slice(&number.to_le_bytes());
+}

@@ -1,0 +1,47 @@
+//! The groups of comparisons, by name.
+
+use crate::random::Random;
+use crate::tally::Tally;
+
+mod catalogue;
+mod hashes;
+pub mod listing;
+#[cfg(feature = "readers")]
+mod prefixes;
+#[cfg(feature = "queries")]
+mod queries;
+#[cfg(feature = "queries")]
+mod query_points;
+#[cfg(feature = "readers")]
+mod reader_points;
+#[cfg(feature = "readers")]
+mod readers;
+
+/// What a run is asked for.
+pub struct Run {
+    pub seed: u64,
+    /// Multiplies the number of random inputs.
+    pub scale: usize,
+}
+
+impl Run {
+    /// Each group has its own sequence, so that it can be repeated alone.
+    pub fn random(&self, group: &str) -> Random {
+        let mark = group.bytes().fold(0u64, |mark, byte| mark * 31 + byte as u64);
+        Random::new(self.seed ^ mark)
+    }
+}
+
+pub type Group = (&'static str, fn(&Run, &mut Tally));
+
+pub const GROUPS: &[Group] = &[
+    ("hashes", hashes::run),
+    ("catalogue", catalogue::run),
+    #[cfg(feature = "readers")]
+    ("readers", readers::run),
+    #[cfg(feature = "readers")]
+    ("prefixes", prefixes::run),
+    #[cfg(feature = "queries")]
+    ("queries", queries::run),
+    ("listing", listing::run),
+];

@@ -1,0 +1,319 @@
+//! Questions about one entry and the path search beside the reference.
+
+use super::Run;
+use crate::generate::cuts::{cuts, question_cuts};
+use crate::generate::damage::{damage, edits};
+use crate::generate::{any, rich, Sample};
+use crate::lent::lent_u64;
+use crate::random::Random;
+use crate::reference::head::{metrics_count, volume_count};
+use crate::reference::questions as reference;
+use crate::reference::questions::Part;
+use crate::reference::search::{find_path, Found, Report};
+use crate::tally::{hex, Tally};
+use hivesaddle::raw;
+
+pub fn run(run: &Run, tally: &mut Tally) {
+    let mut queries = Queries { random: run.random("queries"), tally, seen: Seen::default() };
+    super::query_points::run(queries.tally);
+    queries.sound_files(1_500 * run.scale);
+    queries.damaged_files(3_000 * run.scale);
+    queries.edited_files(10_000 * run.scale);
+    queries.seen.report(queries.tally);
+}
+
+struct Queries<'a> {
+    random: Random,
+    tally: &'a mut Tally,
+    seen: Seen,
+}
+
+impl Queries<'_> {
+    fn sound_files(&mut self, rounds: usize) {
+        for _ in 0..rounds {
+            let sample = any(&mut self.random);
+            let mut lengths = cuts(&sample);
+            lengths.extend(question_cuts(&sample));
+            for length in lengths {
+                self.prefix(&sample, length);
+            }
+            self.safe_calls(&sample);
+        }
+    }
+
+    /// One fault or two, among them those that a question does not mind.
+    fn damaged_files(&mut self, rounds: usize) {
+        for _ in 0..rounds {
+            let mut sample = rich(&mut self.random);
+            let mut numbers = [self.random.between(1, 15), self.random.between(5, 15)];
+            numbers.sort();
+            for &number in numbers[self.random.below(2)..].iter().rev() {
+                damage(&mut self.random, &mut sample, number as u64);
+            }
+            self.prefix(&sample, sample.bytes.len());
+            for _ in 0..3 {
+                let length = *self.random.pick(&cuts(&sample));
+                self.prefix(&sample, length);
+            }
+            self.safe_calls(&sample);
+        }
+    }
+
+    fn edited_files(&mut self, rounds: usize) {
+        for _ in 0..rounds {
+            let mut sample = any(&mut self.random);
+            edits(&mut self.random, &mut sample);
+            self.prefix(&sample, sample.bytes.len());
+        }
+    }
+
+    /// All questions on the first bytes of the sample.
+    fn prefix(&mut self, sample: &Sample, length: usize) {
+        let file = &sample.bytes[..length];
+        self.program_name(file);
+        for i in indexes(count(file, metrics_count)) {
+            self.entry_name(file, i);
+        }
+        for i in indexes(count(file, volume_count)) {
+            self.volume(file, i);
+        }
+        self.find_path(file);
+    }
+
+    fn program_name(&mut self, file: &[u8]) {
+        let name = reference::program_name(file);
+        self.seen.program_name.answer(name.is_some());
+        self.ask("program name", file, "", name.map(part_numbers), |out| unsafe {
+            raw::hs_program_name(file.as_ptr(), file.len(), out.as_mut_ptr(), out.len())
+        });
+    }
+
+    fn entry_name(&mut self, file: &[u8], i: u64) {
+        let name = reference::entry_name(file, i);
+        self.seen.entry_name.answer(name.is_some());
+        self.ask("entry name", file, &format!("{i}"), name.map(part_numbers), |out| unsafe {
+            raw::hs_entry_name(file.as_ptr(), file.len(), i, out.as_mut_ptr(), out.len())
+        });
+    }
+
+    fn volume(&mut self, file: &[u8], i: u64) {
+        let volume = reference::volume(file, i);
+        self.seen.volume.answer(volume.is_some());
+        let numbers = volume.map(|volume| placed(file, i, volume)).map(volume_numbers);
+        self.ask("volume", file, &format!("{i}"), numbers, |out| unsafe {
+            raw::hs_volume(file.as_ptr(), file.len(), i, out.as_mut_ptr(), out.len())
+        });
+        match volume {
+            Some(volume) => {
+                for k in indexes(volume.references) {
+                    self.reference(file, i, k);
+                }
+            }
+            None => self.reference(file, i, 0),
+        }
+    }
+
+    fn reference(&mut self, file: &[u8], i: u64, k: u64) {
+        let reference = reference::reference(file, i, k);
+        self.seen.reference.answer(reference.is_some());
+        let numbers = reference.map(|reference| [reference.entry_index, reference.sequence_number]);
+        self.ask("reference", file, &format!("{i}, {k}"), numbers, |out| unsafe {
+            raw::hs_reference(file.as_ptr(), file.len(), i, k, out.as_mut_ptr(), out.len())
+        });
+    }
+
+    fn find_path(&mut self, file: &[u8]) {
+        let found = find_path(file);
+        self.seen.path.answer(found.is_some());
+        self.ask("path search", file, "", found.map(found_numbers), |out| unsafe {
+            raw::hs_find_path(file.as_ptr(), file.len(), out.as_mut_ptr(), out.len())
+        });
+    }
+
+    /// One question: 1 and the numbers, or 0 and as many zeros.
+    fn ask<const N: usize>(
+        &mut self,
+        what: &str,
+        file: &[u8],
+        which: &str,
+        numbers: Option<[u64; N]>,
+        call: impl FnOnce(&mut [u64]) -> u32,
+    ) {
+        let out_length = match self.random.one_in(8) {
+            true => self.random.below(N + 4),
+            false => N,
+        };
+        let mut out = lent_u64(&mut self.random, out_length);
+        let expected = out.after_writing(&numbers.unwrap_or([0; N]));
+        let code = call(out.place());
+        let given = (code, out.whole());
+        let input = || format!("{which} of {}", hex(file));
+        self.tally.same(what, &(u32::from(numbers.is_some()), &expected[..]), &given, input);
+    }
+
+    /// The safe calls hand back the very bytes of the file.
+    fn safe_calls(&mut self, sample: &Sample) {
+        let file = &sample.bytes[..];
+        let input = || hex(file);
+        let place = |part: &[u8]| part_numbers(place_of(file, part));
+        let name = hivesaddle::program_name(file).map(place);
+        self.tally.same(
+            "program_name",
+            &reference::program_name(file).map(part_numbers),
+            &name,
+            input,
+        );
+        for i in 0..count(file, metrics_count).min(8) {
+            let name = hivesaddle::entry_name(file, i).map(place);
+            let expected = reference::entry_name(file, i).map(part_numbers);
+            self.tally.same("entry_name", &expected, &name, input);
+        }
+        for i in 0..count(file, volume_count).min(4) {
+            self.safe_volume(file, i);
+        }
+        let found = hivesaddle::find_path(file);
+        let found = found.map(|found| [found.entry, report_number(found.report)]);
+        self.tally.same("find_path", &find_path(file).map(found_numbers), &found, input);
+    }
+
+    fn safe_volume(&mut self, file: &[u8], i: u64) {
+        let input = || format!("{i} of {}", hex(file));
+        let expected = reference::volume(file, i).map(|volume| placed(file, i, volume));
+        let given = hivesaddle::volume(file, i).map(|volume| {
+            let path = place_of(file, volume.path);
+            [
+                volume.creation_time,
+                volume.serial_number as u64,
+                volume.references as u64,
+                volume.directories as u64,
+                path.offset,
+                path.length,
+            ]
+        });
+        self.tally.same("volume", &expected.map(volume_numbers), &given, input);
+        for k in 0..expected.map_or(0, |volume| volume.references) {
+            let expected = reference::reference(file, i, k)
+                .map(|reference| (reference.entry_index, reference.sequence_number));
+            let given = hivesaddle::reference(file, i, k)
+                .map(|reference| (reference.entry_index, reference.sequence_number as u64));
+            self.tally.same("reference", &expected, &given, input);
+        }
+    }
+}
+
+/// A count from the head, where the bytes have got that far.
+fn count(file: &[u8], field: fn(&[u8]) -> u64) -> u64 {
+    if file.len() < 120 {
+        return 1;
+    }
+    field(file)
+}
+
+/// The first few, those around the count, and some that would come back to
+/// the first ones in 32 bits or in a product of 64.
+fn indexes(count: u64) -> Vec<u64> {
+    let mut list: Vec<u64> = (0..count.min(6)).collect();
+    list.extend([count.saturating_sub(1), count, count + 1, 1 << 32, u64::MAX]);
+    list.extend([20, 32, 40, 104, 8].map(|entry| u64::MAX / entry + 1));
+    list
+}
+
+fn part_numbers(part: Part) -> [u64; 2] {
+    [part.offset, part.length]
+}
+
+fn volume_numbers(volume: reference::Volume) -> [u64; 6] {
+    [
+        volume.creation_time,
+        volume.serial_number,
+        volume.references,
+        volume.directories,
+        volume.path.offset,
+        volume.path.length,
+    ]
+}
+
+/// The papers leave open where an empty path of no units stands: any place in
+/// the file will do.
+fn placed(file: &[u8], i: u64, mut volume: reference::Volume) -> reference::Volume {
+    if volume.path_has_a_place {
+        return volume;
+    }
+    let mut out = [0; 6];
+    unsafe { raw::hs_volume(file.as_ptr(), file.len(), i, out.as_mut_ptr(), out.len()) };
+    if out[4] <= file.len() as u64 {
+        volume.path.offset = out[4];
+    }
+    volume
+}
+
+fn place_of(file: &[u8], part: &[u8]) -> Part {
+    let offset = (part.as_ptr() as usize).wrapping_sub(file.as_ptr() as usize);
+    Part { offset: offset as u64, length: part.len() as u64 }
+}
+
+fn found_numbers(found: Found) -> [u64; 2] {
+    let report = match found.report {
+        Report::NoneToMake => 0,
+        Report::VistaOnly => 1,
+        Report::Only2008 => 2,
+        Report::Both => 3,
+    };
+    [found.entry, report]
+}
+
+fn report_number(report: hivesaddle::Report) -> u64 {
+    match report {
+        hivesaddle::Report::NoneToMake => 0,
+        hivesaddle::Report::VistaOnly => 1,
+        hivesaddle::Report::Only2008 => 2,
+        hivesaddle::Report::Both => 3,
+    }
+}
+
+#[derive(Default)]
+struct Count {
+    yes: u64,
+    no: u64,
+}
+
+impl Count {
+    fn answer(&mut self, yes: bool) {
+        if yes {
+            self.yes += 1;
+        } else {
+            self.no += 1;
+        }
+    }
+}
+
+/// How often each question had a yes and a no for its answer.
+#[derive(Default)]
+struct Seen {
+    program_name: Count,
+    entry_name: Count,
+    volume: Count,
+    reference: Count,
+    path: Count,
+}
+
+impl Seen {
+    fn report(&self, tally: &mut Tally) {
+        let counts = [
+            ("program name", &self.program_name),
+            ("entry name", &self.entry_name),
+            ("volume", &self.volume),
+            ("reference", &self.reference),
+            ("path", &self.path),
+        ];
+        let shown: Vec<String> = counts
+            .iter()
+            .map(|(name, count)| format!("{name} {}/{}", count.yes, count.no))
+            .collect();
+        println!("queries: yes/no by question: {}", shown.join(", "));
+        for (name, count) in counts {
+            let both = count.yes > 1_000 && count.no > 1_000;
+            tally.named(&format!("{name}: both answers have come up"), &true, &both);
+        }
+    }
+}

@@ -1,0 +1,215 @@
+//! Questions on small files put together by hand, with answers by hand.
+
+use crate::generate::{set_16, set_32};
+use crate::tally::Tally;
+use hivesaddle::raw;
+use hivesaddle::{entry_name, find_path, program_name, reference, volume, FoundPath, Report};
+use std::ptr::{null, null_mut};
+
+pub fn run(tally: &mut Tally) {
+    program_names(tally);
+    entry_names(tally);
+    paths(tally);
+    path_on_a_prefix(tally);
+    checks_that_play_no_part(tally);
+    volumes(tally);
+    null_pointers(tally);
+}
+
+/// H, the metrics entry's size, and where the name's offset stands in it; its
+/// length follows.
+fn numbers_of(version: u32) -> (usize, usize, usize) {
+    match version {
+        17 => (148, 20, 8),
+        23 => (156, 32, 12),
+        _ => (212, 32, 12),
+    }
+}
+
+/// Metrics entries right after the head and strings right after them.
+fn with_names(version: u32, names: &[(u32, u32)], strings: &[u8]) -> Vec<u8> {
+    let (head_end, entry, name) = numbers_of(version);
+    let strings_start = head_end + entry * names.len();
+    let mut file = vec![0; strings_start + strings.len()];
+    let size = file.len() as u32;
+    set_32(&mut file, 0, version);
+    file[4..8].copy_from_slice(b"SCCA");
+    set_32(&mut file, 12, size);
+    set_32(&mut file, 84, head_end as u32);
+    set_32(&mut file, 88, names.len() as u32);
+    set_32(&mut file, 100, strings_start as u32);
+    set_32(&mut file, 104, strings.len() as u32);
+    for (i, &(offset, units)) in names.iter().enumerate() {
+        set_32(&mut file, head_end + i * entry + name, offset);
+        set_32(&mut file, head_end + i * entry + name + 4, units);
+    }
+    file[strings_start..].copy_from_slice(strings);
+    file
+}
+
+fn program_names(tally: &mut Tally) {
+    let mut file = with_names(17, &[], b"");
+    tally.named("an empty name", &Some(&b""[..]), &program_name(&file));
+    for place in 0..29 {
+        set_16(&mut file, 16 + 2 * place, 0xD800);
+    }
+    let name = [0x00, 0xD8].repeat(29);
+    tally.named("29 lone surrogates", &Some(&name[..]), &program_name(&file));
+    tally.named("76 bytes", &Some(&name[..]), &program_name(&file[..76]));
+    tally.named("75 bytes", &None, &program_name(&file[..75]));
+    // Checks past 4 play no part.
+    set_32(&mut file, 104, 1);
+    tally.named("a section outside", &Some(&name[..]), &program_name(&file));
+    set_16(&mut file, 16 + 58, 1);
+    tally.named("30 units", &None, &program_name(&file));
+}
+
+fn entry_names(tally: &mut Tally) {
+    for version in [17, 23, 26] {
+        let file = with_names(version, &[(0, 1), (4, 2), (2, 0), (1, 0)], b"A\0\0\0B\0C\0\0\0");
+        tally.named("entry 0", &Some(&b"A\0"[..]), &entry_name(&file, 0));
+        tally.named("entry 1", &Some(&b"B\0C\0"[..]), &entry_name(&file, 1));
+        tally.named("entry 2, empty", &Some(&b""[..]), &entry_name(&file, 2));
+        tally.named("entry 3, empty", &Some(&b""[..]), &entry_name(&file, 3));
+        tally.named("no entry 4", &None, &entry_name(&file, 4));
+        tally.named("no entry 2 to the 32", &None, &entry_name(&file, 1 << 32));
+        tally.named("no last entry", &None, &entry_name(&file, u64::MAX));
+        let end = file.len();
+        tally.named("without its zero", &None, &entry_name(&file[..end - 1], 1));
+        tally.named("the other", &Some(&b"A\0"[..]), &entry_name(&file[..end - 6], 0));
+        tally.named("the other, cut", &None, &entry_name(&file[..end - 7], 0));
+    }
+}
+
+const XP_A: u32 = 54483988;
+const VISTA_A: u32 = 11623948;
+const VISTA_AB: u32 = 430086142;
+
+fn paths(tally: &mut Tally) {
+    let strings = b"A\0\0\0A\0B\0\0\0";
+    let names = [(4, 2), (0, 1), (0, 1)];
+    let cases = [
+        (17, XP_A, Some((1, Report::NoneToMake))),
+        (17, VISTA_A, None),
+        (23, VISTA_A, Some((1, Report::Both))),
+        (23, VISTA_AB, Some((0, Report::Both))),
+        (23, XP_A, None),
+        (26, VISTA_A, Some((1, Report::NoneToMake))),
+        (26, VISTA_AB, Some((0, Report::NoneToMake))),
+        (26, XP_A, None),
+    ];
+    for (version, stored_hash, found) in cases {
+        let mut file = with_names(version, &names, strings);
+        set_32(&mut file, 76, stored_hash);
+        let found = found.map(|(entry, report)| FoundPath { entry, report });
+        let name = format!("version {version}, stored hash {stored_hash}");
+        tally.named(&name, &found, &find_path(&file));
+    }
+    // Of no units: XP gives 0, the others their start.
+    for (version, stored_hash) in [(17, 0), (23, 314159), (26, 314159)] {
+        let mut file = with_names(version, &[(0, 0)], b"\0\0");
+        set_32(&mut file, 76, stored_hash);
+        let entry = find_path(&file).map(|found| found.entry);
+        tally.named("an empty name is found", &Some(0), &entry);
+    }
+}
+
+/// Entries that can't be shown on the bytes lent are passed over.
+fn path_on_a_prefix(tally: &mut Tally) {
+    let mut file = with_names(17, &[(4, 1), (0, 1), (9, 1)], b"A\0\0\0A\0\0\0?");
+    set_32(&mut file, 76, XP_A);
+    let entry = |file: &[u8]| find_path(file).map(|found| found.entry);
+    let end = file.len();
+    tally.named("whole", &Some(0), &entry(&file));
+    tally.named("the last byte is no name's", &Some(0), &entry(&file[..end - 1]));
+    tally.named("the first can't be shown", &Some(1), &entry(&file[..end - 2]));
+    tally.named("just the second", &Some(1), &entry(&file[..end - 5]));
+    tally.named("neither", &None, &entry(&file[..end - 6]));
+    // An unsound name is passed over too.
+    let zero = end - 3;
+    set_16(&mut file, zero, 1);
+    tally.named("the first is unsound", &Some(1), &entry(&file));
+    set_32(&mut file, 12, 1);
+    tally.named("check 3", &None, &entry(&file));
+}
+
+/// Check 8, damaged trace entries and other entries' names.
+fn checks_that_play_no_part(tally: &mut Tally) {
+    let mut file = with_names(17, &[(99, 1), (0, 1)], b"A\0\0\0");
+    set_32(&mut file, 76, XP_A);
+    set_32(&mut file, 112, 5);
+    tally.named("beside 8 and 9", &Some(&b"A\0"[..]), &entry_name(&file, 1));
+    tally.named("entry 0 itself", &None, &entry_name(&file, 0));
+    let entry = find_path(&file).map(|found| found.entry);
+    tally.named("search beside 8 and 9", &Some(1), &entry);
+}
+
+/// Three volumes: a path with a zero unit inside and two references; one with
+/// a fault; an empty one.
+fn with_volumes() -> Vec<u8> {
+    let mut file = with_names(17, &[], b"");
+    let start = file.len();
+    file.resize(start + 120, 0);
+    file.extend(b"C\0\0\0D\0");
+    file.extend(b"????\x02\0\0\0");
+    file.extend([1, 2, 3, 4, 5, 6, 7, 8, 255, 255, 255, 255, 255, 255, 255, 255]);
+    let size = (file.len() - start) as u32;
+    set_32(&mut file, 108, start as u32);
+    set_32(&mut file, 112, 3);
+    set_32(&mut file, 116, size);
+    for (field, number) in [(0, 120), (4, 3), (8, 9), (12, 1), (16, u32::MAX), (20, 126), (24, 24)]
+    {
+        set_32(&mut file, start + field, number);
+    }
+    set_32(&mut file, start + 40 + 4, size);
+    set_32(&mut file, start + 80 + 16, 7);
+    let length = file.len() as u32;
+    set_32(&mut file, 12, length);
+    file
+}
+
+fn volumes(tally: &mut Tally) {
+    let mut file = with_volumes();
+    let shown = volume(&file, 0).map(|volume| {
+        (volume.creation_time, volume.serial_number, volume.references, volume.directories)
+    });
+    tally.named("volume 0", &Some((1 << 32 | 9, u32::MAX, 2, 0)), &shown);
+    let path = volume(&file, 0).map(|volume| volume.path);
+    tally.named("its path up to the zero", &Some(&b"C\0"[..]), &path);
+    tally.named("volume 1 has a fault", &None, &volume(&file, 1));
+    let path = volume(&file, 2).map(|volume| (volume.serial_number, volume.path));
+    tally.named("volume 2, no path", &Some((7, &b""[..])), &path);
+    tally.named("no volume 3", &None, &volume(&file, 3));
+    tally.named("no volume 2 to the 32", &None, &volume(&file, 1 << 32));
+    references(tally, &file);
+    let end = file.len();
+    tally.named("a byte short", &None, &volume(&file[..end - 1], 0));
+    tally.named("a byte short, 2", &None, &volume(&file[..end - 1], 2));
+    // 150 bytes hold three entries of 40 and not four.
+    set_32(&mut file, 112, 4);
+    tally.named("check 8", &None, &volume(&file, 0));
+}
+
+fn references(tally: &mut Tally, file: &[u8]) {
+    let shown = |i, k| {
+        reference(file, i, k).map(|reference| (reference.entry_index, reference.sequence_number))
+    };
+    tally.named("reference 0", &Some((0x0605_0403_0201, 0x0807)), &shown(0, 0));
+    tally.named("reference 1", &Some((0xFFFF_FFFF_FFFF, 0xFFFF)), &shown(0, 1));
+    tally.named("no reference 2", &None, &shown(0, 2));
+    tally.named("no reference 2 to the 32", &None, &shown(0, 1 << 32));
+    tally.named("no reference 2 to the 61", &None, &shown(0, 1 << 61));
+    tally.named("none in a faulty volume", &None, &shown(1, 0));
+    tally.named("none in an empty volume", &None, &shown(2, 0));
+}
+
+fn null_pointers(tally: &mut Tally) {
+    unsafe {
+        let (file, out) = (null(), null_mut());
+        tally.named("program name, null", &0, &raw::hs_program_name(file, 0, out, 0));
+        tally.named("entry name, null", &0, &raw::hs_entry_name(file, 0, 0, out, 0));
+        tally.named("volume, null", &0, &raw::hs_volume(file, 0, 0, out, 0));
+        tally.named("reference, null", &0, &raw::hs_reference(file, 0, 0, 0, out, 0));
+        tally.named("path search, null", &0, &raw::hs_find_path(file, 0, out, 0));
+    }
+}

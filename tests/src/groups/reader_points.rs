@@ -1,0 +1,545 @@
+//! Points on either edge, with answers taken from the papers by hand. The
+//! library and the reference both have to give them.
+
+use crate::calls::{numbers_of, Places, RawReader, PART_READER, READER_OUT, WHOLE_READER};
+use crate::generate::{set_16, set_32};
+use crate::random::Random;
+use crate::reference::checks::Refusal;
+use crate::reference::layout::END;
+use crate::reference::readers::{part_reader, whole_reader, Answer, Record, Verdict};
+use crate::tally::Tally;
+use std::ptr::{null, null_mut};
+
+pub fn run(tally: &mut Tally) {
+    first_bytes(tally);
+    sizes(tally);
+    program_names(tally);
+    section_ends(tally);
+    sections_side_by_side(tally);
+    huge_sums(tally);
+    strings_edges(tally);
+    trace_links(tally);
+    order_of_answers(tally);
+    volumes(tally);
+    complete_files(tally);
+    largest_files(tally);
+    null_pointers(tally);
+}
+
+fn refused(number: u64, index: u64) -> Verdict {
+    Verdict::Refused(Refusal { number, index })
+}
+
+/// A reader of the library and that of the reference.
+struct Reader {
+    library: RawReader,
+    reference: fn(&[u8], usize) -> Answer,
+}
+
+const PART: Reader = Reader { library: PART_READER, reference: part_reader };
+const WHOLE: Reader = Reader { library: WHOLE_READER, reference: whole_reader };
+
+/// A verdict on a file without links: every place is filled.
+fn check(tally: &mut Tally, name: &str, reader: Reader, bytes: &[u8], verdict: Verdict) {
+    let answer = Answer { verdict, buffer: vec![END; 8] };
+    check_buffer(tally, name, reader, bytes, &answer);
+}
+
+fn check_buffer(tally: &mut Tally, name: &str, reader: Reader, bytes: &[u8], answer: &Answer) {
+    let places = answer.buffer.len();
+    let lent = Places::new(&mut Random::new(1), READER_OUT, places);
+    let expected = lent.expected(answer);
+    tally.named(name, &expected, &lent.call(reader.library, bytes));
+    tally.named(name, answer, &(reader.reference)(bytes, places));
+}
+
+fn part(tally: &mut Tally, name: &str, bytes: &[u8], verdict: Verdict) {
+    check(tally, name, PART, bytes, verdict);
+}
+
+fn whole(tally: &mut Tally, name: &str, bytes: &[u8], verdict: Verdict) {
+    check(tally, name, WHOLE, bytes, verdict);
+}
+
+/// H of each version, as the paper has it.
+const HEADS: [(u32, u32); 3] = [(17, 148), (23, 156), (26, 212)];
+
+/// A head without a name or a section, and so many bytes behind it.
+fn bare(version: u32, more: u32) -> Vec<u8> {
+    let head_end = HEADS.iter().find(|head| head.0 == version).expect("one of three").1;
+    let size = head_end + more;
+    let mut file = vec![0; size as usize];
+    set_32(&mut file, 0, version);
+    file[4..8].copy_from_slice(b"SCCA");
+    set_32(&mut file, 12, size);
+    file
+}
+
+/// What is accepted of a bare file.
+fn bare_record(file: &[u8]) -> Record {
+    Record {
+        version: file[0] as u64,
+        declared_size: file.len() as u64,
+        name_units: 0,
+        stored_hash: 0,
+        run_time: 0,
+        run_count: 0,
+        metrics_count: 0,
+        trace_count: 0,
+        volume_count: 0,
+        chain_count: 0,
+    }
+}
+
+fn first_bytes(tally: &mut Tally) {
+    let file = bare(17, 0);
+    let wanted = [
+        (0, 4),
+        (3, 4),
+        (4, 8),
+        (7, 8),
+        (8, 16),
+        (15, 16),
+        (16, 76),
+        (75, 76),
+        (76, 148),
+        (147, 148),
+    ];
+    for (length, reach) in wanted {
+        let name = format!("{length} bytes want {reach}");
+        part(tally, &name, &file[..length], Verdict::Wanted(reach));
+        whole(tally, &name, &file[..length], refused(16, 0));
+    }
+    part(tally, "version 24 in four bytes", &[24, 0, 0, 0], refused(1, 0));
+    part(tally, "version 30", &[30, 0, 0, 0], refused(1, 0));
+    part(tally, "version 17 and 256", &[17, 1, 0, 0], refused(1, 0));
+    part(tally, "wrong signature", b"\x11\0\0\0SCCB", refused(2, 0));
+    part(tally, "both wrong", b"\x18\0\0\0SCCB", refused(1, 0));
+}
+
+fn sizes(tally: &mut Tally) {
+    for (version, head_end) in HEADS {
+        let edges = [
+            (0, refused(3, 0)),
+            (head_end - 1, refused(3, 0)),
+            (head_end, Verdict::Wanted(76)),
+            (16_777_215, Verdict::Wanted(76)),
+            (16_777_216, refused(3, 0)),
+            (u32::MAX, refused(3, 0)),
+        ];
+        for (size, verdict) in edges {
+            let mut file = bare(version, 0);
+            set_32(&mut file, 12, size);
+            part(tally, &format!("version {version}, S = {size}"), &file[..16], verdict);
+        }
+        let file = bare(version, 0);
+        let record = Verdict::Accepted(bare_record(&file));
+        part(tally, &format!("version {version}, S = H, whole"), &file, record);
+    }
+}
+
+fn program_names(tally: &mut Tally) {
+    for units in [0, 1, 28, 29] {
+        let mut file = bare(17, 0);
+        for place in 0..units {
+            set_16(&mut file, 16 + 2 * place, 65);
+        }
+        let record = Record { name_units: units as u64, ..bare_record(&file) };
+        part(tally, &format!("a name of {units} units"), &file, Verdict::Accepted(record));
+    }
+    let mut file = bare(17, 0);
+    for place in 0..30 {
+        set_16(&mut file, 16 + 2 * place, 0x0100);
+    }
+    part(tally, "a name of 30 units", &file[..76], refused(4, 0));
+    part(tally, "30 units, one byte short", &file[..75], Verdict::Wanted(76));
+}
+
+/// A section alone in a version 17 file of 188 bytes.
+struct Alone {
+    which: u64,
+    offset_field: usize,
+    /// Where its count or its size stands, and that number.
+    count_field: usize,
+    count: u32,
+    bytes: u32,
+    /// The check that finds something else to refuse once it lies inside: one
+    /// entry has no strings for its name, and one link of 0 is a ring.
+    otherwise: Option<u64>,
+}
+
+const ALONE: [Alone; 4] = [
+    Alone { which: 1, offset_field: 84, count_field: 88, count: 1, bytes: 20, otherwise: Some(9) },
+    Alone { which: 2, offset_field: 92, count_field: 96, count: 1, bytes: 12, otherwise: Some(13) },
+    Alone { which: 3, offset_field: 100, count_field: 104, count: 5, bytes: 5, otherwise: None },
+    Alone { which: 4, offset_field: 108, count_field: 116, count: 7, bytes: 7, otherwise: None },
+];
+
+fn section_ends(tally: &mut Tally) {
+    for Alone { which, offset_field, count_field, count, bytes, otherwise } in ALONE {
+        let mut file = bare(17, 40);
+        set_32(&mut file, count_field, count);
+        let accepted = Verdict::Accepted(bare_record(&file));
+        let inside = otherwise.map_or(accepted, |number| refused(number, 0));
+        let cases = [
+            ("starting at H", 148, inside),
+            ("starting at H - 1", 147, refused(5, which)),
+            ("ending at S", 188 - bytes, inside),
+            ("ending at S + 1", 189 - bytes, refused(5, which)),
+            ("starting at 0", 0, refused(5, which)),
+            ("starting at S", 188, refused(5, which)),
+            ("ending at 2 to the 32", bytes.wrapping_neg(), refused(5, which)),
+            ("wrapping to H", 148u32.wrapping_sub(bytes), refused(5, which)),
+            ("starting at the last number", u32::MAX, refused(5, which)),
+        ];
+        for (name, offset, verdict) in cases {
+            set_32(&mut file, offset_field, offset);
+            part(tally, &format!("section {which} {name}"), &file, verdict);
+        }
+        set_32(&mut file, count_field, 0);
+        part(tally, &format!("section {which}, empty and far away"), &file, accepted);
+    }
+}
+
+/// Strings of 8 bytes at 160, and volumes data of 4 bytes around them.
+fn sections_side_by_side(tally: &mut Tally) {
+    let mut file = bare(17, 40);
+    set_32(&mut file, 100, 160);
+    set_32(&mut file, 104, 8);
+    set_32(&mut file, 116, 4);
+    let apart = Verdict::Accepted(bare_record(&file));
+    let cases = [
+        (156, apart),
+        (157, refused(6, 4)),
+        (160, refused(6, 4)),
+        (162, refused(6, 4)),
+        (167, refused(6, 4)),
+        (168, apart),
+    ];
+    for (offset, verdict) in cases {
+        set_32(&mut file, 108, offset);
+        part(tally, &format!("volumes at {offset} beside strings"), &file, verdict);
+    }
+    // All four on one spot: the second section is the smallest with a lower.
+    for field in [84, 92, 100, 108] {
+        set_32(&mut file, field, 150);
+    }
+    set_32(&mut file, 88, 1);
+    set_32(&mut file, 96, 1);
+    part(tally, "four sections on one spot", &file, refused(6, 2));
+    set_32(&mut file, 92, 170);
+    part(tally, "the second apart", &file, refused(6, 3));
+}
+
+/// Products and sums past 32 bits.
+fn huge_sums(tally: &mut Tally) {
+    let cases = [
+        // Entries of 20 bytes: 24 past 2 to the 32; of 12: 8 past; of 32: none.
+        (17, 88, 214_748_366, refused(5, 1)),
+        (17, 96, 357_913_942, refused(5, 2)),
+        (23, 88, 1 << 27, refused(5, 1)),
+        (26, 88, 1 << 27, refused(5, 1)),
+        (17, 104, u32::MAX, refused(5, 3)),
+        (17, 116, u32::MAX - 147, refused(5, 4)),
+        // Volumes of 40 bytes: 24 past 2 to the 32; of 104: 64 past.
+        (17, 112, 107_374_183, refused(8, 0)),
+        (23, 112, 41_297_763, refused(8, 0)),
+        (17, 112, 1, refused(8, 0)),
+    ];
+    for (version, field, number, verdict) in cases {
+        let mut file = bare(version, 40);
+        for offset in [84, 92, 100, 108] {
+            let head_end = file.len() as u32 - 40;
+            set_32(&mut file, offset, head_end);
+        }
+        set_32(&mut file, field, number);
+        part(tally, &format!("version {version}, {number} at {field}"), &file, verdict);
+    }
+}
+
+/// One metrics entry at 148 and strings at 168, for version 17.
+fn one_name(offset: u32, units: u32, strings: &[u8]) -> Vec<u8> {
+    let mut file = bare(17, 20 + strings.len() as u32);
+    set_32(&mut file, 84, 148);
+    set_32(&mut file, 88, 1);
+    set_32(&mut file, 100, 168);
+    set_32(&mut file, 104, strings.len() as u32);
+    set_32(&mut file, 148 + 8, offset);
+    set_32(&mut file, 148 + 12, units);
+    file[168..].copy_from_slice(strings);
+    file
+}
+
+fn strings_edges(tally: &mut Tally) {
+    let accepted =
+        |file: &[u8]| Verdict::Accepted(Record { metrics_count: 1, ..bare_record(file) });
+    let sound: [(&str, u32, u32, &[u8]); 5] = [
+        ("zero as the last unit", 0, 1, b"A\0\0\0"),
+        ("at an odd offset", 1, 1, b"?A\0\0\0"),
+        ("an odd section", 0, 1, b"A\0\0\0?"),
+        ("an empty name", 2, 0, b"A\0\0\0"),
+        ("zero bytes that are no unit", 0, 2, b"A\0\0A\0\0"),
+    ];
+    for (name, offset, units, strings) in sound {
+        let file = one_name(offset, units, strings);
+        part(tally, name, &file, accepted(&file));
+        let reach = file.len();
+        part(tally, name, &file[..reach - 1], Verdict::Wanted(reach as u64));
+        part(tally, name, &file[..167], Verdict::Wanted(168));
+    }
+    let unsound: [(&str, u32, u32, &[u8], u64); 9] = [
+        ("no room for the zero", 0, 1, b"A\0\0", 9),
+        ("no strings", 0, 0, b"", 9),
+        ("one byte past", 1, 1, b"A\0\0\0", 9),
+        ("a length that doubles to nothing", 0, 1 << 31, b"A\0\0\0", 9),
+        ("an offset that wraps", u32::MAX - 3, 1, b"A\0\0\0", 9),
+        ("a sum that wraps", u32::MAX - 1, 0, b"A\0\0\0", 9),
+        ("a zero unit inside", 0, 2, b"A\0\0\0\0\0", 10),
+        ("no zero unit behind", 0, 1, b"A\0B\0\0\0", 10),
+        ("a unit behind with a low zero byte", 0, 1, b"A\0\0B", 10),
+    ];
+    for (name, offset, units, strings, number) in unsound {
+        part(tally, name, &one_name(offset, units, strings), refused(number, 0));
+    }
+    // 9 is decided as soon as the entries are there.
+    part(tally, "9 before the strings", &one_name(1, 1, b"A\0\0\0")[..168], refused(9, 0));
+    two_names(tally);
+}
+
+/// Check 9 runs over all entries before check 10 looks at any.
+fn two_names(tally: &mut Tally) {
+    let mut file = bare(17, 44);
+    set_32(&mut file, 84, 148);
+    set_32(&mut file, 88, 2);
+    set_32(&mut file, 100, 188);
+    set_32(&mut file, 104, 4);
+    file[188..192].copy_from_slice(b"A\0B\0");
+    set_32(&mut file, 148 + 12, 1);
+    set_32(&mut file, 168 + 8, 3);
+    part(tally, "10 at entry 0, 9 at entry 1", &file, refused(9, 1));
+    set_32(&mut file, 168 + 8, 0);
+    part(tally, "10 at both entries", &file, refused(10, 0));
+}
+
+/// Trace entries at 148 of a version 17 file, and nothing else.
+fn with_links(links: &[u32]) -> Vec<u8> {
+    let mut file = bare(17, 12 * links.len() as u32);
+    set_32(&mut file, 92, 148);
+    set_32(&mut file, 96, links.len() as u32);
+    for (entry, &link) in links.iter().enumerate() {
+        set_32(&mut file, 148 + 12 * entry, link);
+    }
+    file
+}
+
+fn trace_links(tally: &mut Tally) {
+    let faults: [(&[u32], u64, u64); 10] = [
+        (&[0], 13, 0),
+        (&[2, 2, END], 12, 2),
+        (&[END, 1], 13, 1),
+        (&[END, 2, 3, 1], 13, 1),
+        (&[1, 2, 0], 13, 0),
+        (&[END, 3, END, 1, 2], 13, 1),
+        (&[1], 11, 0),
+        (&[END, 2], 11, 1),
+        (&[END - 1, 0, 0], 11, 0),
+        (&[1, 1, 2], 12, 1),
+    ];
+    for (links, number, index) in faults {
+        let name = format!("links {links:?}");
+        part(tally, &name, &with_links(links), refused(number, index));
+        whole(tally, &name, &with_links(links), refused(number, index));
+    }
+    sound_links(tally, &[1, END], 1, &[END, 0]);
+    sound_links(tally, &[END, END], 2, &[END, END]);
+    sound_links(tally, &[END, 0, 1], 1, &[1, 2, END]);
+    sound_links(tally, &[3, END, END, 1], 2, &[END, 3, END, 0]);
+}
+
+fn sound_links(tally: &mut Tally, links: &[u32], chains: u64, predecessors: &[u32]) {
+    let file = with_links(links);
+    let record =
+        Record { trace_count: links.len() as u64, chain_count: chains, ..bare_record(&file) };
+    for more in [0, 1, 5] {
+        let mut buffer = predecessors.to_vec();
+        buffer.extend(vec![END; more]);
+        let answer = Answer { verdict: Verdict::Accepted(record), buffer };
+        let name = format!("links {links:?}, {more} places more");
+        check_buffer(tally, &name, PART, &file, &answer);
+        check_buffer(tally, &name, WHOLE, &file, &answer);
+    }
+    let answer = Answer { verdict: refused(7, 0), buffer: vec![END; links.len() - 1] };
+    let name = format!("links {links:?}, one place short");
+    check_buffer(tally, &name, PART, &file, &answer);
+    check_buffer(tally, &name, WHOLE, &file[..148], &answer);
+}
+
+/// Trace damage that has arrived does not answer before the names are decided.
+fn order_of_answers(tally: &mut Tally) {
+    let mut file = bare(17, 12 + 20 + 4);
+    set_32(&mut file, 92, 148);
+    set_32(&mut file, 96, 1);
+    set_32(&mut file, 84, 160);
+    set_32(&mut file, 88, 1);
+    set_32(&mut file, 100, 180);
+    set_32(&mut file, 104, 4);
+    file[160 + 12] = 1;
+    file[180..184].copy_from_slice(b"A\0\0\0");
+    part(tally, "a ring, and no metrics yet", &file[..160], Verdict::Wanted(180));
+    part(tally, "a ring, and no strings yet", &file[..180], Verdict::Wanted(184));
+    part(tally, "a ring, and all there", &file, refused(13, 0));
+    whole(tally, "a ring, and no strings", &file[..180], refused(16, 0));
+}
+
+/// One volume at 148 of a version 17 file, with data behind its entry.
+fn one_volume(fields: [u32; 6], data: &[u8]) -> Vec<u8> {
+    let mut file = bare(17, 40 + data.len() as u32);
+    set_32(&mut file, 108, 148);
+    set_32(&mut file, 112, 1);
+    set_32(&mut file, 116, 40 + data.len() as u32);
+    for (place, number) in [0, 4, 20, 24, 28, 32].into_iter().zip(fields) {
+        set_32(&mut file, 148 + place, number);
+    }
+    file[188..].copy_from_slice(data);
+    file
+}
+
+/// Path offset and units; references offset and size; directories offset and
+/// count. The section is 40 bytes and the data.
+fn volumes(tally: &mut Tally) {
+    const FAR: u32 = u32::MAX;
+    let sound: [([u32; 6], &[u8]); 8] = [
+        ([FAR, 0, FAR, 0, FAR, 0], b""),
+        ([40, 1, 0, 0, 0, 0], b"A\0"),
+        ([0, 21, 0, 0, 0, 0], b"A\0"),
+        ([0, 0, 40, 8, 0, 0], b"????\0\0\0\0"),
+        ([0, 0, 40, 16, 0, 0], b"????\x01\0\0\0abcdefgh"),
+        ([0, 0, 0, 0, 40, 1], b"\0\0\0\0"),
+        ([0, 0, 0, 0, 40, 2], b"\x01\0\0\0\0\0\0\0\0\0"),
+        ([40, 3, 40, 0, 40, 1], b"\x01\0A\0\0\0"),
+    ];
+    for (fields, data) in sound {
+        let file = one_volume(fields, data);
+        let record = Record { volume_count: 1, ..bare_record(&file) };
+        part(tally, &format!("volume {fields:?}"), &file, Verdict::Accepted(record));
+    }
+    let faults: [([u32; 6], &[u8], u64); 17] = [
+        ([41, 1, 0, 0, 0, 0], b"A\0", 14),
+        ([0, 22, 0, 0, 0, 0], b"A\0", 14),
+        ([FAR - 1, 1, 0, 0, 0, 0], b"A\0", 14),
+        ([0, 1 << 31, 0, 0, 0, 0], b"A\0", 14),
+        ([0, 0, 40, 7, 0, 0], b"????\0\0\0\0", 14),
+        ([0, 0, FAR, 7, 0, 0], b"", 14),
+        ([0, 0, 41, 8, 0, 0], b"????\0\0\0\0", 14),
+        ([0, 0, FAR - 7, 8, 0, 0], b"????\0\0\0\0", 14),
+        ([0, 0, 40, 8, 0, 0], b"????\x01\0\0\0", 14),
+        ([0, 0, 40, 15, 0, 0], b"????\x01\0\0\0abcdefg", 14),
+        ([0, 0, 40, 8, 0, 0], b"????\xFF\xFF\xFF\x1F", 14),
+        ([0, 0, 40, 8, 0, 0], b"????\0\0\0\x20", 14),
+        ([0, 0, 0, 0, 40, 1], b"\0\0\0", 14),
+        ([0, 0, 0, 0, 40, 2], b"\0\0\0\0\0", 14),
+        ([0, 0, 0, 0, FAR, 1], b"\0\0\0\0", 14),
+        ([0, 0, 0, 0, 40, 1], b"\0\0\0\x01", 15),
+        ([0, 0, 0, 0, 40, 2], b"\0\0\x01\0\x09\0", 15),
+    ];
+    for (fields, data, number) in faults {
+        let name = format!("volume {fields:?}, fault {number}");
+        let file = one_volume(fields, data);
+        part(tally, &name, &file, refused(number, 0));
+        let reach = file.len() as u64;
+        part(tally, &name, &file[..file.len() - 1], Verdict::Wanted(reach));
+    }
+    volumes_in_turn(tally);
+    not_waited_for(tally);
+}
+
+/// The first fault met answers: a volume's 15 before the next one's 14.
+fn volumes_in_turn(tally: &mut Tally) {
+    let mut file = bare(17, 84);
+    set_32(&mut file, 108, 148);
+    set_32(&mut file, 112, 2);
+    set_32(&mut file, 116, 84);
+    set_32(&mut file, 148 + 28, 80);
+    set_32(&mut file, 148 + 32, 1);
+    set_32(&mut file, 188 + 4, 100);
+    file[148 + 83] = 1;
+    part(tally, "15 in volume 0, 14 in volume 1", &file, refused(15, 0));
+    set_32(&mut file, 148 + 4, 100);
+    part(tally, "14 and 15 in volume 0", &file, refused(14, 0));
+    set_32(&mut file, 148 + 4, 0);
+    set_32(&mut file, 148 + 32, 0);
+    part(tally, "14 in volume 1", &file, refused(14, 1));
+    set_32(&mut file, 188 + 4, 0);
+    set_32(&mut file, 188 + 28, 80);
+    set_32(&mut file, 188 + 32, 1);
+    part(tally, "15 in volume 1", &file, refused(15, 1));
+}
+
+/// Strings without metrics and a volumes section without volumes.
+fn not_waited_for(tally: &mut Tally) {
+    let mut file = bare(17, 40);
+    set_32(&mut file, 100, 148);
+    set_32(&mut file, 104, 20);
+    set_32(&mut file, 108, 168);
+    set_32(&mut file, 116, 20);
+    let record = Verdict::Accepted(bare_record(&file));
+    part(tally, "sections nothing needs", &file[..148], record);
+    whole(tally, "sections nothing needs, cut", &file[..148], refused(16, 0));
+    whole(tally, "sections nothing needs, whole", &file, record);
+}
+
+fn complete_files(tally: &mut Tally) {
+    for (version, _) in HEADS {
+        let mut file = bare(version, 3);
+        let record = Verdict::Accepted(bare_record(&file));
+        whole(tally, "complete", &file, record);
+        let short = file.len() - 1;
+        whole(tally, "one byte short", &file[..short], refused(16, 0));
+        part(tally, "one byte short", &file[..short], record);
+        file.push(1);
+        whole(tally, "one byte more", &file, refused(17, 0));
+        part(tally, "one byte more", &file, record);
+        // A refusal stays, whatever the length.
+        set_32(&mut file, 112, 1);
+        whole(tally, "refused and too long", &file, refused(8, 0));
+        whole(tally, "refused and too short", &file[..short], refused(8, 0));
+    }
+}
+
+/// A file of the greatest size, full of trace entries in chains of eight.
+fn largest_files(tally: &mut Tally) {
+    let entries = (16_777_215 - 148) / 12;
+    let next = |entry: u32| match entry % 8 == 7 || entry + 1 == entries {
+        true => END,
+        false => entry + 1,
+    };
+    let links: Vec<u32> = (0..entries).map(next).collect();
+    let mut file = with_links(&links);
+    file.resize(16_777_215, 0xAA);
+    set_32(&mut file, 12, 16_777_215);
+    let record = Record {
+        trace_count: entries as u64,
+        chain_count: entries.div_ceil(8) as u64,
+        ..bare_record(&file)
+    };
+    let predecessor = |entry: u32| if entry % 8 == 0 { END } else { entry - 1 };
+    let buffer = (0..entries).map(predecessor).collect();
+    let answer = Answer { verdict: Verdict::Accepted(record), buffer };
+    check_buffer(tally, "the largest file", WHOLE, &file, &answer);
+    set_32(&mut file, 12, 16_777_216);
+    check(tally, "one too large", WHOLE, &file, refused(3, 0));
+}
+
+fn null_pointers(tally: &mut Tally) {
+    for (name, reader, code) in [("part", PART_READER, 2), ("whole", WHOLE_READER, 1)] {
+        let given = unsafe { reader(null(), 0, null_mut(), 0, null_mut(), 0) };
+        tally.named(&format!("{name} reader, null pointers"), &code, &given);
+    }
+    let file = bare(17, 0);
+    let given = unsafe { PART_READER(file.as_ptr(), file.len(), null_mut(), 0, null_mut(), 0) };
+    tally.named("no places, no out", &0, &given);
+    let expected = numbers_of(&Verdict::Wanted(4));
+    let mut out = [9; READER_OUT];
+    let code = unsafe { PART_READER(null(), 0, null_mut(), 0, out.as_mut_ptr(), out.len()) };
+    tally.named("no bytes", &expected, &(code, out));
+}

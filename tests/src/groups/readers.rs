@@ -1,0 +1,298 @@
+//! The part reader and the whole reader beside the reference.
+
+use super::Run;
+use crate::calls::{numbers_of, Places, RawReader, PART_READER, READER_OUT, WHOLE_READER};
+use crate::generate::cuts::cuts;
+use crate::generate::damage::{damage, edits, AIMS};
+use crate::generate::{any, rich, sound, Counts, Sample};
+use crate::random::Random;
+use crate::reference::readers::{part_reader, whole_reader, Answer, Verdict};
+use crate::tally::{hex, Tally};
+
+pub fn run(run: &Run, tally: &mut Tally) {
+    let mut readers = Readers { random: run.random("readers"), tally, seen: Seen::default() };
+    super::reader_points::run(readers.tally);
+    readers.short_prefixes(300 * run.scale);
+    readers.sound_files(4_000 * run.scale);
+    readers.single_faults(400 * run.scale);
+    readers.pairs_of_faults(50 * run.scale);
+    readers.edited_files(60_000 * run.scale);
+    readers.random_bytes(20_000 * run.scale);
+    readers.large_files(40 * run.scale);
+    readers.seen.report(readers.tally);
+}
+
+struct Readers<'a> {
+    random: Random,
+    tally: &'a mut Tally,
+    seen: Seen,
+}
+
+impl Readers<'_> {
+    /// Every length from 0 to 300, on sound files and damaged ones.
+    fn short_prefixes(&mut self, rounds: usize) {
+        for round in 0..rounds {
+            let mut sample = any(&mut self.random);
+            if round % 3 == 1 {
+                let number = self.random.between(5, 15) as u64;
+                damage(&mut self.random, &mut sample, number);
+            }
+            for length in 0..=300.min(sample.bytes.len()) {
+                self.prefix(&sample, length, sample.places);
+            }
+            self.rest_of(&sample);
+        }
+    }
+
+    /// At every cut, with too few places, just enough, and more.
+    fn sound_files(&mut self, rounds: usize) {
+        for _ in 0..rounds {
+            let mut sample = any(&mut self.random);
+            if self.random.one_in(4) {
+                let length = self.random.between(1, 4);
+                sample.bytes.extend(self.random.bytes(length));
+            }
+            for length in cuts(&sample) {
+                self.prefix(&sample, length, sample.places);
+                self.prefix(&sample, length, sample.places.saturating_sub(1));
+                let more = self.random.between(1, 9);
+                self.prefix(&sample, length, sample.places + more);
+            }
+            self.prefix(&sample, sample.bytes.len(), 0);
+            self.rest_of(&sample);
+        }
+    }
+
+    fn single_faults(&mut self, rounds: usize) {
+        for number in AIMS {
+            for _ in 0..rounds {
+                let sample = self.damaged(&[number]);
+                self.seen.aimed(number, &sample);
+                self.at_every_cut(&sample);
+            }
+        }
+    }
+
+    /// Every pair, two faults for one check among them.
+    fn pairs_of_faults(&mut self, rounds: usize) {
+        for first in AIMS {
+            for second in first..=*AIMS.end() {
+                for _ in 0..rounds {
+                    let sample = self.damaged(&[first, second]);
+                    self.seen.paired(first, second, &sample);
+                    self.at_every_cut(&sample);
+                }
+            }
+        }
+    }
+
+    /// The later fault goes in first.
+    fn damaged(&mut self, numbers: &[u64]) -> Sample {
+        let mut sample = rich(&mut self.random);
+        for &number in numbers.iter().rev() {
+            damage(&mut self.random, &mut sample, number);
+        }
+        sample
+    }
+
+    fn at_every_cut(&mut self, sample: &Sample) {
+        for length in cuts(sample) {
+            self.prefix(sample, length, sample.places);
+        }
+        self.rest_of(sample);
+    }
+
+    fn edited_files(&mut self, rounds: usize) {
+        for _ in 0..rounds {
+            let mut sample = any(&mut self.random);
+            edits(&mut self.random, &mut sample);
+            self.prefix(&sample, sample.bytes.len(), sample.places);
+            for _ in 0..3 {
+                let length = *self.random.pick(&cuts(&sample));
+                self.prefix(&sample, length, sample.places);
+            }
+            self.rest_of(&sample);
+        }
+    }
+
+    /// Noise behind a head that is good as far as it goes.
+    fn random_bytes(&mut self, rounds: usize) {
+        for _ in 0..rounds {
+            let length = self.random.below(300);
+            let mut bytes = self.random.bytes(length);
+            let head = good_start(&mut self.random);
+            let kept = self.random.between(0, head.len()).min(length);
+            bytes[..kept].copy_from_slice(&head[..kept]);
+            let sample = Sample { bytes, places: self.random.below(4) };
+            self.prefix(&sample, length, sample.places);
+        }
+    }
+
+    /// Hundreds of names and thousands of trace entries, some damaged.
+    fn large_files(&mut self, rounds: usize) {
+        for round in 0..rounds {
+            let counts = Counts {
+                metrics: self.random.between(50, 300),
+                trace: self.random.between(500, 4_000),
+                volumes: self.random.between(5, 20),
+            };
+            let mut sample = sound(&mut self.random, counts);
+            if round % 2 == 1 {
+                let number = self.random.between(9, 15) as u64;
+                damage(&mut self.random, &mut sample, number);
+            }
+            sample.places += self.random.below(10_000);
+            self.prefix(&sample, sample.bytes.len(), sample.places);
+            for _ in 0..3 {
+                let length = *self.random.pick(&cuts(&sample));
+                self.prefix(&sample, length, sample.places);
+            }
+            self.rest_of(&sample);
+        }
+    }
+
+    /// Both readers on the first bytes of the sample. The bytes behind them
+    /// are there, for a reader that would look at them.
+    fn prefix(&mut self, sample: &Sample, length: usize, places: usize) {
+        let prefix = &sample.bytes[..length];
+        let part = part_reader(prefix, places);
+        let whole = whole_reader(prefix, places);
+        self.seen.answer(&part);
+        self.seen.answer(&whole);
+        self.reader("part reader", PART_READER, &part, prefix);
+        self.reader("whole reader", WHOLE_READER, &whole, prefix);
+    }
+
+    fn reader(&mut self, name: &str, reader: RawReader, answer: &Answer, prefix: &[u8]) {
+        let places = answer.buffer.len();
+        let out_length = match self.random.one_in(16) {
+            true => self.random.below(READER_OUT + 4),
+            false => READER_OUT,
+        };
+        let lent = Places::new(&mut self.random, out_length, places);
+        let expected = lent.expected(answer);
+        let given = lent.call(reader, prefix);
+        let input = || format!("{places} places, {}", hex(prefix));
+        self.tally.same(name, &(expected.code, expected.out), &(given.code, given.out), input);
+        let what = "working buffer";
+        self.tally.same(what, &expected.buffer, &given.buffer, || format!("{name}, {}", input()));
+    }
+
+    /// Once for each sample: its bytes are as they were, and the safe calls
+    /// say the same.
+    fn rest_of(&mut self, sample: &Sample) {
+        let before = sample.bytes.clone();
+        let places = sample.places;
+        let part = part_reader(&before, places);
+        let whole = whole_reader(&before, places);
+        let mut buffer = self.random.numbers(places);
+        let given = safe_verdict(hivesaddle::read_prefix(&sample.bytes, &mut buffer));
+        let input = || format!("{places} places, {}", hex(&before));
+        self.tally.same("read_prefix", &numbers_of(&part.verdict), &given, input);
+        self.tally.same("read_prefix, buffer", &part.buffer, &buffer, input);
+        let given = match hivesaddle::read_file(&sample.bytes, &mut buffer) {
+            Ok(record) => safe_verdict(hivesaddle::Verdict::Accepted(record)),
+            Err(refusal) => safe_verdict(hivesaddle::Verdict::Refused(refusal)),
+        };
+        self.tally.same("read_file", &numbers_of(&whole.verdict), &given, input);
+        self.tally.same("read_file, buffer", &whole.buffer, &buffer, input);
+        self.tally.same("file unchanged", &before, &sample.bytes, input);
+    }
+}
+
+/// The safe call's answer, as the numbers of the C call.
+pub fn safe_verdict(verdict: hivesaddle::Verdict) -> (u32, [u64; READER_OUT]) {
+    let mut out = [0; READER_OUT];
+    match verdict {
+        hivesaddle::Verdict::Accepted(record) => {
+            out[3] = record.version as u64;
+            out[4] = record.declared_size as u64;
+            out[5] = record.name_units as u64;
+            out[6] = record.stored_hash as u64;
+            out[7] = record.run_time;
+            out[8] = record.run_count as u64;
+            out[9] = record.metrics_count as u64;
+            out[10] = record.trace_count as u64;
+            out[11] = record.volume_count as u64;
+            out[12] = record.chain_count as u64;
+            (0, out)
+        }
+        hivesaddle::Verdict::Refused(refusal) => {
+            (out[0], out[1]) = (refusal.number as u64, refusal.index);
+            (1, out)
+        }
+        hivesaddle::Verdict::Wanted(bytes) => {
+            out[2] = bytes;
+            (2, out)
+        }
+    }
+}
+
+/// Version, signature, four bytes and a size that may be good.
+fn good_start(random: &mut Random) -> Vec<u8> {
+    let mut start = vec![*random.pick(&[17, 23, 26]), 0, 0, 0];
+    start.extend(b"SCCA");
+    start.extend(random.bytes(4));
+    start.extend((random.between(140, 400) as u32).to_le_bytes());
+    start
+}
+
+/// How often each answer was the right one, so that a generator that misses a
+/// check is seen.
+#[derive(Default)]
+struct Seen {
+    accepted: u64,
+    wanted: u64,
+    refused: [u64; 18],
+    /// Aimed at this check alone, and answered by it.
+    aimed: [u64; 16],
+    /// Aimed at both, and answered by the first.
+    paired: [[u64; 16]; 16],
+}
+
+impl Seen {
+    fn answer(&mut self, answer: &Answer) {
+        match answer.verdict {
+            Verdict::Accepted(_) => self.accepted += 1,
+            Verdict::Wanted(_) => self.wanted += 1,
+            Verdict::Refused(refusal) => self.refused[refusal.number as usize] += 1,
+        }
+    }
+
+    fn aimed(&mut self, number: u64, sample: &Sample) {
+        self.aimed[number as usize] += hit(sample, number);
+    }
+
+    fn paired(&mut self, first: u64, second: u64, sample: &Sample) {
+        self.paired[first as usize][second as usize] += hit(sample, first);
+    }
+
+    /// Every refusal has come up, and every aim has been hit.
+    fn report(&self, tally: &mut Tally) {
+        println!(
+            "readers: {} accepted, {} wanted more, refused by number:",
+            self.accepted, self.wanted
+        );
+        let counts: Vec<String> =
+            (1..18).map(|number| format!("{number}: {}", self.refused[number])).collect();
+        println!("  {}", counts.join(", "));
+        for number in 1..18 {
+            let name = format!("refusal {number} has come up");
+            tally.named(&name, &true, &(self.refused[number] > 0));
+        }
+        for first in 1..16 {
+            tally.named(&format!("aim {first} has hit"), &true, &(self.aimed[first] > 0));
+            for second in first..16 {
+                let name = format!("pair {first}, {second} has hit");
+                tally.named(&name, &true, &(self.paired[first][second] > 0));
+            }
+        }
+    }
+}
+
+fn hit(sample: &Sample, number: u64) -> u64 {
+    match part_reader(&sample.bytes, sample.places).verdict {
+        Verdict::Refused(refusal) if refusal.number == number => 1,
+        _ => 0,
+    }
+}

@@ -1,0 +1,11 @@
+//! An independent reading of the requirements (`reference`), a seeded
+//! generator of inputs, and the groups that compare the two with the library.
+
+#[cfg(feature = "readers")]
+pub mod calls;
+pub mod generate;
+pub mod groups;
+pub mod lent;
+pub mod random;
+pub mod reference;
+pub mod tally;

@@ -1,0 +1,79 @@
+//! cargo run --release --offline --bin compare -- [--seed N] [--scale N] [group ...]
+//!
+//! `--features queries` adds the groups of the readers and the questions.
+//!
+//! Runs the named groups, or all of them. The group `listing` runs the program
+//! that HIVESADDLE_PROGRAM names, and is left out of all where none is named.
+//! The last line is `N passed, M failed`, where N and M count comparisons.
+
+use compare::groups::{listing, Group, Run, GROUPS};
+use compare::tally::Tally;
+use std::process::ExitCode;
+
+const SEED: u64 = 20_261_115;
+
+struct Asked {
+    run: Run,
+    groups: Vec<&'static Group>,
+}
+
+fn main() -> ExitCode {
+    match asked(std::env::args().skip(1)) {
+        Ok(asked) => run_all(&asked),
+        Err(complaint) => {
+            eprintln!("{complaint}");
+            ExitCode::from(2)
+        }
+    }
+}
+
+fn run_all(asked: &Asked) -> ExitCode {
+    let (mut passed, mut failed) = (0, 0);
+    for (name, run) in &asked.groups {
+        let mut tally = Tally::new(name);
+        run(&asked.run, &mut tally);
+        println!("{name}: {} compared, {} failed", tally.passed + tally.failed, tally.failed);
+        passed += tally.passed;
+        failed += tally.failed;
+    }
+    println!("{passed} passed, {failed} failed");
+    if failed == 0 {
+        ExitCode::SUCCESS
+    } else {
+        ExitCode::FAILURE
+    }
+}
+
+fn asked(mut words: impl Iterator<Item = String>) -> Result<Asked, String> {
+    let mut asked = Asked { run: Run { seed: SEED, scale: 1 }, groups: Vec::new() };
+    while let Some(word) = words.next() {
+        match word.as_str() {
+            "--seed" => asked.run.seed = number(words.next())?,
+            "--scale" => asked.run.scale = number(words.next())? as usize,
+            name => asked.groups.push(group(name)?),
+        }
+    }
+    if asked.groups.is_empty() {
+        asked.groups = GROUPS.iter().filter(|group| can_run(group)).collect();
+    }
+    match asked.groups.iter().find(|group| !can_run(group)) {
+        Some((name, _)) => Err(format!("{name} needs {}", listing::PROGRAM)),
+        None => Ok(asked),
+    }
+}
+
+fn can_run(group: &Group) -> bool {
+    group.0 != "listing" || std::env::var_os(listing::PROGRAM).is_some()
+}
+
+fn number(word: Option<String>) -> Result<u64, String> {
+    word.and_then(|word| word.parse().ok()).ok_or("a number is missing".to_string())
+}
+
+fn group(name: &str) -> Result<&'static Group, String> {
+    let known = || GROUPS.iter().map(|(name, _)| *name).collect::<Vec<_>>().join(" ");
+    GROUPS
+        .iter()
+        .find(|group| group.0 == name)
+        .ok_or(format!("no group {name}; there are: {}", known()))
+}

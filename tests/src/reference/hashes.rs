@@ -1,0 +1,71 @@
+//! The path hashes, with exact sums that are reduced where the paper says so.
+
+const MODULUS: i128 = 4_294_967_296;
+
+/// XP: from 0, with the end step.
+pub fn xp(numbers: &[u32]) -> u32 {
+    let h = plain_steps(0, numbers);
+    xp_end_step((h * 314159269).rem_euclid(MODULUS))
+}
+
+/// From the number after the multiplication: read as signed, made positive,
+/// and taken mod 1000000007.
+pub fn xp_end_step(after: i128) -> u32 {
+    let signed = if after < MODULUS / 2 { after } else { after - MODULUS };
+    (signed.abs() % 1_000_000_007) as u32
+}
+
+/// Vista: from 314159, no end step.
+pub fn vista(numbers: &[u32]) -> u32 {
+    plain_steps(314159, numbers) as u32
+}
+
+/// 2008: eight numbers at a time while more than eight remain.
+pub fn of_2008(numbers: &[u32]) -> u32 {
+    let mut h: i128 = 314159;
+    let mut rest = numbers;
+    while rest.len() > 8 {
+        let c: Vec<i128> = rest[..8].iter().map(|&number| number as i128).collect();
+        let sum = (((((37 * c[1] + c[2]) * 37 + c[3]) * 37 + c[4]) * 37 + c[5]) * 37 + c[6]) * 37
+            + 442596621 * c[0]
+            + c[7];
+        h = (sum - 803794207 * h).rem_euclid(MODULUS);
+        rest = &rest[8..];
+    }
+    plain_steps(h, rest) as u32
+}
+
+fn plain_steps(start: i128, numbers: &[u32]) -> i128 {
+    numbers.iter().fold(start, |h, &c| (37 * h + c as i128) % MODULUS)
+}
+
+/// Each 16-bit unit of a text as one number. An odd last byte is no unit.
+pub fn units(text: &[u8]) -> Vec<u32> {
+    text.chunks_exact(2).map(|unit| unit[0] as u32 + 256 * unit[1] as u32).collect()
+}
+
+/// Each byte of a text as one number, from 0 to 255.
+pub fn bytes(text: &[u8]) -> Vec<u32> {
+    text.iter().map(|&byte| byte as u32).collect()
+}
+
+#[cfg(test)]
+mod points {
+    use super::*;
+
+    #[test]
+    fn of_nothing_and_of_short_names() {
+        assert_eq!(xp(&[]), 0);
+        assert_eq!(vista(&[]), 314159);
+        assert_eq!(vista(&[65]), 11623948);
+        assert_eq!(of_2008(&[65]), 11623948);
+        assert_eq!(vista(&[65, 66]), 430086142);
+        assert_eq!(xp(&[65]), 54483988);
+    }
+
+    #[test]
+    fn xp_ends() {
+        assert_eq!(xp_end_step(2147483648), 147483634);
+        assert_eq!(xp_end_step(4294967295), 1);
+    }
+}

@@ -1,0 +1,120 @@
+//! The fields of the head and its four sections. Each function expects the
+//! bytes it reads to be there: the checks ask for them first.
+
+use super::layout::{layout_of, Layout, TRACE_ENTRY};
+
+/// The little-endian number of so many bytes at a place.
+pub fn number(bytes: &[u8], at: usize, width: usize) -> u64 {
+    bytes[at..at + width].iter().rev().fold(0, |number, &byte| 256 * number + byte as u64)
+}
+
+pub fn number_32(bytes: &[u8], at: usize) -> u64 {
+    number(bytes, at, 4)
+}
+
+pub fn unit(bytes: &[u8], at: usize) -> u64 {
+    number(bytes, at, 2)
+}
+
+pub fn layout(file: &[u8]) -> Option<&'static Layout> {
+    layout_of(number_32(file, 0) as u32)
+}
+
+/// The layout after check 1.
+pub fn known_layout(file: &[u8]) -> &'static Layout {
+    layout(file).expect("check 1 comes first")
+}
+
+pub fn head_end(file: &[u8]) -> u64 {
+    known_layout(file).head_end
+}
+
+pub fn declared_size(file: &[u8]) -> u64 {
+    number_32(file, 12)
+}
+
+pub fn name_unit(file: &[u8], place: usize) -> u64 {
+    unit(file, 16 + 2 * place)
+}
+
+/// Units of the program name before the first zero, or nothing where none of
+/// the thirty is zero.
+pub fn name_units(file: &[u8]) -> Option<usize> {
+    (0..30).find(|&place| name_unit(file, place) == 0)
+}
+
+pub fn stored_hash(file: &[u8]) -> u64 {
+    number_32(file, 76)
+}
+
+pub fn metrics_count(file: &[u8]) -> u64 {
+    number_32(file, 88)
+}
+
+pub fn trace_count(file: &[u8]) -> u64 {
+    number_32(file, 96)
+}
+
+pub fn volume_count(file: &[u8]) -> u64 {
+    number_32(file, 112)
+}
+
+pub fn run_time(file: &[u8]) -> u64 {
+    number(file, known_layout(file).run_time, 8)
+}
+
+pub fn run_count(file: &[u8]) -> u64 {
+    number_32(file, known_layout(file).run_count)
+}
+
+pub const METRICS: u64 = 1;
+pub const TRACE: u64 = 2;
+pub const STRINGS: u64 = 3;
+pub const VOLUMES: u64 = 4;
+
+#[derive(Clone, Copy, Debug)]
+pub struct Section {
+    pub start: u64,
+    pub length: u64,
+}
+
+impl Section {
+    /// The byte after its last. Exact: neither number is near 64 bits.
+    pub fn end(&self) -> u64 {
+        self.start + self.length
+    }
+
+    pub fn is_empty(&self) -> bool {
+        self.length == 0
+    }
+
+    /// Part of the section, or nothing where it runs past the section's end.
+    pub fn part<'a>(&self, file: &'a [u8], offset: u64, length: u64) -> Option<&'a [u8]> {
+        if offset + length > self.length {
+            return None;
+        }
+        let start = (self.start + offset) as usize;
+        Some(&file[start..start + length as usize])
+    }
+}
+
+pub fn section(file: &[u8], which: u64) -> Section {
+    let (start, length) = match which {
+        METRICS => (number_32(file, 84), metrics_count(file) * known_layout(file).metrics_entry),
+        TRACE => (number_32(file, 92), trace_count(file) * TRACE_ENTRY),
+        STRINGS => (number_32(file, 100), number_32(file, 104)),
+        VOLUMES => (number_32(file, 108), number_32(file, 116)),
+        _ => unreachable!("there are four sections"),
+    };
+    Section { start, length }
+}
+
+/// Where a section ends; an empty one counts as ending at H.
+pub fn section_end(file: &[u8], which: u64) -> u64 {
+    let section = section(file, which);
+    if section.is_empty() {
+        head_end(file)
+    } else {
+        section.end()
+    }
+}

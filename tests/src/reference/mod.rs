@@ -1,0 +1,14 @@
+//! The requirements, put into Rust plainly and in their own order. Nothing
+//! here is meant to be fast, and nothing here calls the library.
+
+pub mod catalogue;
+pub mod checks;
+pub mod hashes;
+pub mod head;
+pub mod layout;
+pub mod listing;
+pub mod questions;
+pub mod readers;
+pub mod search;
+pub mod trace;
+pub mod volumes;

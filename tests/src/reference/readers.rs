@@ -1,0 +1,79 @@
+//! The part reader, the whole reader and the working buffer.
+
+use super::checks::{first_stop, Lent, Refusal, Stop};
+use super::head::*;
+use super::layout::END;
+use super::trace;
+
+#[derive(Clone, Copy, Debug, PartialEq, Eq)]
+pub struct Record {
+    pub version: u64,
+    pub declared_size: u64,
+    pub name_units: u64,
+    pub stored_hash: u64,
+    pub run_time: u64,
+    pub run_count: u64,
+    pub metrics_count: u64,
+    pub trace_count: u64,
+    pub volume_count: u64,
+    pub chain_count: u64,
+}
+
+#[derive(Clone, Copy, Debug, PartialEq, Eq)]
+pub enum Verdict {
+    Accepted(Record),
+    Refused(Refusal),
+    Wanted(u64),
+}
+
+/// A verdict, and the working buffer afterwards.
+#[derive(Clone, Debug, PartialEq, Eq)]
+pub struct Answer {
+    pub verdict: Verdict,
+    pub buffer: Vec<u32>,
+}
+
+pub fn part_reader(prefix: &[u8], places: usize) -> Answer {
+    let lent = Lent { bytes: prefix, places: places as u64 };
+    match first_stop(&lent) {
+        None => Answer {
+            verdict: Verdict::Accepted(record(prefix)),
+            buffer: trace::predecessors(prefix, places),
+        },
+        Some(Stop::Refused(refusal)) => no_acceptance(Verdict::Refused(refusal), places),
+        Some(Stop::Wanted(bytes)) => no_acceptance(Verdict::Wanted(bytes), places),
+    }
+}
+
+pub fn whole_reader(file: &[u8], places: usize) -> Answer {
+    let answer = part_reader(file, places);
+    let number = match answer.verdict {
+        Verdict::Refused(_) => return answer,
+        Verdict::Wanted(_) => 16,
+        Verdict::Accepted(record) => match record.declared_size.cmp(&(file.len() as u64)) {
+            std::cmp::Ordering::Equal => return answer,
+            std::cmp::Ordering::Greater => 16,
+            std::cmp::Ordering::Less => 17,
+        },
+    };
+    no_acceptance(Verdict::Refused(Refusal { number, index: 0 }), places)
+}
+
+fn no_acceptance(verdict: Verdict, places: usize) -> Answer {
+    Answer { verdict, buffer: vec![END; places] }
+}
+
+fn record(file: &[u8]) -> Record {
+    Record {
+        version: number_32(file, 0),
+        declared_size: declared_size(file),
+        name_units: name_units(file).expect("check 4 is passed") as u64,
+        stored_hash: stored_hash(file),
+        run_time: run_time(file),
+        run_count: run_count(file),
+        metrics_count: metrics_count(file),
+        trace_count: trace_count(file),
+        volume_count: volume_count(file),
+        chain_count: trace::chain_count(file),
+    }
+}
