@@ -14,7 +14,7 @@ use Rattle.lists.specs.declared.Found.{Found}
 use Rattle.lists.specs.declared.Found.the-variants.{At, Nothing}
 use Rattle.lists.specs.First.{first, first-clear}
 use Rattle.lists.specs.Count.{count, count-two}
-use Rattle.incremental.specs.Decision.{Decision, accept, refuse, check}
+use Rattle.incremental.specs.Decision.{Decision, accept, refuse, refusal, check}
 use Rattle.trace.specs.Links.{end, after, astray, namers, shared, cyclic, chains, linkChecks, traceChecks}
 
 -- check 11 passed
@@ -112,7 +112,11 @@ accepted s n e =
       counted = cc;
     }
 
--- with a place for each entry check 7 passes
+-- check 7, and with a place for each entry the others
 pub trace-room : (s : List ℕ) (m : ℕ) → length s ≤ m → traceChecks s m ≡ linkChecks s
 unfolding traceChecks
 trace-room s m l = rw (le-ltb m (length s) l)
+
+pub trace-small : (s : List ℕ) (m : ℕ) → m < length s → traceChecks s m ≡ refuse (refusal 7 0)
+unfolding traceChecks
+trace-small s m l = rw (lt-ltb m (length s) l)

@@ -6,3 +6,4 @@ pub mod Predecessors
 pub mod Chains
 pub mod OneChain
 pub mod Points
+pub mod Answers
