@@ -2,16 +2,15 @@
 use mathlib.Core.Path.{_≡_, refl, sym, ap, _∙_}
 use mathlib.Core.Bool.{Bool, true, false}
 use mathlib.Core.List.{List}
-use mathlib.Core.Logic.{_⊎_, inl, inr, ⊎-elim}
 use Prim.Native.Nat.{ℕ, suc, _≤_, _<_, min}
 use native.Mathlib.Nat.{le-refl}
 use native.Mathlib.Decide.{ℕ-discrete, decLt}
 use native.Mathlib.Omega.{arith}
-use borrow.Author.Tests.{eq-eqb, ne-eqb, lt-ltb, le-ltb, ltb-true, ltb-false}
 use lib.Dec.{eqb, ltb}
-use lib.ListN.{length, set, replicate}
+use lib.ListN.{set}
+use borrow.Author.Tests.{eq-eqb, ne-eqb, lt-ltb, le-ltb, ltb-true}
 use Rattle.lists.specs.First.{Least}
-use Rattle.lists.specs.Count.{count, pick, count-zero}
+use Rattle.lists.specs.Count.{pick, count-zero}
 use Rattle.lists.specs.Table.{tabulate, tabulate-replicate, set-tabulate}
 use Rattle.trace.specs.Links.{end, after, namers, predecessor, filled}
 use Rattle.trace.specs.Predecessors.{Named, none, one, named, namers-same, namers-other}

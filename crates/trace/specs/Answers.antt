@@ -10,7 +10,7 @@ use Rattle.lists.specs.First.{first}
 use Rattle.lists.specs.Count.{pick}
 use Rattle.incremental.specs.Decision.{Decision, accept, refusal, check, check-at, check-nothing}
 use Rattle.trace.specs.declared.Links.{Links}
-use Rattle.trace.specs.declared.Links.the-variants.{Chains, Refused}
+use Rattle.trace.specs.declared.Links.the-variants.{Refused}
 use Rattle.trace.specs.Links.{end, nexts, astray, shared, cyclic, chains, predecessors, filled, linksOf, linkChecks, held, LinkAnswer}
 use Rattle.trace.specs.Steps.{length-nexts}
 use Rattle.trace.specs.Accepted.{Sound, trace-room, trace-small}

@@ -12,7 +12,7 @@ use lib.ListN.{length, getD}
 use Rattle.lists.specs.Count.{count, pick, count-same}
 use Rattle.incremental.specs.Decision.{accept}
 use Rattle.trace.specs.Links.{end, after, namers, chains, predecessor, predecessors, linkChecks}
-use Rattle.trace.specs.Accepted.{Sound, accepted}
+use Rattle.trace.specs.Accepted.{accepted}
 use Rattle.trace.specs.Predecessors.{Named, none, one, named, at-predecessors}
 
 -- how many entries have the end as next

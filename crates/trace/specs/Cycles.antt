@@ -1,6 +1,6 @@
 -- Cycles: `cyclic`, which looks at as many steps as there are entries, says of each entry whether any number of steps comes back to it.
 use mathlib.Core.Path.{_≡_, refl, sym, ap, _∙_}
-use mathlib.Core.Bool.{Bool, true, false}
+use mathlib.Core.Bool.{true, false}
 use mathlib.Core.List.{List}
 use mathlib.Core.Logic.{_↔_}
 use Prim.Native.Nat.{ℕ, suc, _+_, _-_, _*_, _≤_, _<_}
@@ -10,9 +10,9 @@ use native.Mathlib.Omega.{arith}
 use borrow.Author.Tests.{eq-eqb, ne-eqb, eqb-true}
 use lib.Dec.{eqb}
 use lib.ListN.{length, List·getD-eq-default}
-use Rattle.lists.specs.Count.{some, some-yes, some-no, some-true}
+use Rattle.lists.specs.Count.{some-yes, some-no, some-true}
 use Rattle.lists.specs.Pigeon.{Twice, pigeons}
-use Rattle.trace.specs.Links.{end, after, follow, cyclic, Cyclic}
+use Rattle.trace.specs.Links.{end, follow, cyclic, Cyclic}
 use Rattle.trace.specs.Steps.{Reach, follow-add, follow-suc, follow-end, follow-times}
 
 -- an entry from which the end is reached is on no cycle

@@ -1,6 +1,5 @@
 -- In a list that passes the checks every entry is on exactly one chain.
 use mathlib.Core.Path.{_≡_, refl, sym, ap, _∙_}
-use mathlib.Core.Bool.{Bool, true, false}
 use mathlib.Core.List.{List}
 use mathlib.Core.Logic.{_⊎_, inl, inr, ⊎-elim}
 use Prim.Native.Nat.{ℕ, zero, suc, _+_, _-_, _≤_, _<_}
@@ -11,7 +10,7 @@ use lib.ListN.{length, List·getD-eq-default}
 use Rattle.lists.specs.Count.{true-false}
 use Rattle.lists.specs.Pigeon.{Twice, pigeons}
 use Rattle.incremental.specs.Decision.{accept}
-use Rattle.trace.specs.Links.{end, after, follow, predecessor, cyclic, linkChecks}
+use Rattle.trace.specs.Links.{end, after, follow, predecessor, linkChecks}
 use Rattle.trace.specs.Steps.{follow-suc}
 use Rattle.trace.specs.Cycles.{cycle-law}
 use Rattle.trace.specs.Accepted.{Distinct, Acyclic, accepted}

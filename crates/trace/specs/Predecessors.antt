@@ -1,17 +1,15 @@
 -- The table of predecessors: what its places say, for each list and for a list that passes the checks.
 use mathlib.Core.Path.{_≡_, refl, sym, ap, _∙_}
-use mathlib.Core.Bool.{Bool, true, false}
 use mathlib.Core.List.{List}
-use mathlib.Core.Logic.{_⊎_, inl, inr, ⊎-elim, _↔_}
-use Prim.Native.Nat.{ℕ, zero, suc, _+_, _≤_, _<_}
-use native.Mathlib.Nat.{le-refl, le-of-suc-le-suc, not-suc-le-zero, eq-or-lt-of-le}
+use mathlib.Core.Logic.{⊎-elim, _↔_}
+use Prim.Native.Nat.{ℕ, zero, suc, _≤_, _<_}
 use native.Mathlib.Decide.{ℕ-discrete}
 use native.Mathlib.Omega.{arith}
-use borrow.Author.Tests.{eq-eqb, ne-eqb, eqb-true}
+use borrow.Author.Tests.{eq-eqb, ne-eqb}
 use lib.Dec.{eqb}
 use lib.ListN.{length, getD}
-use Rattle.lists.specs.Count.{count, pick, count-yes, count-no, count-one, count-zero}
-use Rattle.lists.specs.Table.{tabulate, length-tabulate, getD-tabulate}
+use Rattle.lists.specs.Count.{count-yes, count-no, count-one, count-zero}
+use Rattle.lists.specs.Table.{length-tabulate, getD-tabulate}
 use Rattle.incremental.specs.Decision.{accept}
 use Rattle.trace.specs.Links.{end, after, namers, predecessor, predecessors, linkChecks}
 use Rattle.trace.specs.Accepted.{Sound, Accepted, accepted}

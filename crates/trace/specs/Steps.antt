@@ -1,11 +1,11 @@
 -- Laws of the next indexes and of the steps along them.
-use mathlib.Core.Path.{_≡_, refl, sym, ap, _∙_}
+use mathlib.Core.Path.{_≡_, refl, ap, _∙_}
 use mathlib.Core.List.{List}
 use Prim.Native.Nat.{ℕ, zero, suc, _+_, _*_, _≤_, _<_}
 use native.Mathlib.Nat.{zero-add, suc-add, suc-mul, zero-mul}
 use native.Mathlib.Omega.{arith}
-use lib.ListN.{length, getD, List·getD-eq-default}
-use Rattle.lists.specs.Table.{tabulate, length-tabulate, getD-tabulate}
+use lib.ListN.{length, List·getD-eq-default}
+use Rattle.lists.specs.Table.{length-tabulate, getD-tabulate}
 use Rattle.little_endian.specs.Number.{le}
 use Rattle.trace.specs.Links.{end, nexts, after, follow}
 

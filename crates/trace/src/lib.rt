@@ -66,7 +66,8 @@ fn first_astray(section: &[u8], entries: u32) -> Found
     Found::Nothing
 }
 
-// Entry i names `next`. `least` is the smallest entry that was named twice so far.
+// Entry i names `next`, whose place comes to hold i; END has no place in a buffer of no more places than END. `least` is the
+// smallest entry that was named twice so far.
 fn store_predecessor(buffer: &mut [u32], i: u32, next: u32, least: u32) -> u32
     ensures { λ r. ⌜ Stored i next least (now (buffer .entry)) r (now (buffer .exit)) ⌝ }
 {
@@ -164,7 +165,10 @@ fn check_cycles(section: &[u8], entries: u32, buffer: &mut [u32]) -> Links
     let found = find_cycle(section, entries, buffer);
     if let Found::At(i) = found {
         fill(buffer);
-        return Links::Refused(Refusal { number: 13, index: i });
+        return Links::Refused(Refusal {
+            number: 13,
+            index: i,
+        });
     }
     build_table(section, entries, buffer);
     Links::Chains(chain_count(entries, buffer))
@@ -178,7 +182,10 @@ fn check_shared(section: &[u8], entries: u32, buffer: &mut [u32]) -> Links
     let found = build_table(section, entries, buffer);
     if let Found::At(i) = found {
         fill(buffer);
-        return Links::Refused(Refusal { number: 12, index: i });
+        return Links::Refused(Refusal {
+            number: 12,
+            index: i,
+        });
     }
     check_cycles(section, entries, buffer)
 }
@@ -190,12 +197,18 @@ pub fn check_links(section: &[u8], entries: u32, predecessors: &mut [u32]) -> Li
 {
     if predecessors.len() < entries as usize {
         fill(predecessors);
-        return Links::Refused(Refusal { number: 7, index: 0 });
+        return Links::Refused(Refusal {
+            number: 7,
+            index: 0,
+        });
     }
     let found = first_astray(section, entries);
     if let Found::At(i) = found {
         fill(predecessors);
-        return Links::Refused(Refusal { number: 11, index: i });
+        return Links::Refused(Refusal {
+            number: 11,
+            index: i,
+        });
     }
     check_shared(section, entries, predecessors)
 }

@@ -7,13 +7,11 @@ use native.Mathlib.Omega.{arith}
 use lib.Dec.{eqb}
 use lib.ListN.{getD}
 use borrow.Author.Tests.{eq-eqb, ne-eqb}
-use Rattle.lists.specs.Count.{count, count-zero, count-yes, count-no}
-use Rattle.trace.specs.Links.{end}
 use borrow.Author.Needs.{needs}
+use Rattle.lists.specs.Count.{count, count-yes, count-no}
+use Rattle.trace.specs.Links.{end}
 use Rattle.trace.proofs.chain_count.Statement.{statement}
 use Rattle.trace.proofs.chain_count.Tie as tie
-use Rattle.trace.proofs.chain_count.Reads as reads
-use Rattle.trace.proofs.chain_count.Lts as lts
 
 abbrev Inv-loop : tie.InvT-loop
 Inv-loop entries table chains₀ i₀ chains i = (i ≤ entries) × (chains ≤ i) × (chains ≡ count (λ k. eqb (getD table k 0) end) i)
@@ -28,36 +26,28 @@ one-more p i k e q = ap (λ (n : ℕ). n + 1) e ∙ rw (add-one i, add-one (coun
 no-more : (p : ℕ → Bool) (i k : ℕ) → k ≡ count p i → p i ≡ false → k ≡ count p (i + 1)
 no-more p i k e q = e ∙ rw (add-one i) (sym (count-no p i q))
 
--- src/lib.rt:150:5
 loop-holds : tie.Need-loop-holds Inv-loop μ-loop
 unfolding count
 loop-holds c = search needs
 
--- src/lib.rt:151:18
 cast-if1 : tie.Need-cast-if1 Inv-loop μ-loop
 cast-if1 c = search needs
 
--- src/lib.rt:151:12
 mul-if1 : tie.Need-mul-if1 Inv-loop μ-loop
 mul-if1 c = search needs
 
--- src/lib.rt:151:12
 shared-slice-read-if1 : tie.Need-shared-slice-read-if1 Inv-loop μ-loop
 shared-slice-read-if1 c = search needs
 
--- src/lib.rt:152:13
 add-chains : tie.Need-add-chains Inv-loop μ-loop
 add-chains c = search needs
 
--- src/lib.rt:154:9
 add-i : tie.Need-add-i Inv-loop μ-loop
 add-i c = search needs
 
--- src/lib.rt:150:5
 loop-less : tie.Need-loop-less Inv-loop μ-loop
 loop-less c = search needs
 
--- src/lib.rt:150:5
 loop-again : tie.Need-loop-again Inv-loop μ-loop
 loop-again c = let b = c .before .before .before in
     let t = b .before .args .table .now in
@@ -69,7 +59,6 @@ loop-again c = let b = c .before .before .before in
     (λ w. (omega arith, omega (arith, w .1), w .1 ∙ no-more (λ n. eqb (getD t n 0) end) i k (v .2) (ne-eqb _ _ (w .0 .left))))
     (c .if1 .came)
 
--- src/lib.rt:144:1
 returns : tie.Need-returns Inv-loop μ-loop
 returns c = let b = c .before in
     let e : b .loop .i ≡ b .before .args .entries = omega arith in

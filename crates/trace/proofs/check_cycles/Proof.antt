@@ -1,45 +1,32 @@
 use mathlib.Core.List.{List}
+use mathlib.Core.Path.{_≡_, sym, _∙_, ap}
 use Prim.Native.Nat.{ℕ}
+use native.Mathlib.Omega.{arith}
 use lib.Dec.{eqb}
-use lib.ListN.{getD}
+use lib.ListN.{getD, length}
+use borrow.Author.Needs.{needs}
 use Rattle.lists.specs.Count.{count}
-use Rattle.trace.specs.declared.Links.the-variants.{Chains}
 use Rattle.incremental.specs.Decision.{accept}
+use Rattle.trace.specs.declared.Links.the-variants.{Chains}
 use Rattle.trace.specs.Steps.{length-nexts}
 use Rattle.trace.specs.Chains.{chains-table}
-use mathlib.Core.Path.{_≡_, sym, _∙_, ap}
-use native.Mathlib.Omega.{arith}
-use lib.ListN.{length}
 use Rattle.trace.specs.Links.{end, nexts, filled, chains, predecessors}
-use Rattle.trace.specs.Answers.{firstAstray, firstShared, firstCyclic, cycleChecks, sharedChecks, answer-at, answer-nothing, answer-small, answer-links}
-use Rattle.trace.specs.Accepted.{sound, once, distinct}
-use borrow.Author.Needs.{needs}
+use Rattle.trace.specs.Answers.{firstCyclic, answer-at, answer-nothing}
 use Rattle.trace.proofs.check_cycles.Statement.{statement}
 use Rattle.trace.proofs.check_cycles.Tie as tie
-use Rattle.trace.proofs.check_cycles.Reads as reads
-use Rattle.trace.proofs.check_cycles.Lts as lts
-use Rattle.trace.proofs.build_table.Reads as build-table-reads
-use Rattle.trace.proofs.chain_count.Reads as chain-count-reads
-use Rattle.trace.proofs.fill.Reads as fill-reads
-use Rattle.trace.proofs.find_cycle.Reads as find-cycle-reads
 
--- src/lib.rt:164:9
 find-cycle-requires : tie.Need-find-cycle-requires
 find-cycle-requires c κs = search needs
 
--- src/lib.rt:165:22
 enum-known-found : tie.Need-enum-known-found
 enum-known-found c = search needs
 
--- src/lib.rt:166:9
 fill-requires : tie.Need-fill-requires
 fill-requires c κs = search needs
 
--- src/lib.rt:167:9
 same-length : tie.Need-same-length
 same-length c = search needs
 
--- src/lib.rt:167:9
 returns : tie.Need-returns
 returns c = let a = c .before .before .before .before .before .before .before .before .before .before .before .before .before in
     let s = nexts (a .args .section .now) (a .args .entries) in
@@ -51,11 +38,9 @@ returns c = let a = c .before .before .before .before .before .before .before .b
 enum-told : tie.Need-enum-told
 enum-told c = search needs
 
--- src/lib.rt:169:5
 build-table-requires : tie.Need-build-table-requires
 build-table-requires c κs = search needs
 
--- src/lib.rt:170:19
 chain-count-requires : tie.Need-chain-count-requires
 chain-count-requires c κs = let a = c .before .before .before .before .before .before .before .before .before .before .before .before .before in
     omega (
@@ -66,11 +51,9 @@ chain-count-requires c κs = let a = c .before .before .before .before .before .
       c .before .before .before .build-table .kept .1 .1 .0,
     )
 
--- src/lib.rt:160:1
 same-length-2 : tie.Need-same-length-2
 same-length-2 c = search needs
 
--- src/lib.rt:160:1
 returns-2 : tie.Need-returns-2
 returns-2 c = let t = c .before .before .before .before .build-table in
     let n = c .before .before .before .before .before .before .enum-told .given in
@@ -82,10 +65,10 @@ returns-2 c = let t = c .before .before .before .before .build-table in
     let e = length-nexts (a .args .section .now) (a .args .entries) in
     let h : b ≡ predecessors s m = t .ensures .holds ∙ ap (predecessors s) (f .kept .1 .1 .0) in
     let k : c .chain-count .result ≡ chains s =
-        c .chain-count .ensures
-        ∙ ap (count (λ k. eqb (getD b k 0) end)) (sym e)
-        ∙ ap (λ (l : List ℕ). count (λ k. eqb (getD l k 0) end) (length s)) h
-        ∙ chains-table s m (omega (arith, e, a .fits .entries)) (a .pre .0 .room) in
+    c .chain-count .ensures
+    ∙ ap (count (λ k. eqb (getD b k 0) end)) (sym e)
+    ∙ ap (λ (l : List ℕ). count (λ k. eqb (getD l k 0) end) (length s)) h
+    ∙ chains-table s m (omega (arith, e, a .fits .entries)) (a .pre .0 .room) in
     answer-nothing 13 m (firstCyclic s) (f .result) (accept (chains s)) s b (Chains (c .chain-count .result)) (f .ensures) (n .1)
     (record { answer = ap accept k; holds = h })
 

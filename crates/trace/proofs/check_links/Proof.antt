@@ -1,53 +1,38 @@
+use mathlib.Core.Path.{sym, _∙_}
+use native.Mathlib.Omega.{arith}
+use lib.ListN.{length}
+use borrow.Author.Needs.{needs}
 use Rattle.incremental.specs.Decision.{refusal}
 use Rattle.trace.specs.declared.Links.the-variants.{Refused}
 use Rattle.trace.specs.Steps.{length-nexts}
-use Rattle.lists.specs.declared.Found.the-variants.{Nothing}
-use Rattle.incremental.specs.Decision.{accept}
-use mathlib.Core.Path.{_≡_, sym, _∙_, ap}
-use native.Mathlib.Omega.{arith}
-use lib.ListN.{length}
-use Rattle.trace.specs.Links.{end, nexts, filled, chains, predecessors}
-use Rattle.trace.specs.Answers.{firstAstray, firstShared, firstCyclic, cycleChecks, sharedChecks, answer-at, answer-nothing, answer-small, answer-links}
-use Rattle.trace.specs.Accepted.{sound, once, distinct}
-use borrow.Author.Needs.{needs}
+use Rattle.trace.specs.Links.{nexts, predecessors}
+use Rattle.trace.specs.Answers.{firstAstray, sharedChecks, answer-at, answer-nothing, answer-small, answer-links}
+use Rattle.trace.specs.Accepted.{sound}
 use Rattle.trace.proofs.check_links.Statement.{statement}
 use Rattle.trace.proofs.check_links.Tie as tie
-use Rattle.trace.proofs.check_links.Reads as reads
-use Rattle.trace.proofs.check_links.Lts as lts
-use Rattle.trace.proofs.check_shared.Reads as check-shared-reads
-use Rattle.trace.proofs.fill.Reads as fill-reads
-use Rattle.trace.proofs.first_astray.Reads as first-astray-reads
 
--- src/lib.rt:192:9
 fill-requires : tie.Need-fill-requires
 fill-requires c κs = search needs
 
--- src/lib.rt:193:9
 same-length : tie.Need-same-length
 same-length c = search needs
 
--- src/lib.rt:193:9
 returns : tie.Need-returns
 returns c = let a = c .before .before .before .before .before .before .before .args in
     answer-small (a .section .now) (a .entries) (length (a .predecessors .now)) (c .before .before .fill .last .0) (c .before .before .before .before .if1 .taken) (c .before .before .fill .ensures)
 
--- src/lib.rt:195:9
 first-astray-requires : tie.Need-first-astray-requires
 first-astray-requires c κs = search needs
 
--- src/lib.rt:196:22
 enum-known-found : tie.Need-enum-known-found
 enum-known-found c = search needs
 
--- src/lib.rt:197:9
 fill-requires-2 : tie.Need-fill-requires-2
 fill-requires-2 c κs = search needs
 
--- src/lib.rt:198:9
 same-length-2 : tie.Need-same-length-2
 same-length-2 c = search needs
 
--- src/lib.rt:198:9
 returns-2 : tie.Need-returns-2
 returns-2 c = let d = c .before .before .before .before .before .before .before in
     let a = d .before .before .before .before .args in
@@ -61,7 +46,6 @@ returns-2 c = let d = c .before .before .before .before .before .before .before 
 enum-told : tie.Need-enum-told
 enum-told c = search needs
 
--- src/lib.rt:200:5
 check-shared-requires : tie.Need-check-shared-requires
 check-shared-requires c κs = let d = c .before .before .before in
     let a = d .before .before .before .before .args in
@@ -71,11 +55,9 @@ check-shared-requires c κs = let d = c .before .before .before in
       sound = sound s (sym (d .first-astray .ensures) ∙ c .before .enum-told .given .1);
     }
 
--- src/lib.rt:188:1
 same-length-3 : tie.Need-same-length-3
 same-length-3 c = search needs
 
--- src/lib.rt:188:1
 returns-3 : tie.Need-returns-3
 returns-3 c = let r = c .before .before .check-shared in
     let n = c .before .before .before .before .enum-told .given in

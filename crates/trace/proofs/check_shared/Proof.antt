@@ -1,37 +1,26 @@
-use Rattle.lists.specs.declared.Found.the-variants.{Nothing}
-use Rattle.incremental.specs.Decision.{accept}
 use mathlib.Core.Path.{_≡_, sym, _∙_, ap}
 use native.Mathlib.Omega.{arith}
 use lib.ListN.{length}
-use Rattle.trace.specs.Links.{end, nexts, filled, chains, predecessors}
-use Rattle.trace.specs.Answers.{firstAstray, firstShared, firstCyclic, cycleChecks, sharedChecks, answer-at, answer-nothing, answer-small, answer-links}
-use Rattle.trace.specs.Accepted.{sound, once, distinct}
 use borrow.Author.Needs.{needs}
+use Rattle.lists.specs.declared.Found.the-variants.{Nothing}
+use Rattle.trace.specs.Links.{nexts, filled}
+use Rattle.trace.specs.Answers.{firstShared, cycleChecks, answer-at, answer-nothing}
+use Rattle.trace.specs.Accepted.{sound, once, distinct}
 use Rattle.trace.proofs.check_shared.Statement.{statement}
 use Rattle.trace.proofs.check_shared.Tie as tie
-use Rattle.trace.proofs.check_shared.Reads as reads
-use Rattle.trace.proofs.check_shared.Lts as lts
-use Rattle.trace.proofs.build_table.Reads as build-table-reads
-use Rattle.trace.proofs.check_cycles.Reads as check-cycles-reads
-use Rattle.trace.proofs.fill.Reads as fill-reads
 
--- src/lib.rt:178:9
 build-table-requires : tie.Need-build-table-requires
 build-table-requires c κs = search needs
 
--- src/lib.rt:179:22
 enum-known-found : tie.Need-enum-known-found
 enum-known-found c = search needs
 
--- src/lib.rt:180:9
 fill-requires : tie.Need-fill-requires
 fill-requires c κs = search needs
 
--- src/lib.rt:181:9
 same-length : tie.Need-same-length
 same-length c = search needs
 
--- src/lib.rt:181:9
 returns : tie.Need-returns
 returns c = let a = c .before .before .before .before .before .before .before .before .before .before .before .before .before in
     let s = nexts (a .args .section .now) (a .args .entries) in
@@ -43,7 +32,6 @@ returns c = let a = c .before .before .before .before .before .before .before .b
 enum-told : tie.Need-enum-told
 enum-told c = search needs
 
--- src/lib.rt:183:5
 check-cycles-requires : tie.Need-check-cycles-requires
 check-cycles-requires c κs = let t = c .before .before .before .before .before .build-table in
     let a = c .before .before .before .before .before .before .before .before .before in
@@ -51,11 +39,9 @@ check-cycles-requires c κs = let t = c .before .before .before .before .before 
     let none : firstShared s ≡ Nothing = sym (t .ensures .found) ∙ c .before .enum-told .given .1 in
     (record { room = omega (arith, a .pre .room, t .kept .1 .1 .0); sound = a .pre .sound }, distinct s (a .pre .sound) (once s none))
 
--- src/lib.rt:174:1
 same-length-2 : tie.Need-same-length-2
 same-length-2 c = search needs
 
--- src/lib.rt:174:1
 returns-2 : tie.Need-returns-2
 returns-2 c = let r = c .before .before .check-cycles in
     let n = c .before .before .before .before .enum-told .given in

@@ -1,20 +1,14 @@
 use mathlib.Core.Path.{_≡_, sym, _∙_, ap}
 use native.Mathlib.Omega.{arith}
 use lib.ListN.{length}
-use Rattle.trace.specs.Links.{filled}
 use borrow.Author.Needs.{needs}
+use Rattle.trace.specs.Links.{filled}
 use Rattle.trace.proofs.find_cycle.Statement.{statement}
 use Rattle.trace.proofs.find_cycle.Tie as tie
-use Rattle.trace.proofs.find_cycle.Reads as reads
-use Rattle.trace.proofs.find_cycle.Lts as lts
-use Rattle.trace.proofs.fill.Reads as fill-reads
-use Rattle.trace.proofs.first_cyclic.Reads as first-cyclic-reads
 
--- src/lib.rt:139:5
 fill-requires : tie.Need-fill-requires
 fill-requires c κs = search needs
 
--- src/lib.rt:140:5
 first-cyclic-requires : tie.Need-first-cyclic-requires
 first-cyclic-requires c κs = let f = c .before .before .before .fill in
     let a = c .before .before .before .before .before .before .before in
@@ -26,11 +20,9 @@ first-cyclic-requires c κs = let f = c .before .before .before .fill in
       a .pre .1,
     )
 
--- src/lib.rt:135:1
 same-length : tie.Need-same-length
 same-length c = search needs
 
--- src/lib.rt:135:1
 returns : tie.Need-returns
 returns c = search needs
 

@@ -1,19 +1,16 @@
-use mathlib.Core.Path.{_≡_, sym, _∙_, ap}
+use mathlib.Core.Path.{_≡_, sym, _∙_}
 use mathlib.Core.Logic.{⊎-elim}
-use Prim.Native.Nat.{ℕ, _-_, _≤_}
+use Prim.Native.Nat.{_-_, _≤_}
 use native.Mathlib.Omega.{arith}
 use lib.ListN.{length}
+use borrow.Author.Needs.{needs}
 use Rattle.lists.specs.First.{firstFrom, first-start, first-miss, first-hit, first-none}
-use Rattle.trace.specs.Links.{end, nexts, astray}
+use Rattle.trace.specs.Links.{nexts, astray}
 use Rattle.trace.specs.Steps.{length-nexts, after-nexts}
 use Rattle.trace.specs.Accepted.{astray-yes, astray-below, astray-end}
 use Rattle.trace.specs.Answers.{firstAstray}
-use borrow.Author.Needs.{needs}
 use Rattle.trace.proofs.first_astray.Statement.{statement}
 use Rattle.trace.proofs.first_astray.Tie as tie
-use Rattle.trace.proofs.first_astray.Reads as reads
-use Rattle.trace.proofs.first_astray.Lts as lts
-use Rattle.trace.proofs.next_at.Reads as next-at-reads
 
 abbrev Inv-loop : tie.InvT-loop
 Inv-loop section entries i₀ i = (i ≤ entries) × (firstAstray (nexts section entries) ≡ firstFrom (astray (nexts section entries)) (length (nexts section entries) - i) i)
@@ -21,19 +18,15 @@ Inv-loop section entries i₀ i = (i ≤ entries) × (firstAstray (nexts section
 abbrev μ-loop : tie.MeasureT-loop
 μ-loop section entries i₀ i = entries - i
 
--- src/lib.rt:57:5
 loop-holds : tie.Need-loop-holds Inv-loop μ-loop
 loop-holds c = let a = c .before .args in (omega arith, first-start (astray (nexts (a .section .now) (a .entries))) _)
 
--- src/lib.rt:58:13
 next-at-requires : tie.Need-next-at-requires Inv-loop μ-loop
 next-at-requires c κs = search needs
 
--- src/lib.rt:61:34
 cast-t7 : tie.Need-cast-t7 Inv-loop μ-loop
 cast-t7 c = search needs
 
--- src/lib.rt:61:17
 returns : tie.Need-returns Inv-loop μ-loop
 returns c = let b = c .before .before .before .before in
     let v = b .loop .inv in
@@ -46,15 +39,12 @@ returns c = let b = c .before .before .before .before in
     ∙ first-hit (astray s) (length s) (b .loop .i) (omega arith)
     (astray-yes s (b .loop .i) (λ z. c .before .if1 .taken (sym e ∙ z)) (omega arith)))
 
--- src/lib.rt:64:9
 add-i : tie.Need-add-i Inv-loop μ-loop
 add-i c = search needs
 
--- src/lib.rt:57:5
 loop-less : tie.Need-loop-less Inv-loop μ-loop
 loop-less c = search needs
 
--- src/lib.rt:57:5
 loop-again : tie.Need-loop-again Inv-loop μ-loop
 loop-again c = let b = c .before .before .before in
     let v = b .loop .inv in
@@ -71,7 +61,6 @@ loop-again c = let b = c .before .before .before in
           (c .if1 .came)),
     )
 
--- src/lib.rt:53:1
 returns-2 : tie.Need-returns-2 Inv-loop μ-loop
 returns-2 c = let b = c .before in
     let v = b .loop .inv in

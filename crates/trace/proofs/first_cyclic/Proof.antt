@@ -1,20 +1,16 @@
-use Rattle.lists.specs.First.{Least, foundBelow, least-first}
 use mathlib.Core.Path.{_≡_, refl, sym, _∙_, ap}
 use mathlib.Core.List.{List}
-use mathlib.Core.Logic.{_⊎_, inl, inr, ⊎-elim}
-use Prim.Native.Nat.{ℕ, _+_, _-_, _≤_, _<_}
+use mathlib.Core.Logic.{inl, inr, ⊎-elim}
+use Prim.Native.Nat.{ℕ, _-_, _≤_, _<_}
 use native.Mathlib.Omega.{arith}
-use lib.ListN.{length, getD, set, length-set}
+use lib.ListN.{length, length-set}
+use borrow.Author.Needs.{needs}
+use Rattle.lists.specs.First.{Least, foundBelow, least-first}
 use Rattle.trace.specs.Links.{end, nexts, after, cyclic}
 use Rattle.trace.specs.Steps.{length-nexts, after-nexts}
 use Rattle.trace.proofs.Marks.{unmarked, Seen, Walk, seen-none, seen-all, walk-start, walk-step, walk-found, walk-end, fewer}
-use borrow.Author.Needs.{needs}
 use Rattle.trace.proofs.first_cyclic.Statement.{statement}
 use Rattle.trace.proofs.first_cyclic.Tie as tie
-use Rattle.trace.proofs.first_cyclic.Reads as reads
-use Rattle.trace.proofs.first_cyclic.Lts as lts
-use Rattle.trace.proofs.found_below.Reads as found-below-reads
-use Rattle.trace.proofs.next_at.Reads as next-at-reads
 
 abbrev Inv-loop : tie.InvT-loop
 Inv-loop section entries marks₀ i j₀ marks j = (length marks ≡ length marks₀) × Walk (nexts section entries) marks i j
@@ -74,50 +70,40 @@ found c e =
     walk-found (links (outer c)) (small (outer c)) (h .loop .marks) (outer c .entries .i) (h .loop .j) (h .loop .inv .1) (entry (inner c)) (c .before .if1 .left)
     (sym (next-is c) ∙ e)
 
--- src/lib.rt:116:5
 entries-holds : tie.Need-entries-holds Inv-loop μ-loop Inv-entries μ-entries
 entries-holds c = let a = c .before .before in
     let s = nexts (a .args .section .now) (a .args .entries) in
     let n = length-nexts (a .args .section .now) (a .args .entries) in
     (omega arith, refl, rw (a .pre .0 .clear) (seen-none s (omega (arith, n, a .fits .entries)) (length (a .args .marks .now)) (a .pre .0 .ready .room)))
 
--- src/lib.rt:118:9
 loop-holds : tie.Need-loop-holds Inv-loop μ-loop Inv-entries μ-entries
 loop-holds c = let d = c .before in
     let v = d .entries .inv in
     (refl, walk-start (links d) (small d) (d .entries .marks) (d .entries .i) (v .2) (omega (arith, size d)))
 
--- src/lib.rt:119:22
 cast-at : tie.Need-cast-at Inv-loop μ-loop Inv-entries μ-entries
 cast-at c = omega (arith, inside c)
 
--- src/lib.rt:120:16
 mul-if1 : tie.Need-mul-if1 Inv-loop μ-loop Inv-entries μ-entries
 mul-if1 c = omega (arith, inside c)
 
--- src/lib.rt:120:16
 slice-read-if1 : tie.Need-slice-read-if1 Inv-loop μ-loop Inv-entries μ-entries
 slice-read-if1 c = inside (c .before)
 
--- src/lib.rt:123:13
 mul-marks : tie.Need-mul-marks Inv-loop μ-loop Inv-entries μ-entries
 mul-marks c = omega (arith, inside (c .before .before))
 
--- src/lib.rt:123:13
 slice-write-marks : tie.Need-slice-write-marks Inv-loop μ-loop Inv-entries μ-entries
 slice-write-marks c = inside (c .before .before)
 
--- src/lib.rt:124:13
 next-at-requires : tie.Need-next-at-requires Inv-loop μ-loop Inv-entries μ-entries
 next-at-requires c κs = tt
 
--- src/lib.rt:118:9
 loop-less : tie.Need-loop-less Inv-loop μ-loop Inv-entries μ-entries
 loop-less c = let d = c .before in
     let h = inner d .before in
     omega (arith, fewer (links (outer d)) (small (outer d)) (h .loop .marks) (outer d .entries .i) (h .loop .j) (h .loop .inv .1) (entry (inner d)) (d .before .if1 .left))
 
--- src/lib.rt:118:9
 loop-again : tie.Need-loop-again Inv-loop μ-loop Inv-entries μ-entries
 loop-again c = let d = c .before in
     let h = inner d .before in
@@ -128,15 +114,12 @@ loop-again c = let d = c .before in
           (a .pre .0 .ready .sound) (a .pre .1) (λ e. c .if2 .left (next-is d ∙ e))),
     )
 
--- src/lib.rt:129:9
 add-i : tie.Need-add-i Inv-loop μ-loop Inv-entries μ-entries
 add-i c = search needs
 
--- src/lib.rt:116:5
 entries-less : tie.Need-entries-less Inv-loop μ-loop Inv-entries μ-entries
 entries-less c = search needs
 
--- src/lib.rt:116:5
 entries-again : tie.Need-entries-again Inv-loop μ-loop Inv-entries μ-entries
 entries-again c = let h = c .before in
     let d = h .before .before in
@@ -147,11 +130,9 @@ entries-again c = let h = c .before in
           (⊎-elim (λ z. inl (z .left)) (λ z. inr (⊎-elim (λ e. absurd (z .0 .taken e)) (λ l. l) (v .1 .at), z .2 .taken)) (c .loop-test .came)),
     )
 
--- src/lib.rt:131:5
 found-below-requires : tie.Need-found-below-requires Inv-loop μ-loop Inv-entries μ-entries
 found-below-requires c κs = tt
 
--- src/lib.rt:111:1
 same-length : tie.Need-same-length Inv-loop μ-loop Inv-entries μ-entries
 same-length c = let d = c .before .before in
     ⊎-elim
@@ -159,7 +140,6 @@ same-length c = let d = c .before .before in
     (λ z. ap length (z .7) ∙ length-set (z .1 .marks) (z .1 .j) (d .entries .i) ∙ z .1 .inv .0 ∙ d .entries .inv .1)
     (c .before .entries-test .came)
 
--- src/lib.rt:111:1
 returns : tie.Need-returns Inv-loop μ-loop Inv-entries μ-entries
 returns c = let d = c .before .before in
     c .found-below .ensures

@@ -1,15 +1,10 @@
 use borrow.Author.Tests.{lt-ltb, le-ltb}
-use borrow.Author.Needs.{needs}
 use Rattle.trace.proofs.found_below.Statement.{statement}
 use Rattle.trace.proofs.found_below.Tie as tie
-use Rattle.trace.proofs.found_below.Reads as reads
-use Rattle.trace.proofs.found_below.Lts as lts
 
--- src/lib.rt:31:1
 returns : tie.Need-returns
 returns c = let a = c .before .args in rw (lt-ltb (a .i) (a .entries) (c .if1 .taken))
 
--- src/lib.rt:31:1
 returns-2 : tie.Need-returns-2
 returns-2 c = let a = c .before .args in rw (le-ltb (a .i) (a .entries) (c .if1 .left))
 

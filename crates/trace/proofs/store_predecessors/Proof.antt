@@ -1,23 +1,18 @@
-use mathlib.Core.Path.{_≡_, refl, sym, _∙_, ap}
+use mathlib.Core.Path.{_≡_, sym, _∙_, ap}
 use mathlib.Core.List.{List}
-use mathlib.Core.Logic.{_⊎_, inl, inr, ⊎-elim}
-use Prim.Native.Nat.{ℕ, _+_, _-_, _≤_, _<_}
+use mathlib.Core.Logic.{⊎-elim}
+use Prim.Native.Nat.{ℕ, _-_, _≤_}
 use native.Mathlib.Omega.{arith}
 use native.Mathlib.Numerals.{add-one}
 use lib.ListN.{length, getD}
+use borrow.Author.Needs.{needs}
 use Rattle.lists.specs.First.{first, Least, least-first}
-use Rattle.lists.specs.Table.{tabulate, length-tabulate, getD-tabulate}
+use Rattle.lists.specs.Table.{length-tabulate, getD-tabulate}
 use Rattle.trace.specs.Links.{end, nexts, after, shared, predecessor, predecessors}
 use Rattle.trace.specs.Steps.{length-nexts, after-nexts}
 use Rattle.trace.proofs.Naming.{sharedBy, table, table-none, table-more, least-none, least-end, least-more}
-use borrow.Author.Needs.{needs}
 use Rattle.trace.proofs.store_predecessors.Statement.{statement}
 use Rattle.trace.proofs.store_predecessors.Tie as tie
-use Rattle.trace.proofs.store_predecessors.Reads as reads
-use Rattle.trace.proofs.store_predecessors.Lts as lts
-use Rattle.trace.proofs.found_below.Reads as found-below-reads
-use Rattle.trace.proofs.next_at.Reads as next-at-reads
-use Rattle.trace.proofs.store_predecessor.Reads as store-predecessor-reads
 
 abbrev Inv-loop : tie.InvT-loop
 Inv-loop section entries buffer₀ least₀ i₀ buffer least i = (i ≤ entries) × (buffer ≡ table (nexts section entries) (length buffer₀) i) × Least (sharedBy (nexts section entries) i) entries least
@@ -25,29 +20,23 @@ Inv-loop section entries buffer₀ least₀ i₀ buffer least i = (i ≤ entries
 abbrev μ-loop : tie.MeasureT-loop
 μ-loop section entries buffer₀ least₀ i₀ buffer least i = entries - i
 
--- src/lib.rt:92:5
 loop-holds : tie.Need-loop-holds Inv-loop μ-loop
 loop-holds c = let a = c .before .before in
     let s = nexts (a .args .section .now) (a .args .entries) in
     (omega arith, a .pre .clear ∙ table-none s (length (a .args .buffer .now)), least-none s (a .args .entries))
 
--- src/lib.rt:93:13
 next-at-requires : tie.Need-next-at-requires Inv-loop μ-loop
 next-at-requires c κs = search needs
 
--- src/lib.rt:94:9
 store-predecessor-requires : tie.Need-store-predecessor-requires Inv-loop μ-loop
 store-predecessor-requires c κs = search needs
 
--- src/lib.rt:95:9
 add-i : tie.Need-add-i Inv-loop μ-loop
 add-i c = search needs
 
--- src/lib.rt:92:5
 loop-less : tie.Need-loop-less Inv-loop μ-loop
 loop-less c = search needs
 
--- src/lib.rt:92:5
 loop-again : tie.Need-loop-again Inv-loop μ-loop
 loop-again c = let b = c .before .before .before .before .before .before in
     let a = b .before .before .before in
@@ -67,19 +56,16 @@ loop-again c = let b = c .before .before .before .before .before .before in
           (⊎-elim
           (λ z. least-end s i (a .args .entries) (b .loop .least) w (omega arith) (omega arith) (v .2) z)
           (λ z. least-more s i (a .args .entries) (b .loop .least) w (omega arith) (omega arith) (v .2) (omega (arith, z))
-              (ap (λ (l : List ℕ). getD l (after s i) end) (v .1) ∙ getD-tabulate m (predecessor s i) (after s i) end (omega (arith, z, r))))
+          (ap (λ (l : List ℕ). getD l (after s i) end) (v .1) ∙ getD-tabulate m (predecessor s i) (after s i) end (omega (arith, z, r))))
           (a .pre .ready .sound i (omega arith)))),
     )
 
--- src/lib.rt:97:5
 found-below-requires : tie.Need-found-below-requires Inv-loop μ-loop
 found-below-requires c κs = search needs
 
--- src/lib.rt:86:1
 same-length : tie.Need-same-length Inv-loop μ-loop
 same-length c = ap length (c .before .before .loop .inv .1) ∙ length-tabulate _ _
 
--- src/lib.rt:86:1
 returns : tie.Need-returns Inv-loop μ-loop
 unfolding predecessors
 returns c = let b = c .before .before in
