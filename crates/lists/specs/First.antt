@@ -3,7 +3,7 @@ use mathlib.Core.Path.{_≡_, refl, ap, sym, _∙_}
 use mathlib.Core.Bool.{Bool, true, false}
 use Prim.Native.Nat.{ℕ, zero, suc, _+_, _-_, _<_, _≤_}
 use native.Mathlib.Omega.{arith}
-use native.Mathlib.Nat.{sub-zero, add-suc, add-zero}
+use native.Mathlib.Nat.{sub-zero, zero-add, add-suc, add-zero}
 use native.Mathlib.Numerals.{add-one}
 use lib.Dec.{ltb}
 use borrow.Author.Tests.{ltb-true, ltb-false}
@@ -59,6 +59,9 @@ first-clear test (suc n) i e k l = go (test i) refl k l (first-clear test n (suc
         let w : firstFrom test n (suc i) ≡ Nothing = rw q at z in
         let s : suc i + k ≡ i + suc k = omega arith in
         rw (← s) (ih w k (omega arith))
+
+pub first-nothing : (test : ℕ → Bool) (n : ℕ) → first test n ≡ Nothing → (k : ℕ) → k < n → test k ≡ false
+first-nothing test n e k l = ap test (sym (zero-add k)) ∙ first-clear test n 0 e k l
 
 -- where the indexes below r fail the test, the search goes on at r
 pub first-skip : (test : ℕ → Bool) (n r : ℕ) → r ≤ n → ((k : ℕ) → k < r → test k ≡ false) → first test n ≡ firstFrom test (n - r) r

@@ -30,8 +30,8 @@ set-cases b j v m l = go (ℕ-discrete m j)
     go (no n) = inr (n, getD-set-other b j m v 0 n)
 
 -- an entry marked in walk i names m
-abbrev pub Named : List ℕ → List ℕ → ℕ → ℕ → Type 0
-Named s b i m = (p : ℕ) × (p < length s) × (getD b p 0 ≡ i) × (after s p ≡ m)
+abbrev pub FromMarked : List ℕ → List ℕ → ℕ → ℕ → Type 0
+FromMarked s b i m = (p : ℕ) × (p < length s) × (getD b p 0 ≡ i) × (after s p ≡ m)
 
 -- before walk i: each mark is an earlier walk's, and from each marked entry the end is reached
 pub record Seen (s b : List ℕ) (i : ℕ) : Type 0 where
@@ -47,10 +47,10 @@ pub record Walk (s b : List ℕ) (i j : ℕ) : Type 0 where
   pub known : (m : ℕ) → m < length s → (getD b m 0 ≡ end) ⊎ (getD b m 0 ≤ i)
   pub ends : (m : ℕ) → m < length s → getD b m 0 < i → Reach s m end
   pub below : (m : ℕ) → m < i → getD b m 0 < i
-  pub walked : (m : ℕ) → m < length s → getD b m 0 ≡ i → Reach s m j × (m ≡ j → ⊥) × ((m ≡ i) ⊎ Named s b i m)
+  pub walked : (m : ℕ) → m < length s → getD b m 0 ≡ i → Reach s m j × (m ≡ j → ⊥) × ((m ≡ i) ⊎ FromMarked s b i m)
   pub at : (j ≡ end) ⊎ (j < length s)
   pub from : (k : ℕ) × (follow s k i ≡ j) × (k + unmarked s b ≤ length s)
-  pub came : (j ≡ i) ⊎ ((getD b i 0 ≡ i) × Named s b i j)
+  pub came : (j ≡ i) ⊎ ((getD b i 0 ≡ i) × FromMarked s b i j)
 
 module _ (s : List ℕ) (small : length s ≤ end) where
   pub seen-none : (n : ℕ) → length s ≤ n → Seen s (replicate n end) 0
@@ -116,25 +116,25 @@ module _ (s : List ℕ) (small : length s ≤ end) where
       marked : (p : ℕ) → getD b p 0 ≡ i → p ≡ j → ⊥
       marked p q z = i≢end (sym q ∙ ap (λ (x : ℕ). getD b x 0) z ∙ e)
 
-      keeps : (m : ℕ) → Named s b i m → Named s (set b j i) i m
+      keeps : (m : ℕ) → FromMarked s b i m → FromMarked s (set b j i) i m
       keeps m n = (n .0, n .1, ⊎-elim (λ c. c .1) (λ c. c .1 ∙ n .2) (set-cases b j i (n .0) in-range), n .3)
 
       -- j and a marked entry do not both name m
-      clash : (m : ℕ) → m < length s → Named s b i m → after s j ≡ m → ⊥
+      clash : (m : ℕ) → m < length s → FromMarked s b i m → after s j ≡ m → ⊥
       clash m h n q = marked (n .0) (n .2) (distinct (n .0) j (n .1) l (n .3 ∙ sym q) (λ z. let y : m ≡ end = sym (n .3) ∙ z in omega arith))
 
       walked′ : (m : ℕ) → m < length s → getD (set b j i) m 0 ≡ i
-          → Reach s m (after s j) × (m ≡ after s j → ⊥) × ((m ≡ i) ⊎ Named s (set b j i) i m)
+          → Reach s m (after s j) × (m ≡ after s j → ⊥) × ((m ≡ i) ⊎ FromMarked s (set b j i) i m)
       walked′ m h q = ⊎-elim here other (set-cases b j i m in-range)
         where
-          here : ((m ≡ j) × (getD (set b j i) m 0 ≡ i)) → Reach s m (after s j) × (m ≡ after s j → ⊥) × ((m ≡ i) ⊎ Named s (set b j i) i m)
+          here : ((m ≡ j) × (getD (set b j i) m 0 ≡ i)) → Reach s m (after s j) × (m ≡ after s j → ⊥) × ((m ≡ i) ⊎ FromMarked s (set b j i) i m)
           here c = (
             (0, follow-one s m ∙ ap (after s) (c .0)),
             (λ z. ⊎-elim (λ (y : j ≡ i). r (sym z ∙ c .0 ∙ y)) (λ y. clash j l (y .1) (sym z ∙ c .0)) (w .came)),
             ⊎-elim (λ (y : j ≡ i). inl (c .0 ∙ y)) (λ y. inr (rw (c .0) (keeps j (y .1)))) (w .came),
           )
 
-          other : ((m ≡ j → ⊥) × (getD (set b j i) m 0 ≡ getD b m 0)) → Reach s m (after s j) × (m ≡ after s j → ⊥) × ((m ≡ i) ⊎ Named s (set b j i) i m)
+          other : ((m ≡ j → ⊥) × (getD (set b j i) m 0 ≡ getD b m 0)) → Reach s m (after s j) × (m ≡ after s j → ⊥) × ((m ≡ i) ⊎ FromMarked s (set b j i) i m)
           other c =
               let o = w .walked m h (sym (c .1) ∙ q) in (
                 (suc (o .0 .0), follow-suc s (suc (o .0 .0)) m j (o .0 .1)),

@@ -1,10 +1,9 @@
 -- What the checks that passed say of a list of next indexes.
-use mathlib.Core.Path.{_≡_, refl, sym, ap, _∙_}
+use mathlib.Core.Path.{_≡_, refl, sym}
 use mathlib.Core.Bool.{Bool, true, false, not, _&&_}
 use mathlib.Core.List.{List}
 use mathlib.Core.Logic.{_⊎_, inl, inr, ⊎-elim}
 use Prim.Native.Nat.{ℕ, _≤_, _<_}
-use native.Mathlib.Nat.{zero-add}
 use native.Mathlib.Decide.{ℕ-discrete, decLt}
 use native.Mathlib.Omega.{arith}
 use borrow.Author.Tests.{ltb-true, ltb-false, lt-ltb, le-ltb, eqb-true, eq-eqb, ne-eqb, not-false}
@@ -12,7 +11,7 @@ use lib.Dec.{ltb, eqb}
 use lib.ListN.{length}
 use Rattle.lists.specs.declared.Found.{Found}
 use Rattle.lists.specs.declared.Found.the-variants.{At, Nothing}
-use Rattle.lists.specs.First.{first, first-clear}
+use Rattle.lists.specs.First.{first, first-nothing}
 use Rattle.lists.specs.Count.{count, count-two}
 use Rattle.incremental.specs.Decision.{Decision, accept, refuse, refusal, check}
 use Rattle.trace.specs.Links.{end, after, astray, namers, shared, cyclic, chains, linkChecks, traceChecks}
@@ -50,18 +49,15 @@ astray-below s i l = rw (lt-ltb (after s i) (length s) l) (go (eqb (after s i) e
 pub astray-yes : (s : List ℕ) (i : ℕ) → (after s i ≡ end → ⊥) → length s ≤ after s i → astray s i ≡ true
 astray-yes s i n l = rw (ne-eqb (after s i) end n, le-ltb (after s i) (length s) l)
 
--- where a search finds nothing, every index fails its test
-clear : (test : ℕ → Bool) (n : ℕ) → first test n ≡ Nothing → (k : ℕ) → k < n → test k ≡ false
-clear test n e k l = ap test (sym (zero-add k)) ∙ first-clear test n 0 e k l
-
+-- a check's search that found nothing
 pub sound : (s : List ℕ) → first (astray s) (length s) ≡ Nothing → Sound s
-sound s e i l = astray-no s i (clear (astray s) (length s) e i l)
+sound s e i l = astray-no s i (first-nothing (astray s) (length s) e i l)
 
 pub once : (s : List ℕ) → first (shared s) (length s) ≡ Nothing → (j : ℕ) → j < length s → namers s (length s) j ≤ 1
-once s e j l = ltb-false 1 (namers s (length s) j) (clear (shared s) (length s) e j l)
+once s e j l = ltb-false 1 (namers s (length s) j) (first-nothing (shared s) (length s) e j l)
 
 pub acyclic : (s : List ℕ) → first (cyclic s) (length s) ≡ Nothing → Acyclic s
-acyclic s e i l = clear (cyclic s) (length s) e i l
+acyclic s e i l = first-nothing (cyclic s) (length s) e i l
 
 pub distinct : (s : List ℕ) → Sound s → ((j : ℕ) → j < length s → namers s (length s) j ≤ 1) → Distinct s
 unfolding namers
