@@ -3,8 +3,10 @@ use mathlib.Core.Path.{_≡_, refl, ap, sym, _∙_}
 use mathlib.Core.Bool.{Bool, true, false}
 use Prim.Native.Nat.{ℕ, zero, suc, _+_, _-_, _<_, _≤_}
 use native.Mathlib.Omega.{arith}
-use native.Mathlib.Nat.{sub-zero, add-suc, add-zero}
+use native.Mathlib.Nat.{sub-zero, zero-add, add-suc, add-zero}
 use native.Mathlib.Numerals.{add-one}
+use lib.Dec.{ltb}
+use borrow.Author.Tests.{ltb-true, ltb-false}
 use Rattle.lists.specs.declared.Found.{Found}
 use Rattle.lists.specs.declared.Found.the-variants.{At, Nothing}
 
@@ -57,3 +59,36 @@ first-clear test (suc n) i e k l = go (test i) refl k l (first-clear test n (suc
         let w : firstFrom test n (suc i) ≡ Nothing = rw q at z in
         let s : suc i + k ≡ i + suc k = omega arith in
         rw (← s) (ih w k (omega arith))
+
+pub first-nothing : (test : ℕ → Bool) (n : ℕ) → first test n ≡ Nothing → (k : ℕ) → k < n → test k ≡ false
+first-nothing test n e k l = ap test (sym (zero-add k)) ∙ first-clear test n 0 e k l
+
+-- where the indexes below r fail the test, the search goes on at r
+pub first-skip : (test : ℕ → Bool) (n r : ℕ) → r ≤ n → ((k : ℕ) → k < r → test k ≡ false) → first test n ≡ firstFrom test (n - r) r
+first-skip test n zero l f = first-start test n
+first-skip test n (suc r) l f =
+    first-skip test n r (omega arith) (λ k h. f k (omega arith)) ∙ rw (← add-one r) (first-miss test n r (omega arith) (f r (omega arith)))
+
+-- r passes and none below it does; and none passes
+pub first-is-at : (test : ℕ → Bool) (n r : ℕ) → r < n → test r ≡ true → ((k : ℕ) → k < r → test k ≡ false) → first test n ≡ At r
+first-is-at test n r l e f = first-skip test n r (omega arith) f ∙ first-hit test n r l e
+
+pub first-is-nothing : (test : ℕ → Bool) (n : ℕ) → ((k : ℕ) → k < n → test k ≡ false) → first test n ≡ Nothing
+first-is-nothing test n f = first-skip test n n (omega arith) f ∙ first-none test n n (omega arith)
+
+-- the same search by a number: the first index below n that passes the test, or n where none does
+pub record Least (test : ℕ → Bool) (n r : ℕ) : Type 0 where
+  pub most : r ≤ n
+  pub below : (k : ℕ) → k < r → test k ≡ false
+  pub here : r < n → test r ≡ true
+
+-- what such a number says
+abbrev pub foundBelow : ℕ → ℕ → Found
+foundBelow n r = pickFound (ltb r n) (At r) Nothing
+
+pub least-first : (test : ℕ → Bool) (n r : ℕ) → Least test n r → foundBelow n r ≡ first test n
+least-first test n r q = go (ltb r n) refl
+  where
+    go : (b : Bool) → ltb r n ≡ b → pickFound b (At r) Nothing ≡ first test n
+    go true e = sym (first-is-at test n r (ltb-true r n e) (q .here (ltb-true r n e)) (q .below))
+    go false e = sym (first-is-nothing test n (λ k h. q .below k (omega (arith, ltb-false r n e))))

@@ -2,3 +2,4 @@ pub mod First
 pub mod Count
 pub mod Table
 pub mod Tests
+pub mod Pigeon

@@ -1,0 +1,33 @@
+use mathlib.Core.Path.{_≡_, sym, _∙_, ap}
+use native.Mathlib.Omega.{arith}
+use lib.ListN.{length}
+use borrow.Author.Needs.{needs}
+use Rattle.trace.specs.Links.{nexts, filled, predecessors}
+use Rattle.trace.proofs.build_table.Statement.{statement}
+use Rattle.trace.proofs.build_table.Tie as tie
+
+fill-requires : tie.Need-fill-requires
+fill-requires c κs = search needs
+
+store-predecessors-requires : tie.Need-store-predecessors-requires
+store-predecessors-requires c κs = let f = c .before .before .before .fill in
+    let a = c .before .before .before .before .before .before .before in
+    let e : length (f .last .0) ≡ length (a .args .buffer .now) = f .kept .0 in
+    record {
+      ready = record { room = omega (arith, e, a .pre .room); sound = a .pre .sound };
+      clear = f .ensures ∙ ap filled (sym e);
+    }
+
+same-length : tie.Need-same-length
+same-length c = search needs
+
+returns : tie.Need-returns
+returns c = let f = c .before .before .before .before .before .before .fill in
+    let a = c .before .before .before .before .before .before .before .before .before .before in
+    let s = nexts (a .args .section .now) (a .args .entries) in
+    let q = c .before .before .store-predecessors .ensures in
+    record { found = q .found; holds = q .holds ∙ ap (predecessors s) (f .kept .0) }
+
+pub build-table-spec : {M : Type 1} → statement M
+build-table-spec =
+    tie.close (tie.spec fill-requires store-predecessors-requires same-length returns)

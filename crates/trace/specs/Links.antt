@@ -1,0 +1,99 @@
+-- Checks 11, 12 and 13 of document 01 on the next indexes of a trace section, the table of predecessors and the chain count.
+use mathlib.Core.Path.{_≡_}
+use mathlib.Core.Bool.{Bool, true, false, not, _&&_}
+use mathlib.Core.List.{List, [], _∷_}
+use Prim.Native.Nat.{ℕ, zero, suc, _+_, _*_}
+use lib.Dec.{ltb, eqb}
+use lib.ListN.{length, getD, replicate}
+use Rattle.lists.specs.First.{first}
+use Rattle.lists.specs.Table.{tabulate}
+use Rattle.lists.specs.Count.{some, count, pick}
+use Rattle.little_endian.specs.Number.{le}
+use Rattle.incremental.specs.Decision.{Decision, accept, refuse, refusal, check}
+use Rattle.trace.specs.declared.Links.{Links}
+use Rattle.trace.specs.declared.Links.the-variants.{Chains, Refused}
+
+-- the next index that ends a chain; document 01's 4,294,967,295
+abbrev pub end : ℕ
+end = 4294967295
+
+-- the next indexes of a trace section of so many entries: the first four of each twelve bytes
+unfoldable pub nexts : List ℕ → ℕ → List ℕ
+nexts section entries = tabulate entries (λ i. le 4 section (12 * i))
+
+-- the entry after entry i; outside the list, the end
+abbrev pub after : List ℕ → ℕ → ℕ
+after s i = getD s i end
+
+-- the entry k steps after entry i
+unfoldable pub follow : List ℕ → ℕ → ℕ → ℕ
+follow s zero i = i
+follow s (suc k) i = follow s k (after s i)
+
+-- 11: entry i's next index is neither 4,294,967,295 nor below the trace count
+abbrev pub astray : List ℕ → ℕ → Bool
+astray s i = not (eqb (after s i) end) && not (ltb (after s i) (length s))
+
+-- how many of the first i entries name j as next
+unfoldable pub namers : List ℕ → ℕ → ℕ → ℕ
+namers s i j = count (λ k. eqb (after s k) j) i
+
+-- 12: j is named as next by two or more entries
+abbrev pub shared : List ℕ → ℕ → Bool
+shared s j = ltb 1 (namers s (length s) j)
+
+-- 13: following next from entry i comes back to it, in as many steps as there are entries (`cycle-law`: in any number of steps)
+unfoldable pub cyclic : List ℕ → ℕ → Bool
+cyclic s i = some (λ k. eqb (follow s (suc k) i) i) (length s)
+
+-- following next from entry i comes back to it
+abbrev pub Cyclic : List ℕ → ℕ → Type 0
+Cyclic s i = (k : ℕ) × (follow s (suc k) i ≡ i)
+
+-- the chain count: the entries that no entry names as next
+unfoldable pub chains : List ℕ → ℕ
+chains s = count (λ j. eqb (namers s (length s) j) 0) (length s)
+
+-- the entry below i that names j as next, and the end where none does
+unfoldable pub predecessor : List ℕ → ℕ → ℕ → ℕ
+predecessor s zero j = end
+predecessor s (suc i) j = pick (eqb (after s i) j) i (predecessor s i j)
+
+-- the working buffer, of m places, after an acceptance: place j holds the entry that names j as next
+unfoldable pub predecessors : List ℕ → ℕ → List ℕ
+predecessors s m = tabulate m (predecessor s (length s))
+
+-- the working buffer after anything else
+abbrev pub filled : ℕ → List ℕ
+filled m = replicate m end
+
+-- what each case of the answer says
+abbrev pub linksOf : Links → Decision ℕ
+linksOf (Chains n) = accept n
+linksOf (Refused r) = refuse r
+
+-- checks 11, 12 and 13 in their order; what passes them has its chain count
+unfoldable pub linkChecks : List ℕ → Decision ℕ
+linkChecks s =
+    check 11 (first (astray s) (length s))
+    (check 12 (first (shared s) (length s))
+    (check 13 (first (cyclic s) (length s))
+    (accept (chains s))))
+
+-- before them check 7: a buffer of m places has a place for each entry
+unfoldable pub traceChecks : List ℕ → ℕ → Decision ℕ
+traceChecks s m = roomFor (ltb m (length s)) (linkChecks s)
+  where
+    roomFor : Bool → Decision ℕ → Decision ℕ
+    roomFor true later = refuse (refusal 7 0)
+    roomFor false later = later
+
+-- what the buffer of m places holds after a decision
+abbrev pub held : Decision ℕ → List ℕ → ℕ → List ℕ
+held (accept n) s m = predecessors s m
+held (refuse r) s m = filled m
+
+-- the answer and the buffer after it, which had m places
+pub record LinkAnswer (section : List ℕ) (entries m : ℕ) (r : Links) (buffer : List ℕ) : Type 0 where
+  pub answer : linksOf r ≡ traceChecks (nexts section entries) m
+  pub holds : buffer ≡ held (traceChecks (nexts section entries) m) (nexts section entries) m
