@@ -1,6 +1,6 @@
 -- Laws on the checks of a volumes section: what each way through the code decides, and what it means that all volumes pass.
-use mathlib.Core.Path.{_≡_, refl, sym, ap, _∙_}
-use mathlib.Core.Bool.{Bool, true, false, _&&_, _||_}
+use mathlib.Core.Path.{_≡_, refl, sym}
+use mathlib.Core.Bool.{Bool, true, false}
 use mathlib.Core.List.{List}
 use mathlib.Core.Logic.{_↔_}
 use Prim.Native.Nat.{ℕ, zero, suc, _+_, _-_, _*_, _^_, _≤_, _<_}
@@ -10,7 +10,6 @@ use native.Mathlib.Omega.{arith}
 use lib.Dec.{leb, eqb}
 use lib.ListN.{length}
 use borrow.Author.Tests.{le-leb, lt-leb, eq-eqb, ne-eqb}
-use Rattle.lists.specs.Count.{pick}
 use Rattle.lists.specs.First.{first}
 use Rattle.lists.specs.declared.Found.the-variants.{At, Nothing}
 use Rattle.little_endian.specs.Number.{le}
@@ -21,9 +20,8 @@ use Rattle.incremental.specs.Decision.{Decision, accept, refuse, refusal, check
 use Rattle.incremental.specs.declared.Checked.{Checked}
 use Rattle.incremental.specs.declared.Refusal.{Refusal}
 use Rattle.volumes.specs.declared.Cursor.{Cursor}
-use Rattle.volumes.specs.declared.Step.{Step}
 use Rattle.volumes.specs.declared.Step.the-variants.{Next, Past, Unended}
-use Rattle.volumes.specs.Volumes.{entryAt, pathAt, pathCount, pathFits, pathUnits, orAll, referencesAt, referencesSize, referenceCount, referencesFit, stepAt, directoryCount, directoriesAt, directoryChecks, entryChecks, volumeChecks, volumesFrom, volumesChecks, also, unless, onStep, pickStep}
+use Rattle.volumes.specs.Volumes.{entryAt, pathAt, pathCount, pathFits, pathUnits, referencesAt, referencesSize, referenceCount, referencesFit, stepAt, directoryCount, directoriesAt, directoryChecks, entryChecks, volumeChecks, volumesFrom, volumesChecks, also}
 
 -- An entry starts where no sum with it wraps
 pub entry-low : (v : Version) (i : ℕ) → i < 2 ^ 32 → entryAt v i < 2 ^ 40

@@ -3,7 +3,7 @@ ghost use mathlib.Core.Path.{_≡_};
 ghost use Prim.Native.Nat.{_<_, _^_};
 ghost use lib.Dec.{eqb};
 ghost use Rattle.lists.specs.Count.{pick};
-ghost use Rattle.incremental.specs.Decision.{checkedOf};
+ghost use Rattle.incremental.specs.Decision.{checkedOf, refusal};
 ghost use Rattle.volumes.specs.Volumes.{stepAt, entryAt, volumeChecks, volumesChecks, volumeOf, referenceOf};
 ghost use Rattle.volumes.specs.Volumes.{pathFits, pathAt, pathCount, pathUnits, referenceCount, referencesFit, directoryChecks, directoryCount, directoriesAt, entryChecks};
 use incremental::Checked;
@@ -62,6 +62,16 @@ pub struct Volume {
 pub struct Reference {
     pub index: u64,
     pub sequence: u16,
+}
+
+// The refusal of a check for volume i.
+fn refused(number: u32, i: u32) -> Checked
+    ensures { λ r. ⌜ r ≡ Checked.Refused (refusal number i) ⌝ }
+{
+    Checked::Refused(Refusal {
+        number: number,
+        index: i as usize,
+    })
 }
 
 // Where volume entry i starts: below 2^40, so that no sum with it wraps.
@@ -132,18 +142,8 @@ fn check_directories(section: &[u8], i: u32, entry: usize) -> Checked
             Step::Next(next) => {
                 cursor = next;
             }
-            Step::Past => {
-                return Checked::Refused(Refusal {
-                    number: 14,
-                    index: i as usize,
-                });
-            }
-            Step::Unended => {
-                return Checked::Refused(Refusal {
-                    number: 15,
-                    index: i as usize,
-                });
-            }
+            Step::Past => return refused(14, i),
+            Step::Unended => return refused(15, i),
         }
         done += 1;
     }
@@ -156,16 +156,10 @@ fn check_entry(section: &[u8], i: u32, entry: usize) -> Checked
     ensures { λ r. ⌜ checkedOf r ≡ entryChecks (now (section .entry)) i entry ⌝ }
 {
     if !path_fits(section, entry) {
-        return Checked::Refused(Refusal {
-            number: 14,
-            index: i as usize,
-        });
+        return refused(14, i);
     }
     if !references_fit(section, entry) {
-        return Checked::Refused(Refusal {
-            number: 14,
-            index: i as usize,
-        });
+        return refused(14, i);
     }
     check_directories(section, i, entry)
 }
@@ -184,10 +178,7 @@ pub fn check_volumes(section: &[u8], version: Version, count: u32) -> Checked
     let layout = Layout::of(version);
     let size = layout.volume;
     if section.len() < count as usize * size {
-        return Checked::Refused(Refusal {
-            number: 8,
-            index: 0,
-        });
+        return refused(8, 0);
     }
     let mut i = 0;
     while i < count {

@@ -1,15 +1,12 @@
-use Rattle.volumes.specs.Volumes.{directoryChecks, directoryCount, directoriesAt}
-use Rattle.volumes.specs.VolumeLaws.{directories-start, directories-next, directories-past, directories-unended, directories-end}
 use mathlib.Core.Path.{_≡_, sym, ap, _∙_}
-use Prim.Native.Nat.{ℕ, _≤_, _<_, _-_}
+use Prim.Native.Nat.{ℕ, _≤_, _-_}
 use native.Mathlib.Omega.{arith}
 use borrow.Author.Needs.{needs}
+use Rattle.incremental.specs.Decision.{checkedOf}
+use Rattle.volumes.specs.Volumes.{directoryChecks, directoryCount, directoriesAt}
+use Rattle.volumes.specs.VolumeLaws.{directories-start, directories-next, directories-past, directories-unended, directories-end}
 use Rattle.volumes.proofs.check_directories.Statement.{statement}
 use Rattle.volumes.proofs.check_directories.Tie as tie
-use Rattle.volumes.proofs.check_directories.Reads as reads
-use Rattle.volumes.proofs.check_directories.Lts as lts
-use Rattle.little_endian.proofs.u32_at.Reads as u32-at-reads
-use Rattle.volumes.proofs.Cursor.step.Reads as step-reads
 
 abbrev Inv-loop : tie.InvT-loop
 Inv-loop section i entry count start cursor₀ done₀ cursor done = (done ≤ count) × (directoryChecks section i (directoryCount section entry) (directoriesAt section entry) ≡ directoryChecks section i (count - done) (cursor .at))
@@ -17,76 +14,66 @@ Inv-loop section i entry count start cursor₀ done₀ cursor done = (done ≤ c
 abbrev μ-loop : tie.MeasureT-loop
 μ-loop section i entry count start cursor₀ done₀ cursor done = count - done
 
--- src/lib.rt:121:48
 add-u32-at : tie.Need-add-u32-at Inv-loop μ-loop
 add-u32-at c = search needs
 
--- src/lib.rt:121:9
 u32-at-requires : tie.Need-u32-at-requires Inv-loop μ-loop
 u32-at-requires c κs = search needs
 
--- src/lib.rt:122:48
 add-u32-at-2 : tie.Need-add-u32-at-2 Inv-loop μ-loop
 add-u32-at-2 c = search needs
 
--- src/lib.rt:122:17
 u32-at-requires-2 : tie.Need-u32-at-requires-2 Inv-loop μ-loop
 u32-at-requires-2 c κs = search needs
 
--- src/lib.rt:122:17
 cast-start : tie.Need-cast-start Inv-loop μ-loop
 cast-start c = search needs
 
--- src/lib.rt:125:5
 loop-holds : tie.Need-loop-holds Inv-loop μ-loop
 loop-holds c =
     let a = c .before .before .before .args in
     let s = a .section .now in
     (omega arith, ap (λ (n : ℕ). directoryChecks s (a .i) n (directoriesAt s (a .entry))) (sym (c .before .u32-at .ensures)) ∙ ap (λ (x : ℕ). directoryChecks s (a .i) (c .before .u32-at .result) x) (sym (c .u32-at2 .ensures)) ∙ directories-start _ _ _ _)
 
--- src/lib.rt:126:15
 step-requires : tie.Need-step-requires Inv-loop μ-loop
 step-requires c κs = search needs
 
--- src/lib.rt:127:24
 enum-known-next : tie.Need-enum-known-next Inv-loop μ-loop
 enum-known-next c = search needs
 
--- src/lib.rt:131:70
 enum-told : tie.Need-enum-told Inv-loop μ-loop
 enum-told c = search needs
 
--- src/lib.rt:131:17
+refused-requires : tie.Need-refused-requires Inv-loop μ-loop
+refused-requires c κs = search needs
+
 returns : tie.Need-returns Inv-loop μ-loop
 returns c =
-    let w = c .before .before .before .before .loop in
-    sym (w .inv .1 ∙ directories-past _ _ _ _ _ (omega arith) (sym (c .before .before .step .ensures) ∙ c .enum-told .given .1))
+    let w = c .before .before .before .before .before .loop in
+    ap checkedOf (c .refused .ensures) ∙ sym (w .inv .1 ∙ directories-past _ _ _ _ _ (omega arith) (sym (c .before .before .before .step .ensures) ∙ c .before .enum-told .given .1))
 
--- src/lib.rt:134:70
 enum-told-2 : tie.Need-enum-told-2 Inv-loop μ-loop
 enum-told-2 c = search needs
 
--- src/lib.rt:134:17
+refused-requires-2 : tie.Need-refused-requires-2 Inv-loop μ-loop
+refused-requires-2 c κs = search needs
+
 returns-2 : tie.Need-returns-2 Inv-loop μ-loop
 returns-2 c =
-    let w = c .before .before .before .before .loop in
-    sym (w .inv .1 ∙ directories-unended _ _ _ _ _ (omega arith) (sym (c .before .before .step .ensures) ∙ c .enum-told2 .given .1))
+    let w = c .before .before .before .before .before .loop in
+    ap checkedOf (c .refused2 .ensures) ∙ sym (w .inv .1 ∙ directories-unended _ _ _ _ _ (omega arith) (sym (c .before .before .before .step .ensures) ∙ c .before .enum-told2 .given .1))
 
--- src/lib.rt:137:9
 add-done : tie.Need-add-done Inv-loop μ-loop
 add-done c = search needs
 
--- src/lib.rt:125:5
 loop-less : tie.Need-loop-less Inv-loop μ-loop
 loop-less c = search needs
 
--- src/lib.rt:125:5
 loop-again : tie.Need-loop-again Inv-loop μ-loop
 loop-again c =
     let w = c .before .before .before .before .before .loop in
     (omega arith, w .inv .1 ∙ directories-next _ _ _ _ _ _ (omega arith) (sym (c .before .before .before .step .ensures) ∙ c .before .next .given .1))
 
--- src/lib.rt:117:1
 returns-3 : tie.Need-returns-3 Inv-loop μ-loop
 returns-3 c = sym (c .before .loop .inv .1 ∙ directories-end _ _ _ _ _ (omega arith))
 
@@ -105,8 +92,10 @@ check-directories-spec =
     step-requires
     enum-known-next
     enum-told
+    refused-requires
     returns
     enum-told-2
+    refused-requires-2
     returns-2
     add-done
     loop-less

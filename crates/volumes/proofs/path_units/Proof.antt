@@ -1,17 +1,12 @@
+use mathlib.Core.Path.{_≡_, sym, _∙_}
+use Prim.Native.Nat.{_≤_, _-_}
+use native.Mathlib.Omega.{arith}
 use borrow.Author.Tests.{eq-eqb, ne-eqb}
-use Rattle.volumes.specs.Volumes.{pathUnits}
+use borrow.Author.Needs.{needs}
 use Rattle.volumes.specs.VolumeLaws.{zeroUnit, units-hit, units-none}
 use Rattle.lists.specs.First.{first, firstFrom, first-start, first-miss, first-hit, first-none}
-use mathlib.Core.Path.{_≡_, sym, ap, _∙_}
-use Prim.Native.Nat.{ℕ, _≤_, _<_, _-_}
-use native.Mathlib.Omega.{arith}
-use borrow.Author.Needs.{needs}
 use Rattle.volumes.proofs.path_units.Statement.{statement}
 use Rattle.volumes.proofs.path_units.Tie as tie
-use Rattle.volumes.proofs.path_units.Reads as reads
-use Rattle.volumes.proofs.path_units.Lts as lts
-use Rattle.little_endian.proofs.u16_at.Reads as u16-at-reads
-use Rattle.little_endian.proofs.u32_at.Reads as u32-at-reads
 
 abbrev Inv-loop : tie.InvT-loop
 Inv-loop section entry start count k₀ k = (k ≤ count) × (first (zeroUnit section start) count ≡ firstFrom (zeroUnit section start) (count - k) k)
@@ -19,43 +14,33 @@ Inv-loop section entry start count k₀ k = (k ≤ count) × (first (zeroUnit se
 abbrev μ-loop : tie.MeasureT-loop
 μ-loop section entry start count k₀ k = count - k
 
--- src/lib.rt:200:17
 u32-at-requires : tie.Need-u32-at-requires Inv-loop μ-loop
 u32-at-requires c κs = search needs
 
--- src/lib.rt:200:17
 cast-start : tie.Need-cast-start Inv-loop μ-loop
 cast-start c = search needs
 
--- src/lib.rt:201:48
 add-u32-at : tie.Need-add-u32-at Inv-loop μ-loop
 add-u32-at c = search needs
 
--- src/lib.rt:201:17
 u32-at-requires-2 : tie.Need-u32-at-requires-2 Inv-loop μ-loop
 u32-at-requires-2 c κs = search needs
 
--- src/lib.rt:201:17
 cast-count : tie.Need-cast-count Inv-loop μ-loop
 cast-count c = search needs
 
--- src/lib.rt:203:5
 loop-holds : tie.Need-loop-holds Inv-loop μ-loop
 loop-holds c = (omega arith, first-start _ _)
 
--- src/lib.rt:204:51
 mul-u16-at : tie.Need-mul-u16-at Inv-loop μ-loop
 mul-u16-at c = search needs
 
--- src/lib.rt:204:43
 add-u16-at : tie.Need-add-u16-at Inv-loop μ-loop
 add-u16-at c = search needs
 
--- src/lib.rt:204:12
 u16-at-requires : tie.Need-u16-at-requires Inv-loop μ-loop
 u16-at-requires c κs = search needs
 
--- src/lib.rt:205:13
 returns : tie.Need-returns Inv-loop μ-loop
 returns c =
     let w = c .before .before .before .loop in
@@ -63,22 +48,18 @@ returns c =
     let e = c .before .u16-at .ensures in
     units-hit _ _ _ (p .u32-at .ensures) (c .before .before .before .before .u32-at2 .ensures) (w .inv .1 ∙ first-hit _ _ _ (omega arith) (eq-eqb _ _ (sym e ∙ c .if1 .taken)))
 
--- src/lib.rt:207:9
 add-k : tie.Need-add-k Inv-loop μ-loop
 add-k c = search needs
 
--- src/lib.rt:203:5
 loop-less : tie.Need-loop-less Inv-loop μ-loop
 loop-less c = search needs
 
--- src/lib.rt:203:5
 loop-again : tie.Need-loop-again Inv-loop μ-loop
 loop-again c =
     let w = c .before .before .before .loop in
     let e = c .before .u16-at .ensures in
     (omega arith, w .inv .1 ∙ first-miss _ _ _ (omega arith) (ne-eqb _ _ (λ z. c .if1 .left (e ∙ z))))
 
--- src/lib.rt:196:1
 returns-2 : tie.Need-returns-2 Inv-loop μ-loop
 returns-2 c =
     let w = c .before .loop in

@@ -1,48 +1,36 @@
 use mathlib.Core.Path.{ap, _∙_}
 use Prim.Native.Nat.{ℕ, _+_}
-use Rattle.little_endian.specs.Number.{le}
 use native.Mathlib.Omega.{arith}
-use Rattle.volumes.specs.VolumeLaws.{count-none, count-some}
 use borrow.Author.Needs.{needs}
+use Rattle.little_endian.specs.Number.{le}
+use Rattle.volumes.specs.VolumeLaws.{count-none, count-some}
 use Rattle.volumes.proofs.reference_count.Statement.{statement}
 use Rattle.volumes.proofs.reference_count.Tie as tie
-use Rattle.volumes.proofs.reference_count.Reads as reads
-use Rattle.volumes.proofs.reference_count.Lts as lts
-use Rattle.little_endian.proofs.u32_at.Reads as u32-at-reads
 
--- src/lib.rt:88:39
 add-u32-at : tie.Need-add-u32-at
 add-u32-at c = search needs
 
--- src/lib.rt:88:8
 u32-at-requires : tie.Need-u32-at-requires
 u32-at-requires c κs = search needs
 
--- src/lib.rt:89:9
 returns : tie.Need-returns
 returns c = count-none _ _ (omega arith)
 
--- src/lib.rt:91:45
 add-u32-at-2 : tie.Need-add-u32-at-2
 add-u32-at-2 c = search needs
 
--- src/lib.rt:91:14
 u32-at-requires-2 : tie.Need-u32-at-requires-2
 u32-at-requires-2 c κs = search needs
 
--- src/lib.rt:91:14
 cast-at : tie.Need-cast-at
 cast-at c = search needs
 
--- src/lib.rt:92:36
 add-u32-at-3 : tie.Need-add-u32-at-3
 add-u32-at-3 c = search needs
 
--- src/lib.rt:92:5
 u32-at-requires-3 : tie.Need-u32-at-requires-3
 u32-at-requires-3 c κs = search needs
 
--- src/lib.rt:84:1
 returns-2 : tie.Need-returns-2
 returns-2 c =
     let s = c .before .before .before .before .before .args .section .now in

@@ -1,70 +1,51 @@
 use native.Mathlib.Omega.{arith}
-use Rattle.volumes.specs.VolumeLaws.{references-none, references-small, references-past, references-inside}
 use borrow.Author.Needs.{needs}
+use Rattle.volumes.specs.VolumeLaws.{references-none, references-small, references-past, references-inside}
 use Rattle.volumes.proofs.references_fit.Statement.{statement}
 use Rattle.volumes.proofs.references_fit.Tie as tie
-use Rattle.volumes.proofs.references_fit.Reads as reads
-use Rattle.volumes.proofs.references_fit.Lts as lts
-use Rattle.little_endian.proofs.u32_at.Reads as u32-at-reads
-use Rattle.volumes.proofs.reference_count.Reads as reference-count-reads
 
--- src/lib.rt:100:47
 add-u32-at : tie.Need-add-u32-at
 add-u32-at c = search needs
 
--- src/lib.rt:100:16
 u32-at-requires : tie.Need-u32-at-requires
 u32-at-requires c κs = search needs
 
--- src/lib.rt:100:16
 cast-size : tie.Need-cast-size
 cast-size c = search needs
 
--- src/lib.rt:102:9
 returns : tie.Need-returns
 returns c = references-none _ _ (omega arith)
 
--- src/lib.rt:105:9
 returns-2 : tie.Need-returns-2
 returns-2 c = references-small _ _ (λ z. c .before .if1 .left (omega arith)) (omega arith)
 
--- src/lib.rt:107:45
 add-u32-at-2 : tie.Need-add-u32-at-2
 add-u32-at-2 c = search needs
 
--- src/lib.rt:107:14
 u32-at-requires-2 : tie.Need-u32-at-requires-2
 u32-at-requires-2 c κs = search needs
 
--- src/lib.rt:107:14
 cast-at : tie.Need-cast-at
 cast-at c = search needs
 
--- src/lib.rt:108:24
 add-if3 : tie.Need-add-if3
 add-if3 c = search needs
 
--- src/lib.rt:109:9
 returns-3 : tie.Need-returns-3
 returns-3 c = references-past _ _ (omega arith) (omega arith)
 
--- src/lib.rt:111:17
 reference-count-requires : tie.Need-reference-count-requires
 reference-count-requires c κs = search needs
 
--- src/lib.rt:111:17
 cast-count : tie.Need-cast-count
 cast-count c = search needs
 
--- src/lib.rt:112:9
 mul-result : tie.Need-mul-result
 mul-result c = search needs
 
--- src/lib.rt:112:5
 add-result : tie.Need-add-result
 add-result c = search needs
 
--- src/lib.rt:96:1
 returns-4 : tie.Need-returns-4
 returns-4 c = references-inside _ _ (c .before .before .before .before .before .u32-at .ensures) (c .reference-count .ensures) (omega arith) (omega arith)
 
