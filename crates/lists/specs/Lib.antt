@@ -1,3 +1,4 @@
 pub mod First
 pub mod Count
 pub mod Table
+pub mod Search
