@@ -1,0 +1,79 @@
+use mathlib.Core.Path.{_≡_, sym, _∙_}
+use Prim.Native.Nat.{_≤_, _-_}
+use native.Mathlib.Omega.{arith}
+use borrow.Author.Needs.{needs}
+use Rattle.names.specs.Names.{fits}
+use Rattle.names.specs.NameLaws.{layout-of-sound, failsAt, fails-at, misfit-of}
+use Rattle.lists.specs.First.{first, firstFrom, first-start, first-miss, first-hit, first-none}
+use Rattle.names.proofs.first_misfit.Statement.{statement}
+use Rattle.names.proofs.first_misfit.Tie as tie
+
+abbrev Inv-loop : tie.InvT-loop
+Inv-loop metrics entries size layout i₀ i = (i ≤ entries) × (first (failsAt (fits size) layout metrics) entries ≡ firstFrom (failsAt (fits size) layout metrics) (entries - i) i)
+
+abbrev μ-loop : tie.MeasureT-loop
+μ-loop metrics entries size layout i₀ i = entries - i
+
+of-requires : tie.Need-of-requires Inv-loop μ-loop
+of-requires c κs = search needs
+
+loop-holds : tie.Need-loop-holds Inv-loop μ-loop
+loop-holds c = (omega arith, first-start _ _)
+
+offset-field-requires : tie.Need-offset-field-requires Inv-loop μ-loop
+offset-field-requires c κs = layout-of-sound (c .before .before .before .before .args .version) (c .before .before .of .ensures)
+
+units-field-requires : tie.Need-units-field-requires Inv-loop μ-loop
+units-field-requires c κs = layout-of-sound (c .before .before .before .before .before .args .version) (c .before .before .before .of .ensures)
+
+name-fits-requires : tie.Need-name-fits-requires Inv-loop μ-loop
+name-fits-requires c κs = search needs
+
+cast-t11 : tie.Need-cast-t11 Inv-loop μ-loop
+cast-t11 c = search needs
+
+returns : tie.Need-returns Inv-loop μ-loop
+returns c =
+    let w = c .before .before .before .before .before .loop in
+    let o = c .before .before .before .before .before .before in
+    let a = o .before .before .args in
+    let e = fails-at (fits (a .size)) (o .of .result) (a .metrics .now) (w .i) (c .before .before .before .offset-field .ensures) (c .before .before .units-field .ensures) (c .before .name-fits .ensures) in
+    sym (w .inv .1 ∙ first-hit _ _ _ (omega arith) (e ∙ c .if1 .taken)) ∙ misfit-of (a .version) _ _ _ (o .of .ensures)
+
+add-i : tie.Need-add-i Inv-loop μ-loop
+add-i c = search needs
+
+loop-less : tie.Need-loop-less Inv-loop μ-loop
+loop-less c = search needs
+
+loop-again : tie.Need-loop-again Inv-loop μ-loop
+loop-again c =
+    let w = c .before .before .before .before .before .loop in
+    let o = c .before .before .before .before .before .before in
+    let a = o .before .before .args in
+    let e = fails-at (fits (a .size)) (o .of .result) (a .metrics .now) (w .i) (c .before .before .before .offset-field .ensures) (c .before .before .units-field .ensures) (c .before .name-fits .ensures) in
+    (omega arith, w .inv .1 ∙ first-miss _ _ _ (omega arith) (e ∙ c .if1 .left))
+
+returns-2 : tie.Need-returns-2 Inv-loop μ-loop
+returns-2 c =
+    let w = c .before .loop in
+    let o = c .before .before in
+    sym (w .inv .1 ∙ first-none _ _ _ (omega arith)) ∙ misfit-of (o .before .before .args .version) _ _ _ (o .of .ensures)
+
+pub first-misfit-spec : {M : Type 1} → statement M
+first-misfit-spec =
+    tie.close
+    (tie.spec
+    Inv-loop
+    μ-loop
+    of-requires
+    loop-holds
+    offset-field-requires
+    units-field-requires
+    name-fits-requires
+    cast-t11
+    returns
+    add-i
+    loop-less
+    loop-again
+    returns-2)

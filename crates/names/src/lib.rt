@@ -1,0 +1,116 @@
+// Checks 9 and 10: the names that metrics entries have in a strings section.
+ghost use mathlib.Core.Path.{_≡_};
+ghost use Prim.Native.Nat.{_+_, _*_, _≤_};
+ghost use lib.ListN.{length};
+ghost use Rattle.little_endian.specs.Number.{le};
+ghost use Rattle.layout.specs.Versions.{Sound};
+ghost use Rattle.names.specs.Names.{fits, sound, nameAt, nameUnits, firstMisfit, firstUnsound, zeroAt};
+ghost use Rattle.names.specs.NameLaws.{soundText};
+use layout::Layout;
+use layout::Version;
+use lists::Found;
+
+// Whether a name of so many units at an offset fits a strings section of that size, with its zero unit.
+pub fn name_fits(size: usize, at: u32, units: u32) -> bool
+    ensures { λ r. ⌜ r ≡ fits size at units ⌝ }
+{
+    at as usize + 2 * (units as usize) + 2 <= size
+}
+
+// Whether the unit at an offset is zero. The two bytes are compared as they stand, with no test of the section's end.
+fn zero_unit(strings: &[u8], at: usize) -> bool
+    requires { ⌜ at + 2 ≤ length (now strings) ⌝ }
+    ensures { λ r. ⌜ r ≡ zeroAt (now (strings .entry)) at ⌝ }
+{
+    if strings[at] != 0 {
+        return false;
+    }
+    strings[at + 1] == 0
+}
+
+// Whether the units from an offset have no zero unit among them, and one directly after them.
+fn text_sound(strings: &[u8], at: usize, units: usize) -> bool
+    requires { ⌜ at + 2 * units + 2 ≤ length (now strings) ⌝ }
+    ensures { λ r. ⌜ r ≡ soundText (now (strings .entry)) at units ⌝ }
+{
+    let mut k = 0;
+    while k < units {
+        if zero_unit(strings, at + 2 * k) {
+            return false;
+        }
+        k += 1;
+    }
+    zero_unit(strings, at + 2 * units)
+}
+
+// Whether the name fits the section, has no zero unit inside, and a zero unit directly after it.
+pub fn name_sound(strings: &[u8], at: u32, units: u32) -> bool
+    ensures { λ r. ⌜ r ≡ sound (now (strings .entry)) at units ⌝ }
+{
+    if !name_fits(strings.len(), at, units) {
+        return false;
+    }
+    text_sound(strings, at as usize, units as usize)
+}
+
+// The two fields of metrics entry i that say where its name lies.
+fn offset_field(metrics: &[u8], layout: Layout, i: u32) -> u32
+    requires { ⌜ Sound layout ⌝ }
+    ensures { λ r. ⌜ r ≡ le 4 (now (metrics .entry)) (i * layout .metric + layout .name) ⌝ }
+{
+    little_endian::u32_at(metrics, i as usize * layout.metric + layout.name)
+}
+
+fn units_field(metrics: &[u8], layout: Layout, i: u32) -> u32
+    requires { ⌜ Sound layout ⌝ }
+    ensures { λ r. ⌜ r ≡ le 4 (now (metrics .entry)) (i * layout .metric + layout .units) ⌝ }
+{
+    little_endian::u32_at(metrics, i as usize * layout.metric + layout.units)
+}
+
+// The offset and the length of the name of metrics entry i.
+pub fn name_at(metrics: &[u8], version: Version, i: u32) -> u32
+    ensures { λ r. ⌜ r ≡ nameAt version (now (metrics .entry)) i ⌝ }
+{
+    offset_field(metrics, Layout::of(version), i)
+}
+
+pub fn name_units(metrics: &[u8], version: Version, i: u32) -> u32
+    ensures { λ r. ⌜ r ≡ nameUnits version (now (metrics .entry)) i ⌝ }
+{
+    units_field(metrics, Layout::of(version), i)
+}
+
+// Check 9: the first entry whose name does not fit a strings section of that size.
+pub fn first_misfit(metrics: &[u8], version: Version, entries: u32, size: usize) -> Found
+    ensures { λ r. ⌜ r ≡ firstMisfit version (now (metrics .entry)) entries size ⌝ }
+{
+    let layout = Layout::of(version);
+    let mut i = 0;
+    while i < entries {
+        let at = offset_field(metrics, layout, i);
+        let units = units_field(metrics, layout, i);
+        if !name_fits(size, at, units) {
+            return Found::At(i as usize);
+        }
+        i += 1;
+    }
+    Found::Nothing
+}
+
+// Check 10: the first entry whose name is not sound.
+pub fn first_unsound(metrics: &[u8], version: Version, entries: u32, strings: &[u8]) -> Found
+    ensures { λ r. ⌜ r ≡ firstUnsound version (now (metrics .entry)) entries (now (strings .entry)) ⌝ }
+{
+    let layout = Layout::of(version);
+    let mut i = 0;
+    while i < entries {
+        let at = offset_field(metrics, layout, i);
+        let units = units_field(metrics, layout, i);
+        if !name_sound(strings, at, units) {
+            return Found::At(i as usize);
+        }
+        i += 1;
+    }
+    Found::Nothing
+}

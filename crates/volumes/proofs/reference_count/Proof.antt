@@ -1,0 +1,51 @@
+use mathlib.Core.Path.{ap, _∙_}
+use Prim.Native.Nat.{ℕ, _+_}
+use native.Mathlib.Omega.{arith}
+use borrow.Author.Needs.{needs}
+use Rattle.little_endian.specs.Number.{le}
+use Rattle.volumes.specs.VolumeLaws.{count-none, count-some}
+use Rattle.volumes.proofs.reference_count.Statement.{statement}
+use Rattle.volumes.proofs.reference_count.Tie as tie
+
+add-u32-at : tie.Need-add-u32-at
+add-u32-at c = search needs
+
+u32-at-requires : tie.Need-u32-at-requires
+u32-at-requires c κs = search needs
+
+returns : tie.Need-returns
+returns c = count-none _ _ (omega arith)
+
+add-u32-at-2 : tie.Need-add-u32-at-2
+add-u32-at-2 c = search needs
+
+u32-at-requires-2 : tie.Need-u32-at-requires-2
+u32-at-requires-2 c κs = search needs
+
+cast-at : tie.Need-cast-at
+cast-at c = search needs
+
+add-u32-at-3 : tie.Need-add-u32-at-3
+add-u32-at-3 c = search needs
+
+u32-at-requires-3 : tie.Need-u32-at-requires-3
+u32-at-requires-3 c κs = search needs
+
+returns-2 : tie.Need-returns-2
+returns-2 c =
+    let s = c .before .before .before .before .before .args .section .now in
+    c .u32-at3 .ensures ∙ ap (λ (k : ℕ). le 4 s (k + 4)) (c .before .u32-at2 .ensures) ∙ count-some _ _ (λ z. c .before .before .if1 .left (c .before .before .before .u32-at .ensures ∙ z))
+
+pub reference-count-spec : {M : Type 1} → statement M
+reference-count-spec =
+    tie.close
+    (tie.spec
+    add-u32-at
+    u32-at-requires
+    returns
+    add-u32-at-2
+    u32-at-requires-2
+    cast-at
+    add-u32-at-3
+    u32-at-requires-3
+    returns-2)

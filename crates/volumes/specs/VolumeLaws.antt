@@ -1,0 +1,228 @@
+-- Laws on the checks of a volumes section: what each way through the code decides, and what it means that all volumes pass.
+use mathlib.Core.Path.{_≡_, refl, sym, ap}
+use mathlib.Core.Bool.{Bool, true, false}
+use mathlib.Core.List.{List}
+use mathlib.Core.Logic.{_↔_}
+use Prim.Native.Nat.{ℕ, zero, suc, _+_, _-_, _*_, _^_, _≤_, _<_}
+use native.Mathlib.Nat.{sub-zero, add-zero, zero-add}
+use native.Mathlib.Numerals.{add-one}
+use native.Mathlib.Omega.{arith}
+use lib.Dec.{leb, eqb}
+use lib.ListN.{length}
+use borrow.Author.Tests.{leb-true, le-leb, lt-leb, eq-eqb, ne-eqb}
+use Rattle.lists.specs.First.{first}
+use Rattle.lists.specs.declared.Found.the-variants.{At, Nothing}
+use Rattle.little_endian.specs.Number.{le}
+use Rattle.layout.specs.Versions.{layoutOf}
+use Rattle.layout.specs.declared.Version.{Version}
+use Rattle.layout.specs.declared.Version.the-variants.{V17, V23, V26}
+use Rattle.incremental.specs.Decision.{Decision, accept, refuse, refusal, checkedOf}
+use Rattle.incremental.specs.declared.Checked.{Checked}
+use Rattle.incremental.specs.declared.Refusal.{Refusal}
+use Rattle.volumes.specs.declared.Cursor.{Cursor}
+use Rattle.volumes.specs.declared.Step.the-variants.{Next, Past, Unended}
+use Rattle.volumes.specs.Volumes.{entryAt, pathAt, pathCount, pathFits, pathUnits, referencesAt, referencesSize, referenceCount, referencesFit, stepAt, pickStep, directoryCount, directoriesAt, directoryChecks, entryChecks, volumeChecks, volumesFrom, volumesChecks, also}
+
+-- An entry starts where no sum with it wraps
+pub entry-low : (v : Version) (i : ℕ) → i < 2 ^ 32 → entryAt v i < 2 ^ 40
+entry-low V17 i h = omega arith
+entry-low V23 i h = omega arith
+entry-low V26 i h = omega arith
+
+-- the same for code that has an entry's size at hand
+pub size-low : (v : Version) (i : ℕ) {size : ℕ} → size ≡ layoutOf v .volume → i < 2 ^ 32 → i * size < 2 ^ 40
+size-low v i e h = rw e (entry-low v i h)
+
+-- The path
+pub path-none : (s : List ℕ) (e : ℕ) → pathCount s e ≡ 0 → true ≡ pathFits s e
+unfolding pathFits
+path-none s e h = rw (eq-eqb (pathCount s e) 0 h)
+
+pub path-some : (s : List ℕ) (e : ℕ) {at count : ℕ} → at ≡ pathAt s e → count ≡ pathCount s e → (count ≡ 0 → ⊥) → leb (at + 2 * count) (length s) ≡ pathFits s e
+unfolding pathFits
+path-some s e a n h = rw (← a, ← n, ne-eqb _ 0 h)
+
+-- The references
+pub count-none : (s : List ℕ) (e : ℕ) → referencesSize s e ≡ 0 → 0 ≡ referenceCount s e
+unfolding referenceCount
+count-none s e h = rw (eq-eqb (referencesSize s e) 0 h)
+
+pub count-some : (s : List ℕ) (e : ℕ) → (referencesSize s e ≡ 0 → ⊥) → le 4 s (referencesAt s e + 4) ≡ referenceCount s e
+unfolding referenceCount
+count-some s e h = rw (ne-eqb (referencesSize s e) 0 h)
+
+pub references-none : (s : List ℕ) (e : ℕ) → referencesSize s e ≡ 0 → true ≡ referencesFit s e
+unfolding referencesFit
+references-none s e h = rw (eq-eqb (referencesSize s e) 0 h)
+
+pub references-small : (s : List ℕ) (e : ℕ) → (referencesSize s e ≡ 0 → ⊥) → referencesSize s e < 8 → false ≡ referencesFit s e
+unfolding referencesFit
+references-small s e h l = rw (ne-eqb (referencesSize s e) 0 h, lt-leb 8 (referencesSize s e) l)
+
+pub references-past : (s : List ℕ) (e : ℕ) → 8 ≤ referencesSize s e → length s < referencesAt s e + referencesSize s e → false ≡ referencesFit s e
+unfolding referencesFit
+references-past s e h l =
+    rw (ne-eqb (referencesSize s e) 0 (λ z. omega arith), le-leb 8 (referencesSize s e) h, lt-leb (referencesAt s e + referencesSize s e) (length s) l)
+
+pub references-inside : (s : List ℕ) (e : ℕ) {size n : ℕ} → size ≡ referencesSize s e → n ≡ referenceCount s e → 8 ≤ size → referencesAt s e + size ≤ length s → leb (8 + 8 * n) size ≡ referencesFit s e
+unfolding referencesFit
+references-inside s e {size} {n} z q h l =
+    rw (← z, ← q, ne-eqb size 0 (λ w. omega arith), le-leb 8 size h, le-leb (referencesAt s e + size) (length s) l)
+
+-- One directory string
+pub step-short : (s : List ℕ) (at : ℕ) → length s < at + 2 → Past ≡ stepAt s at
+unfolding stepAt
+step-short s at h = rw (lt-leb (at + 2) (length s) h)
+
+pub step-past : (s : List ℕ) (at : ℕ) → at + 2 ≤ length s → length s < at + 4 + 2 * le 2 s at → Past ≡ stepAt s at
+unfolding stepAt
+step-past s at h l = rw (le-leb (at + 2) (length s) h, lt-leb (at + 4 + 2 * le 2 s at) (length s) l)
+
+pub step-unended : (s : List ℕ) (at last : ℕ) → last ≡ at + 2 + 2 * le 2 s at → last + 2 ≤ length s → (le 2 s last ≡ 0 → ⊥) → Unended ≡ stepAt s at
+unfolding stepAt
+step-unended s at last d h z =
+    let z₁ : le 2 s (at + 2 + 2 * le 2 s at) ≡ 0 → ⊥ = rw (← d) z in
+    rw (le-leb (at + 2) (length s) (omega arith), le-leb (at + 4 + 2 * le 2 s at) (length s) (omega arith), ne-eqb (le 2 s (at + 2 + 2 * le 2 s at)) 0 z₁)
+
+pub step-next : (s : List ℕ) (at last : ℕ) → last ≡ at + 2 + 2 * le 2 s at → last + 2 ≤ length s → le 2 s last ≡ 0 → Next (record { at = last + 2 }) ≡ stepAt s at
+unfolding stepAt
+step-next s at last d h z =
+    let z₁ : le 2 s (at + 2 + 2 * le 2 s at) ≡ 0 = rw (← d) z in
+    let n : last + 2 ≡ at + 4 + 2 * le 2 s at = omega arith in
+    rw (n, le-leb (at + 2) (length s) (omega arith), le-leb (at + 4 + 2 * le 2 s at) (length s) (omega arith), eq-eqb (le 2 s (at + 2 + 2 * le 2 s at)) 0 z₁)
+
+-- a step goes on by at least 4 bytes and stays within the section, so a section of n bytes has at most n / 4 of them
+pub step-advances : (s : List ℕ) (at : ℕ) (next : Cursor) → stepAt s at ≡ Next next → (at + 4 ≤ next .at) × (next .at ≤ length s)
+unfolding stepAt
+step-advances s at next = go (leb (at + 2) (length s)) (leb (at + 4 + 2 * le 2 s at) (length s)) (eqb (le 2 s (at + 2 + 2 * le 2 s at)) 0) refl
+  where
+    go : (a b c : Bool) → leb (at + 4 + 2 * le 2 s at) (length s) ≡ b
+        → pickStep a (pickStep b (pickStep c (Next (record { at = at + 4 + 2 * le 2 s at })) Unended) Past) Past ≡ Next next
+        → (at + 4 ≤ next .at) × (next .at ≤ length s)
+    go true true true q e =
+        let n : at + 4 + 2 * le 2 s at ≡ next .at = ap (λ (c : Cursor). c .at) (cc) in
+        let h : at + 4 + 2 * le 2 s at ≤ length s = leb-true _ _ q in
+        (omega arith, omega arith)
+    go true true false q e = let z : _≡_ {A = ℕ} 0 1 = cc in absurd (omega arith)
+    go true false c q e = let z : _≡_ {A = ℕ} 0 1 = cc in absurd (omega arith)
+    go false b c q e = let z : _≡_ {A = ℕ} 0 1 = cc in absurd (omega arith)
+
+-- The directories, by a loop whose invariant is `directoryChecks s i n start ≡ directoryChecks s i (n - done) at`
+pub directories-start : (s : List ℕ) (i n at : ℕ) → directoryChecks s i n at ≡ directoryChecks s i (n - 0) at
+directories-start s i n at = rw (sub-zero n)
+
+pub directories-next : (s : List ℕ) (i n done at : ℕ) (next : Cursor) → done < n → stepAt s at ≡ Next next → directoryChecks s i (n - done) at ≡ directoryChecks s i (n - (done + 1)) (next .at)
+unfolding directoryChecks
+directories-next s i n done at next l e =
+    let d : n - done ≡ suc (n - (done + 1)) = omega arith in
+    rw (d, directoryChecks, e)
+
+pub directories-past : (s : List ℕ) (i n done at : ℕ) → done < n → stepAt s at ≡ Past → directoryChecks s i (n - done) at ≡ refuse (refusal 14 i)
+unfolding directoryChecks
+directories-past s i n done at l e =
+    let d : n - done ≡ suc (n - (done + 1)) = omega arith in
+    rw (d, directoryChecks, e)
+
+pub directories-unended : (s : List ℕ) (i n done at : ℕ) → done < n → stepAt s at ≡ Unended → directoryChecks s i (n - done) at ≡ refuse (refusal 15 i)
+unfolding directoryChecks
+directories-unended s i n done at l e =
+    let d : n - done ≡ suc (n - (done + 1)) = omega arith in
+    rw (d, directoryChecks, e)
+
+pub directories-end : (s : List ℕ) (i n done at : ℕ) → n ≤ done → directoryChecks s i (n - done) at ≡ accept tt
+unfolding directoryChecks
+directories-end s i n done at l =
+    let d : n - done ≡ 0 = omega arith in
+    rw d
+
+-- The volumes, by a loop whose invariant is `volumesFrom s v n 0 ≡ volumesFrom s v (n - i) i`
+pub volumes-start : (s : List ℕ) (v : Version) (n : ℕ) → volumesFrom s v n 0 ≡ volumesFrom s v (n - 0) 0
+volumes-start s v n = rw (sub-zero n)
+
+pub volumes-next : (s : List ℕ) (v : Version) (n i : ℕ) → i < n → volumeChecks s v i ≡ accept tt → volumesFrom s v (n - i) i ≡ volumesFrom s v (n - (i + 1)) (i + 1)
+unfolding volumesFrom
+volumes-next s v n i l e =
+    let d : n - i ≡ suc (n - (i + 1)) = omega arith in
+    rw (d, volumesFrom, e, add-one i)
+
+pub volumes-refused : (s : List ℕ) (v : Version) (n i : ℕ) (r : Refusal) → i < n → volumeChecks s v i ≡ refuse r → volumesFrom s v (n - i) i ≡ refuse r
+unfolding volumesFrom
+volumes-refused s v n i r l e =
+    let d : n - i ≡ suc (n - (i + 1)) = omega arith in
+    rw (d, volumesFrom, e)
+
+pub volumes-end : (s : List ℕ) (v : Version) (n i : ℕ) → n ≤ i → volumesFrom s v (n - i) i ≡ accept tt
+unfolding volumesFrom
+volumes-end s v n i l =
+    let d : n - i ≡ 0 = omega arith in
+    rw d
+
+-- Check 8
+pub volumes-crowded : (s : List ℕ) (v : Version) (n : ℕ) → length s < n * layoutOf v .volume → volumesChecks s v n ≡ refuse (refusal 8 0)
+unfolding volumesChecks
+volumes-crowded s v n h = rw (lt-leb (n * layoutOf v .volume) (length s) h)
+
+-- where the entries fit the section, checks 14 and 15 decide
+pub volumes-room : (s : List ℕ) (v : Version) (n : ℕ) → n * layoutOf v .volume ≤ length s → volumesChecks s v n ≡ volumesFrom s v n 0
+unfolding volumesChecks
+volumes-room s v n h = rw (le-leb (n * layoutOf v .volume) (length s) h)
+
+-- the volumes from i pass exactly when each of them does
+each-passes : (s : List ℕ) (v : Version) (n i : ℕ) → volumesFrom s v n i ≡ accept tt → (k : ℕ) → k < n → volumeChecks s v (i + k) ≡ accept tt
+unfolding volumesFrom
+each-passes s v zero i e k l = absurd (omega arith)
+each-passes s v (suc n) i e k l = go (volumeChecks s v i) refl k l (each-passes s v n (suc i))
+  where
+    go : (d : Decision Unit) → volumeChecks s v i ≡ d → (k : ℕ) → k < suc n → (volumesFrom s v n (suc i) ≡ accept tt → (k : ℕ) → k < n → volumeChecks s v (suc i + k) ≡ accept tt) → volumeChecks s v (i + k) ≡ accept tt
+    go (accept t) q zero l ih = rw (add-zero i) q
+    go (accept t) q (suc k) l ih =
+        let z : also (volumeChecks s v i) (volumesFrom s v n (suc i)) ≡ accept tt = e in
+        let w : volumesFrom s v n (suc i) ≡ accept tt = rw q at z in
+        let j : suc i + k ≡ i + suc k = omega arith in
+        rw (← j) (ih w k (omega arith))
+    go (refuse r) q k l ih =
+        let z : also (volumeChecks s v i) (volumesFrom s v n (suc i)) ≡ accept tt = e in
+        let w : refuse r ≡ accept tt = rw q at z in
+        let f : _≡_ {A = ℕ} 0 1 = cc in
+        absurd (omega arith)
+
+all-pass : (s : List ℕ) (v : Version) (n i : ℕ) → ((k : ℕ) → k < n → volumeChecks s v (i + k) ≡ accept tt) → volumesFrom s v n i ≡ accept tt
+unfolding volumesFrom
+all-pass s v zero i f = refl
+all-pass s v (suc n) i f =
+    let a : volumeChecks s v i ≡ accept tt = rw (add-zero i) at (f 0 (omega arith)) in
+    let b = all-pass s v n (suc i) (λ k l. let j : suc i + k ≡ i + suc k = omega arith in rw j (f (suc k) (omega arith))) in
+    rw (volumesFrom, a) b
+
+pub volumes-each : (s : List ℕ) (v : Version) (n : ℕ) → (volumesFrom s v n 0 ≡ accept tt) ↔ ((i : ℕ) → i < n → volumeChecks s v i ≡ accept tt)
+volumes-each s v n =
+    ((λ e i l. rw zero-add at (each-passes s v n 0 e i l)), λ f. all-pass s v n 0 (λ k l. rw (zero-add k) (f k l)))
+
+-- The units of a path, by a loop that stops at the first zero unit
+abbrev pub zeroUnit : List ℕ → ℕ → ℕ → Bool
+zeroUnit s at k = eqb (le 2 s (at + 2 * k)) 0
+
+pub units-hit : (s : List ℕ) (e k : ℕ) {start count : ℕ} → start ≡ pathAt s e → count ≡ pathCount s e → first (zeroUnit s start) count ≡ At k → k ≡ pathUnits s e
+unfolding pathUnits
+units-hit s e k a n h = rw (← a, ← n, h)
+
+pub units-none : (s : List ℕ) (e : ℕ) {start count : ℕ} → start ≡ pathAt s e → count ≡ pathCount s e → first (zeroUnit s start) count ≡ Nothing → count ≡ pathUnits s e
+unfolding pathUnits
+units-none s e a n h = rw (← a, ← n, h)
+
+-- One volume: path, references, directories
+pub entry-path : (s : List ℕ) (i e : ℕ) → pathFits s e ≡ false → refuse (refusal 14 i) ≡ entryChecks s i e
+unfolding entryChecks
+entry-path s i e p = rw p
+
+pub entry-references : (s : List ℕ) (i e : ℕ) → pathFits s e ≡ true → referencesFit s e ≡ false → refuse (refusal 14 i) ≡ entryChecks s i e
+unfolding entryChecks
+entry-references s i e p q = rw (p, q)
+
+pub entry-directories : (s : List ℕ) (i e : ℕ) → pathFits s e ≡ true → referencesFit s e ≡ true → directoryChecks s i (directoryCount s e) (directoriesAt s e) ≡ entryChecks s i e
+unfolding entryChecks
+entry-directories s i e p q = rw (p, q)
+
+-- one volume, for code that has an entry's size at hand
+pub volume-checked : (s : List ℕ) (v : Version) (i : ℕ) {size : ℕ} (r : Checked) → size ≡ layoutOf v .volume → checkedOf r ≡ entryChecks s i (i * size) → volumeChecks s v i ≡ checkedOf r
+volume-checked s v i r e q = let z : checkedOf r ≡ entryChecks s i (i * layoutOf v .volume) = rw (← e) q in sym z
