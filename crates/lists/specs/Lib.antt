@@ -3,4 +3,3 @@ pub mod Count
 pub mod Table
 pub mod Tests
 pub mod Pigeon
-pub mod Search

@@ -37,6 +37,12 @@ getD-any [] i d e h = absurd (not-suc-le-zero h)
 getD-any (x ∷ s) zero d e h = refl
 getD-any (x ∷ s) (suc i) d e h = getD-any s i d e (le-of-suc-le-suc h)
 
+-- entries that agree make one list
+pub tabulate-same : (n : ℕ) (f g : ℕ → ℕ) → ((k : ℕ) → k < n → f k ≡ g k) → tabulate n f ≡ tabulate n g
+tabulate-same n f g h =
+    ext-getD 0 (tabulate n f) (tabulate n g) (length-tabulate n f ∙ sym (length-tabulate n g))
+    (λ k l. let l′ : k < n = rw (length-tabulate n f) at l in getD-tabulate n f k 0 l′ ∙ h k l′ ∙ sym (getD-tabulate n g k 0 l′))
+
 pub tabulate-replicate : (n v : ℕ) → tabulate n (λ _. v) ≡ replicate n v
 unfolding tabulate
 tabulate-replicate zero v = refl

@@ -10,7 +10,7 @@ use lib.Dec.{eqb}
 use lib.ListN.{length, getD}
 use borrow.Author.Tests.{leb-true, le-leb, eqb-true, eqb-false, eq-eqb, ne-eqb}
 use Rattle.lists.specs.Count.{some, some-yes, some-no, true-false}
-use Rattle.lists.specs.Search.{some-false}
+use Rattle.lists.specs.Count.{some-false}
 use Rattle.lists.specs.First.{first}
 use Rattle.little_endian.specs.Number.{le}
 use Rattle.layout.specs.Versions.{layoutOf, Sound, layout-sound}

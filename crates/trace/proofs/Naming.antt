@@ -7,29 +7,47 @@ use native.Mathlib.Nat.{le-refl}
 use native.Mathlib.Decide.{ℕ-discrete, decLt}
 use native.Mathlib.Omega.{arith}
 use lib.Dec.{eqb, ltb}
-use lib.ListN.{set}
+use lib.ListN.{length, set}
 use borrow.Author.Tests.{eq-eqb, ne-eqb, lt-ltb, le-ltb, ltb-true}
 use Rattle.lists.specs.First.{Least}
 use Rattle.lists.specs.Count.{pick, count-zero}
-use Rattle.lists.specs.Table.{tabulate, tabulate-replicate, set-tabulate}
+use Rattle.lists.specs.Table.{tabulate, tabulate-same, tabulate-replicate, set-tabulate}
 use Rattle.trace.specs.Links.{end, after, namers, predecessor, filled}
-use Rattle.trace.specs.Predecessors.{Named, none, one, named, namers-same, namers-other}
+use Rattle.trace.specs.Predecessors.{predecessor-same, predecessor-other, Named, none, one, named, namers-same, namers-other}
 
 -- j is named by two or more of the first i entries
 abbrev pub sharedBy : List ℕ → ℕ → ℕ → Bool
 sharedBy s i j = ltb 1 (namers s i j)
 
 -- the table of the first i entries
+abbrev pub place : List ℕ → ℕ → ℕ → ℕ
+place s i j = pick (ltb j (length s)) (predecessor s i j) end
+
 abbrev pub table : List ℕ → ℕ → ℕ → List ℕ
-table s m i = tabulate m (predecessor s i)
+table s m i = tabulate m (place s i)
 
 pub table-none : (s : List ℕ) (m : ℕ) → filled m ≡ table s m 0
 unfolding predecessor
-table-none s m = sym (tabulate-replicate m end)
+table-none s m = sym (tabulate-replicate m end) ∙ tabulate-same m (λ _. end) (place s 0) (λ k l. go (ltb k (length s)))
+  where
+    go : (b : Bool) → end ≡ pick b end end
+    go true = refl
+    go false = refl
 
-pub table-more : (s : List ℕ) (m i : ℕ) → set (table s m i) (after s i) i ≡ table s m (suc i)
-unfolding predecessor
-table-more s m i = set-tabulate m (predecessor s i) (after s i) i
+-- entry i ends a chain, or names an entry
+pub table-end : (s : List ℕ) (m i : ℕ) → length s ≤ end → after s i ≡ end → table s m i ≡ table s m (suc i)
+table-end s m i small e = tabulate-same m (place s i) (place s (suc i)) (λ k l. go k (ltb k (length s)) refl)
+  where
+    go : (k : ℕ) (b : Bool) → ltb k (length s) ≡ b → pick b (predecessor s i k) end ≡ pick b (predecessor s (suc i) k) end
+    go k true q = sym (predecessor-other s i k (λ (z : after s i ≡ k). omega (arith, ltb-true k (length s) q)))
+    go k false q = refl
+
+pub table-more : (s : List ℕ) (m i : ℕ) → after s i < length s → set (table s m i) (after s i) i ≡ table s m (suc i)
+table-more s m i h = set-tabulate m (place s i) (after s i) i ∙ tabulate-same m _ (place s (suc i)) (λ k l. go k (ℕ-discrete (after s i) k))
+  where
+    go : (k : ℕ) → Dec (after s i ≡ k) → pick (eqb (after s i) k) i (place s i k) ≡ place s (suc i) k
+    go k (yes e) = rw (eq-eqb (after s i) k e, lt-ltb k (length s) (omega arith), predecessor-same s i k e)
+    go k (no n) = rw (ne-eqb (after s i) k n, predecessor-other s i k n)
 
 pub least-none : (s : List ℕ) (n : ℕ) → Least (sharedBy s 0) n n
 unfolding namers
@@ -82,15 +100,8 @@ module _ (s : List ℕ) (i n r v : ℕ) (small : n ≤ end) (l : i ≤ end) (q :
           let e : min r (after s i) ≡ r = omega arith in
           rw e (still r (q .here (omega arith)))
 
-  pub least-end : after s i ≡ end → Least (sharedBy s (suc i)) n (pick (eqb v end) r (min r (after s i)))
-  least-end e = go (eqb v end)
-    where
-      ends : Least (sharedBy s (suc i)) n r
-      ends = same (λ k h z. absurd (let m = q .most in omega arith))
-
-      go : (b : Bool) → Least (sharedBy s (suc i)) n (pick b r (min r (after s i)))
-      go true = ends
-      go false = let m = q .most in let z : min r (after s i) ≡ r = omega arith in rw z ends
+  pub least-end : after s i ≡ end → Least (sharedBy s (suc i)) n r
+  least-end e = same (λ k h z. absurd (let m = q .most in omega arith))
 
   pub least-more : after s i < n → v ≡ predecessor s i (after s i) → Least (sharedBy s (suc i)) n (pick (eqb v end) r (min r (after s i)))
   least-more b e = go (named s i (after s i))

@@ -42,10 +42,10 @@ pub record Cleared (s buffer : List ℕ) : Type 0 where
   pub ready : Ready s buffer
   pub clear : buffer ≡ filled (length buffer)
 
--- entry i names j: place j holds i, and `least` becomes j where that is less and place j held an entry before
+-- entry i ends a chain, or names j: place j holds i, and `least` becomes j where that is less and place j held an entry before
 pub record Stored (i j least : ℕ) (before : List ℕ) (r : ℕ) (buffer : List ℕ) : Type 0 where
-  pub least-is : r ≡ pick (eqb (getD before j end) end) least (min least j)
-  pub holds : buffer ≡ set before j i
+  pub ends : j ≡ end → (r ≡ least) × (buffer ≡ before)
+  pub names : (j ≡ end → ⊥) → (r ≡ pick (eqb (getD before j 0) end) least (min least j)) × (buffer ≡ set before j i)
 
 -- the table of predecessors, and what check 12 looks for
 pub record Tabled (s : List ℕ) (m : ℕ) (r : Found) (buffer : List ℕ) : Type 0 where

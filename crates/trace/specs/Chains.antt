@@ -84,7 +84,7 @@ chains-ends s n l e =
 -- the chain count from the table: its places below the number of entries that hold the end
 pub chains-table : (s : List ℕ) (m : ℕ) → length s ≤ end → length s ≤ m → count (λ k. eqb (getD (predecessors s m) k 0) end) (length s) ≡ chains s
 unfolding chains
-chains-table s m small room = count-same _ _ (length s) (λ k l. rw (at-predecessors s m k 0 (omega arith)) (go k (named s (length s) k)))
+chains-table s m small room = count-same _ _ (length s) (λ k l. rw (at-predecessors s m k 0 (omega arith) l) (go k (named s (length s) k)))
   where
     go : (k : ℕ) → Named s (length s) k → eqb (predecessor s (length s) k) end ≡ eqb (namers s (length s) k) 0
     go k (none p q) = eq-eqb _ _ p ∙ sym (eq-eqb _ _ q)

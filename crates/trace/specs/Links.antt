@@ -59,9 +59,10 @@ unfoldable pub predecessor : List ℕ → ℕ → ℕ → ℕ
 predecessor s zero j = end
 predecessor s (suc i) j = pick (eqb (after s i) j) i (predecessor s i j)
 
--- the working buffer, of m places, after an acceptance: place j holds the entry that names j as next
+-- the working buffer, of m places, after an acceptance: the place of an entry j holds the entry that names j as next, and every
+-- place after those of the entries the end
 unfoldable pub predecessors : List ℕ → ℕ → List ℕ
-predecessors s m = tabulate m (predecessor s (length s))
+predecessors s m = tabulate m (λ j. pick (ltb j (length s)) (predecessor s (length s) j) end)
 
 -- the working buffer after anything else
 abbrev pub filled : ℕ → List ℕ

@@ -1,18 +1,18 @@
 -- The table of predecessors: what its places say, for each list and for a list that passes the checks.
 use mathlib.Core.Path.{_≡_, refl, sym, ap, _∙_}
 use mathlib.Core.List.{List}
-use mathlib.Core.Logic.{⊎-elim, _↔_}
+use mathlib.Core.Logic.{_↔_}
 use Prim.Native.Nat.{ℕ, zero, suc, _≤_, _<_}
 use native.Mathlib.Decide.{ℕ-discrete}
 use native.Mathlib.Omega.{arith}
-use borrow.Author.Tests.{eq-eqb, ne-eqb}
-use lib.Dec.{eqb}
+use borrow.Author.Tests.{eq-eqb, ne-eqb, lt-ltb, le-ltb}
+use lib.Dec.{eqb, ltb}
 use lib.ListN.{length, getD}
-use Rattle.lists.specs.Count.{count-yes, count-no, count-one, count-zero}
+use Rattle.lists.specs.Count.{pick, count-yes, count-no, count-one, count-zero}
 use Rattle.lists.specs.Table.{length-tabulate, getD-tabulate}
 use Rattle.incremental.specs.Decision.{accept}
 use Rattle.trace.specs.Links.{end, after, namers, predecessor, predecessors, linkChecks}
-use Rattle.trace.specs.Accepted.{Sound, Accepted, accepted}
+use Rattle.trace.specs.Accepted.{Accepted, accepted}
 
 pub predecessor-same : (s : List ℕ) (i j : ℕ) → after s i ≡ j → predecessor s (suc i) j ≡ i
 unfolding predecessor
@@ -81,16 +81,15 @@ predecessor-law s n small e i j hi hj = (λ p. to p (named s (length s) j), λ q
     from q (none p k) = absurd (omega (arith, names-one s (length s) i j hi q))
     from q (one l p k) = a .distinct (predecessor s (length s) j) i l hi (p ∙ sym q) (λ z. omega (arith, p, z))
 
--- past the entries every place holds the end, but for a place with the end's own number
-pub predecessor-past : (s : List ℕ) (j : ℕ) → length s ≤ end → Sound s → length s ≤ j → (j ≡ end → ⊥) → predecessor s (length s) j ≡ end
-predecessor-past s j small h l n =
-    predecessor-end s j small .1
-    (λ i q e. ⊎-elim (λ (z : after s i ≡ end). n (sym e ∙ z)) (λ (z : after s i < length s). omega arith) (h i q))
-
 pub length-predecessors : (s : List ℕ) (m : ℕ) → length (predecessors s m) ≡ m
 unfolding predecessors
-length-predecessors s m = length-tabulate m (predecessor s (length s))
+length-predecessors s m = length-tabulate m (λ j. pick (ltb j (length s)) (predecessor s (length s) j) end)
 
-pub at-predecessors : (s : List ℕ) (m k d : ℕ) → k < m → getD (predecessors s m) k d ≡ predecessor s (length s) k
+-- the place of an entry, and a place after them
+pub at-predecessors : (s : List ℕ) (m k d : ℕ) → k < m → k < length s → getD (predecessors s m) k d ≡ predecessor s (length s) k
 unfolding predecessors
-at-predecessors s m k d l = getD-tabulate m (predecessor s (length s)) k d l
+at-predecessors s m k d l h = getD-tabulate m (λ j. pick (ltb j (length s)) (predecessor s (length s) j) end) k d l ∙ rw (lt-ltb k (length s) h)
+
+pub past-predecessors : (s : List ℕ) (m k d : ℕ) → k < m → length s ≤ k → getD (predecessors s m) k d ≡ end
+unfolding predecessors
+past-predecessors s m k d l h = getD-tabulate m (λ j. pick (ltb j (length s)) (predecessor s (length s) j) end) k d l ∙ rw (le-ltb k (length s) h)

@@ -1,6 +1,7 @@
 // Checks 11 to 13 on the next indexes of a trace section, the table of predecessors and the chain count.
 ghost use mathlib.Core.Path.{_≡_};
-ghost use Prim.Native.Nat.{_*_, _≤_};
+ghost use mathlib.Core.Logic.{_⊎_};
+ghost use Prim.Native.Nat.{_*_, _≤_, _<_};
 ghost use lib.Dec.{eqb};
 ghost use lib.ListN.{length, getD};
 ghost use Rattle.lists.specs.First.{foundBelow};
@@ -66,15 +67,15 @@ fn first_astray(section: &[u8], entries: u32) -> Found
     Found::Nothing
 }
 
-// Entry i names `next`, whose place comes to hold i; END has no place in a buffer of no more places than END. `least` is the
-// smallest entry that was named twice so far.
+// Entry i names `next`, whose place comes to hold i, or ends a chain. `least` is the smallest entry that was named twice so far.
 fn store_predecessor(buffer: &mut [u32], i: u32, next: u32, least: u32) -> u32
+    requires { ⌜ (next ≡ end) ⊎ (next < length (now buffer)) ⌝ }
     ensures { λ r. ⌜ Stored i next least (now (buffer .entry)) r (now (buffer .exit)) ⌝ }
 {
-    let at = next as usize;
-    if buffer.len() <= at {
+    if next == END {
         return least;
     }
+    let at = next as usize;
     let earlier = buffer[at];
     buffer[at] = i;
     if earlier == END {

@@ -1,57 +1,48 @@
-use mathlib.Core.Path.{_≡_, refl, sym, _∙_}
-use mathlib.Core.Bool.{false}
+use mathlib.Core.Path.{refl}
+use mathlib.Core.Logic.{⊎-elim}
+use Prim.Native.Nat.{_<_}
 use native.Mathlib.Omega.{arith}
-use lib.Dec.{eqb}
-use lib.ListN.{getD, List·getD-eq-default}
-use lib.Seq.{set-out}
+use lib.ListN.{length}
 use borrow.Author.Tests.{eq-eqb, ne-eqb}
 use borrow.Author.Needs.{needs}
-use Rattle.lists.specs.Table.{getD-any}
-use Rattle.trace.specs.Links.{end}
 use Rattle.trace.proofs.store_predecessor.Statement.{statement}
 use Rattle.trace.proofs.store_predecessor.Tie as tie
 
--- the place held an entry before
-had : (c : tie.Else2) → eqb (getD (c .before .before .before .args .buffer .now) (c .before .before .before .args .next) end) end ≡ false
-had c =
-    let a = c .before .before .before .args in
-    ne-eqb _ _ (λ e. c .if2 .left (getD-any (a .buffer .now) (a .next) 0 end (c .before .before .if1 .left) ∙ e))
+inside : (c : tie.Else1) → c .before .args .next < length (c .before .args .buffer .now)
+inside c = ⊎-elim (λ e. absurd (c .if1 .left e)) (λ l. l) (c .before .pre)
 
 returns : tie.Need-returns
-returns c = let a = c .before .args in
-    let l = c .if1 .taken in
-    record { least-is = rw (List·getD-eq-default (a .buffer .now) end l); holds = sym (set-out (a .buffer .now) (a .next) (a .i) l) }
+returns c = record { ends = λ _. (refl, refl); names = λ n. absurd (n (c .if1 .taken)) }
 
 mul-earlier : tie.Need-mul-earlier
 mul-earlier c = search needs
 
 slice-read-earlier : tie.Need-slice-read-earlier
-slice-read-earlier c = search needs
+slice-read-earlier c = inside (c .before)
 
 mul-buffer : tie.Need-mul-buffer
 mul-buffer c = search needs
 
 slice-write-buffer : tie.Need-slice-write-buffer
-slice-write-buffer c = search needs
+slice-write-buffer c = inside (c .before)
 
 same-length : tie.Need-same-length
 same-length c = search needs
 
 returns-2 : tie.Need-returns-2
-returns-2 c = let a = c .before .before .before .args in
-    record { least-is = rw (eq-eqb _ _ (getD-any (a .buffer .now) (a .next) end 0 (c .before .before .if1 .left) ∙ c .if2 .taken)); holds = refl }
+returns-2 c = record { ends = λ e. absurd (c .before .before .if1 .left e); names = λ _. (rw (eq-eqb _ _ (c .if2 .taken)), refl) }
 
 same-length-2 : tie.Need-same-length-2
 same-length-2 c = search needs
 
 returns-3 : tie.Need-returns-3
-returns-3 c = record { least-is = rw (had (c .before)) (omega arith); holds = refl }
+returns-3 c = record { ends = λ e. absurd (c .before .before .before .if1 .left e); names = λ _. (rw (ne-eqb _ _ (c .before .if2 .left)) (omega arith), refl) }
 
 same-length-3 : tie.Need-same-length-3
 same-length-3 c = search needs
 
 returns-4 : tie.Need-returns-4
-returns-4 c = record { least-is = rw (had (c .before)) (omega arith); holds = refl }
+returns-4 c = record { ends = λ e. absurd (c .before .before .before .if1 .left e); names = λ _. (rw (ne-eqb _ _ (c .before .if2 .left)) (omega arith), refl) }
 
 pub store-predecessor-spec : {M : Type 1} → statement M
 store-predecessor-spec =
