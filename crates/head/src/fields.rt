@@ -105,8 +105,18 @@ pub fn head_of(v: Version, b: &[u8]) -> Head
     let files = little_endian::u32_at(b, 88);
     let links = little_endian::u32_at(b, 96);
     let text = little_endian::u32_at(b, 104);
-    let metrics = section_of(h, little_endian::u32_at(b, 84), files as usize * l.metric, files);
-    let trace = section_of(h, little_endian::u32_at(b, 92), links as usize * l.link, links);
+    let metrics = section_of(
+        h,
+        little_endian::u32_at(b, 84),
+        files as usize * l.metric,
+        files,
+    );
+    let trace = section_of(
+        h,
+        little_endian::u32_at(b, 92),
+        links as usize * l.link,
+        links,
+    );
     let strings = section_of(h, little_endian::u32_at(b, 100), text as usize, text);
     let volumes = section_of(
         h,
