@@ -1,0 +1,45 @@
+use Rattle.head.specs.Steps.{steps}
+use Rattle.head.specs.Checks.{openPlan}
+use borrow.Author.Needs.{needs}
+use Rattle.head.proofs.checks.read_open.Statement.{statement}
+use Rattle.head.proofs.checks.read_open.Tie as tie
+
+read-start-requires : tie.Need-read-start-requires
+read-start-requires c κs = search needs
+
+enum-known-s : tie.Need-enum-known-s
+enum-known-s c = search needs
+
+check-head-requires : tie.Need-check-head-requires
+check-head-requires c κs = search needs
+
+enum-known-r : tie.Need-enum-known-r
+enum-known-r c = search needs
+
+enum-known-k : tie.Need-enum-known-k
+enum-known-k c = search needs
+
+returns : tie.Need-returns
+unfolding openPlan
+returns c = search steps depth 12
+
+returns-2 : tie.Need-returns-2
+unfolding openPlan
+returns-2 c = search steps depth 12
+
+returns-3 : tie.Need-returns-3
+unfolding openPlan
+returns-3 c = search steps depth 12
+
+pub read-open-spec : {M : Type 1} → statement M
+read-open-spec =
+    tie.close
+    (tie.spec
+    read-start-requires
+    enum-known-s
+    check-head-requires
+    enum-known-r
+    enum-known-k
+    returns
+    returns-2
+    returns-3)
