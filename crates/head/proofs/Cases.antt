@@ -94,19 +94,3 @@ pub head-from : (v : Version) (b : List ℕ) (size : ℕ) (metrics trace strings
     → record { size = size; metrics = metrics; trace = trace; strings = strings; volumes = volumes } ≡ headOf v b
 unfolding headOf
 head-from v b size metrics trace strings volumes e m t s u = λ i. record { size = e i; metrics = m i; trace = t i; strings = s i; volumes = u i }
-
--- the part of a section, where the bytes end before it, within it and after it
-pub part-none : (b : List ℕ) (at len : ℕ) → length b ≤ at → [] ≡ take len (drop at b)
-part-none b at len h = rw (drop-of-length-le b h) (sym (take-nil len))
-
-pub part-rest : (b : List ℕ) (at len : ℕ) → length b - at ≤ len → take (length b - at) (drop at b) ≡ take len (drop at b)
-part-rest b at len h =
-    let e : length (drop at b) ≡ length b - at = length-drop at b in
-    take-all (length b - at) (drop at b) (omega arith) ∙ sym (take-all len (drop at b) (omega arith))
-
-pub part-whole : (b : List ℕ) (at len : ℕ) → take (at + len - at) (drop at b) ≡ take len (drop at b)
-part-whole b at len =
-    let e : at + len - at ≡ len = omega arith in
-    rw e
-
-pub ruleset parts = (part-none, part-rest, part-whole)

@@ -27,16 +27,7 @@ pub struct Head {
 pub fn part_of(bytes: &[u8], s: Section) -> &[u8]
     ensures { λ r. ⌜ now r ≡ part s (now (bytes .entry)) ⌝ }
 {
-    let at = s.at;
-    let len = s.len;
-    if bytes.len() <= at {
-        return &bytes[..0];
-    }
-    if bytes.len() - at <= len {
-        return &bytes[at..];
-    }
-    let end = at + len;
-    &bytes[at..end]
+    lists::part(bytes, s.at, s.len)
 }
 
 pub fn signature_fault(b: &[u8]) -> Found

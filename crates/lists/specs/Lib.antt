@@ -3,3 +3,4 @@ pub mod Count
 pub mod Table
 pub mod Tests
 pub mod Pigeon
+pub mod Parts

@@ -1,7 +1,23 @@
-// Laws on lists that several crates need: all of this crate is in specs/.
+// Laws on lists that several crates need are in specs/; here is what they share of code.
+ghost use mathlib.Core.Path.{_≡_};
+ghost use lib.ListN.{take, drop};
 
 // The index that a search found, if any.
 pub enum Found {
     At(usize),
     Nothing,
+}
+
+// So many bytes from an offset, or as many of them as there are.
+pub fn part(bytes: &[u8], at: usize, len: usize) -> &[u8]
+    ensures { λ r. ⌜ now r ≡ take len (drop at (now (bytes .entry))) ⌝ }
+{
+    if bytes.len() <= at {
+        return &bytes[..0];
+    }
+    if bytes.len() - at <= len {
+        return &bytes[at..];
+    }
+    let end = at + len;
+    &bytes[at..end]
 }

@@ -40,7 +40,7 @@ fn found_below(entries: u32, i: u32) -> Found
 }
 
 // Every place of the buffer holds END.
-fn fill(buffer: &mut [u32])
+pub fn fill(buffer: &mut [u32])
     ensures { λ _. ⌜ now (buffer .exit) ≡ filled (length (now (buffer .entry))) ⌝ }
 {
     let mut i = 0;

@@ -1,7 +1,7 @@
-use Rattle.head.proofs.Cases.{parts}
+use Rattle.lists.specs.Parts.{parts}
 use borrow.Author.Needs.{needs}
-use Rattle.head.proofs.fields.part_of.Statement.{statement}
-use Rattle.head.proofs.fields.part_of.Tie as tie
+use Rattle.lists.proofs.part.Statement.{statement}
+use Rattle.lists.proofs.part.Tie as tie
 
 slice-aggregate-result : tie.Need-slice-aggregate-result
 slice-aggregate-result c = search needs
@@ -39,8 +39,8 @@ part-result-end-2 c = search needs
 returns-3 : tie.Need-returns-3
 returns-3 c = search parts
 
-pub part-of-spec : {M : Type 1} → statement M
-part-of-spec =
+pub part-spec : {M : Type 1} → statement M
+part-spec =
     tie.close
     (tie.spec
     slice-aggregate-result

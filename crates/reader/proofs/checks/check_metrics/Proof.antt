@@ -1,0 +1,62 @@
+use borrow.Author.Needs.{needs}
+use Rattle.reader.proofs.checks.check_metrics.Statement.{statement}
+use Rattle.reader.proofs.checks.check_metrics.Tie as tie
+use Rattle.reader.proofs.checks.check_metrics.Reads as reads
+use Rattle.reader.proofs.checks.check_metrics.Lts as lts
+use Rattle.head.proofs.part_of.Reads as part-of-reads
+use Rattle.names.proofs.first_misfit.Reads as first-misfit-reads
+use Rattle.reader.proofs.checks.check_names.Reads as check-names-reads
+
+-- src/checks.rt:118:9
+returns : tie.Need-returns
+returns c = search needs
+
+-- src/checks.rt:120:33
+slice-aggregate-part-of : tie.Need-slice-aggregate-part-of
+slice-aggregate-part-of c = search needs
+
+-- src/checks.rt:120:9
+part-of-requires : tie.Need-part-of-requires
+part-of-requires c κs = search needs
+
+-- src/checks.rt:121:27
+first-misfit-requires : tie.Need-first-misfit-requires
+first-misfit-requires c κs = search needs
+
+-- src/checks.rt:121:22
+enum-known-i : tie.Need-enum-known-i
+enum-known-i c = search needs
+
+-- src/checks.rt:122:9
+returns-2 : tie.Need-returns-2
+returns-2 c = search needs
+
+enum-told : tie.Need-enum-told
+enum-told c = search needs
+
+-- src/checks.rt:127:5
+check-names-requires : tie.Need-check-names-requires
+check-names-requires c κs = search needs
+
+-- src/checks.rt:109:1
+same-length : tie.Need-same-length
+same-length c = search needs
+
+-- src/checks.rt:109:1
+returns-3 : tie.Need-returns-3
+returns-3 c = search needs
+
+pub check-metrics-spec : {M : Type 1} → statement M
+check-metrics-spec =
+    tie.close
+    (tie.spec
+    returns
+    slice-aggregate-part-of
+    part-of-requires
+    first-misfit-requires
+    enum-known-i
+    returns-2
+    enum-told
+    check-names-requires
+    same-length
+    returns-3)

@@ -1,0 +1,78 @@
+use borrow.Author.Needs.{needs}
+use Rattle.reader.proofs.checks.check_names.Statement.{statement}
+use Rattle.reader.proofs.checks.check_names.Tie as tie
+use Rattle.reader.proofs.checks.check_names.Reads as reads
+use Rattle.reader.proofs.checks.check_names.Lts as lts
+use Rattle.head.proofs.part_of.Reads as part-of-reads
+use Rattle.names.proofs.first_unsound.Reads as first-unsound-reads
+use Rattle.reader.proofs.checks.check_trace.Reads as check-trace-reads
+use Rattle.reader.proofs.checks.names_reach.Reads as names-reach-reads
+
+-- src/checks.rt:90:9
+names-reach-requires : tie.Need-names-reach-requires
+names-reach-requires c κs = search needs
+
+-- src/checks.rt:95:9
+returns : tie.Need-returns
+returns c = search needs
+
+-- src/checks.rt:97:33
+slice-aggregate-part-of : tie.Need-slice-aggregate-part-of
+slice-aggregate-part-of c = search needs
+
+-- src/checks.rt:97:9
+part-of-requires : tie.Need-part-of-requires
+part-of-requires c κs = search needs
+
+-- src/checks.rt:98:30
+slice-aggregate-part-of-2 : tie.Need-slice-aggregate-part-of-2
+slice-aggregate-part-of-2 c = search needs
+
+-- src/checks.rt:98:9
+part-of-requires-2 : tie.Need-part-of-requires-2
+part-of-requires-2 c κs = search needs
+
+-- src/checks.rt:99:27
+first-unsound-requires : tie.Need-first-unsound-requires
+first-unsound-requires c κs = search needs
+
+-- src/checks.rt:99:22
+enum-known-i : tie.Need-enum-known-i
+enum-known-i c = search needs
+
+-- src/checks.rt:100:9
+returns-2 : tie.Need-returns-2
+returns-2 c = search needs
+
+enum-told : tie.Need-enum-told
+enum-told c = search needs
+
+-- src/checks.rt:105:5
+check-trace-requires : tie.Need-check-trace-requires
+check-trace-requires c κs = search needs
+
+-- src/checks.rt:86:1
+same-length : tie.Need-same-length
+same-length c = search needs
+
+-- src/checks.rt:86:1
+returns-3 : tie.Need-returns-3
+returns-3 c = search needs
+
+pub check-names-spec : {M : Type 1} → statement M
+check-names-spec =
+    tie.close
+    (tie.spec
+    names-reach-requires
+    returns
+    slice-aggregate-part-of
+    part-of-requires
+    slice-aggregate-part-of-2
+    part-of-requires-2
+    first-unsound-requires
+    enum-known-i
+    returns-2
+    enum-told
+    check-trace-requires
+    same-length
+    returns-3)

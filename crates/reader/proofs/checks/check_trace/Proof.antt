@@ -1,0 +1,85 @@
+use borrow.Author.Needs.{needs}
+use Rattle.reader.proofs.checks.check_trace.Statement.{statement}
+use Rattle.reader.proofs.checks.check_trace.Tie as tie
+use Rattle.reader.proofs.checks.check_trace.Reads as reads
+use Rattle.reader.proofs.checks.check_trace.Lts as lts
+use Rattle.head.proofs.part_of.Reads as part-of-reads
+use Rattle.layout.proofs.Layout.of.Reads as of-reads
+use Rattle.reader.proofs.checks.check_volumes.Reads as check-volumes-reads
+use Rattle.reader.proofs.verdict.record_of.Reads as record-of-reads
+use Rattle.trace.proofs.check_links.Reads as check-links-reads
+
+-- src/checks.rt:56:13
+of-requires : tie.Need-of-requires
+of-requires c κs = search needs
+
+-- src/checks.rt:58:9
+returns : tie.Need-returns
+returns c = search needs
+
+-- src/checks.rt:60:31
+slice-aggregate-part-of : tie.Need-slice-aggregate-part-of
+slice-aggregate-part-of c = search needs
+
+-- src/checks.rt:60:9
+part-of-requires : tie.Need-part-of-requires
+part-of-requires c κs = search needs
+
+-- src/checks.rt:61:11
+check-links-requires : tie.Need-check-links-requires
+check-links-requires c κs = search needs
+
+-- src/checks.rt:62:23
+enum-known-n : tie.Need-enum-known-n
+enum-known-n c = search needs
+
+-- src/checks.rt:63:50
+slice-aggregate-record-of : tie.Need-slice-aggregate-record-of
+slice-aggregate-record-of c = search needs
+
+-- src/checks.rt:63:17
+record-of-requires : tie.Need-record-of-requires
+record-of-requires c κs = search needs
+
+-- src/checks.rt:64:13
+check-volumes-requires : tie.Need-check-volumes-requires
+check-volumes-requires c κs = search needs
+
+-- src/checks.rt:66:24
+enum-known-r : tie.Need-enum-known-r
+enum-known-r c = search needs
+
+-- src/checks.rt:49:1
+same-length : tie.Need-same-length
+same-length c = search needs
+
+-- src/checks.rt:49:1
+returns-2 : tie.Need-returns-2
+returns-2 c = search needs
+
+-- src/checks.rt:49:1
+same-length-2 : tie.Need-same-length-2
+same-length-2 c = search needs
+
+-- src/checks.rt:49:1
+returns-3 : tie.Need-returns-3
+returns-3 c = search needs
+
+pub check-trace-spec : {M : Type 1} → statement M
+check-trace-spec =
+    tie.close
+    (tie.spec
+    of-requires
+    returns
+    slice-aggregate-part-of
+    part-of-requires
+    check-links-requires
+    enum-known-n
+    slice-aggregate-record-of
+    record-of-requires
+    check-volumes-requires
+    enum-known-r
+    same-length
+    returns-2
+    same-length-2
+    returns-3)

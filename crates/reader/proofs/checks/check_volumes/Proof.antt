@@ -1,0 +1,58 @@
+use borrow.Author.Needs.{needs}
+use Rattle.reader.proofs.checks.check_volumes.Statement.{statement}
+use Rattle.reader.proofs.checks.check_volumes.Tie as tie
+use Rattle.reader.proofs.checks.check_volumes.Reads as reads
+use Rattle.reader.proofs.checks.check_volumes.Lts as lts
+use Rattle.head.proofs.part_of.Reads as part-of-reads
+use Rattle.reader.proofs.checks.volumes_reach.Reads as volumes-reach-reads
+use Rattle.volumes.proofs.check_volumes.Reads as check-volumes-reads
+
+-- src/checks.rt:36:9
+volumes-reach-requires : tie.Need-volumes-reach-requires
+volumes-reach-requires c κs = search needs
+
+-- src/checks.rt:40:9
+returns : tie.Need-returns
+returns c = search needs
+
+-- src/checks.rt:42:48
+slice-aggregate-part-of : tie.Need-slice-aggregate-part-of
+slice-aggregate-part-of c = search needs
+
+-- src/checks.rt:42:34
+part-of-requires : tie.Need-part-of-requires
+part-of-requires c κs = search needs
+
+-- src/checks.rt:42:11
+check-volumes-requires : tie.Need-check-volumes-requires
+check-volumes-requires c κs = search needs
+
+-- src/checks.rt:43:28
+enum-told : tie.Need-enum-told
+enum-told c = search needs
+
+-- src/checks.rt:44:26
+enum-known-r : tie.Need-enum-known-r
+enum-known-r c = search needs
+
+-- src/checks.rt:32:1
+returns-2 : tie.Need-returns-2
+returns-2 c = search needs
+
+-- src/checks.rt:32:1
+returns-3 : tie.Need-returns-3
+returns-3 c = search needs
+
+pub check-volumes-spec : {M : Type 1} → statement M
+check-volumes-spec =
+    tie.close
+    (tie.spec
+    volumes-reach-requires
+    returns
+    slice-aggregate-part-of
+    part-of-requires
+    check-volumes-requires
+    enum-told
+    enum-known-r
+    returns-2
+    returns-3)

@@ -1,0 +1,21 @@
+use borrow.Author.Needs.{needs}
+use Rattle.reader.proofs.checks.volumes_reach.Statement.{statement}
+use Rattle.reader.proofs.checks.volumes_reach.Tie as tie
+use Rattle.reader.proofs.checks.volumes_reach.Reads as reads
+use Rattle.reader.proofs.checks.volumes_reach.Lts as lts
+use Rattle.layout.proofs.Layout.of.Reads as of-reads
+
+-- src/checks.rt:26:16
+of-requires : tie.Need-of-requires
+of-requires c κs = search needs
+
+-- src/checks.rt:26:9
+returns : tie.Need-returns
+returns c = search needs
+
+-- src/checks.rt:21:1
+returns-2 : tie.Need-returns-2
+returns-2 c = search needs
+
+pub volumes-reach-spec : {M : Type 1} → statement M
+volumes-reach-spec = tie.close (tie.spec of-requires returns returns-2)

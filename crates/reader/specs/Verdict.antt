@@ -1,0 +1,59 @@
+-- What the readers answer: document 01's number and values for each case, and the working buffer afterwards.
+use mathlib.Core.Path.{_≡_}
+use mathlib.Core.List.{List}
+use Prim.Native.Nat.{ℕ}
+use Rattle.incremental.specs.Decision.{Decision, accept, refuse, refusal}
+use Rattle.incremental.specs.Plan.{Answer, decided, wants}
+use Rattle.trace.specs.Links.{filled}
+use Rattle.reader.specs.declared.verdict.Acceptance.{Acceptance}
+use Rattle.reader.specs.declared.verdict.Verdict.{Verdict}
+use Rattle.reader.specs.declared.verdict.Verdict.the-variants.{Accepted, Refused, Wanted}
+
+-- what all checks give: the acceptance record, and the table of predecessors
+pub record Acceptable : Type 0 where
+  pub fields : Acceptance
+  pub table : List ℕ
+
+-- with any other answer every field is zero
+abbrev pub zeros : Acceptance
+zeros = record { version = 0; size = 0; units = 0; hash = 0; time = 0; runs = 0; metrics = 0; trace = 0; volumes = 0; chains = 0 }
+
+-- a verdict in numbers. Its kind is 0 for an acceptance, 1 for a refusal with its number and index, and 2 for a request.
+pub record Values : Type 0 where
+  pub kind : ℕ
+  pub number : ℕ
+  pub index : ℕ
+  pub wanted : ℕ
+  pub fields : Acceptance
+
+abbrev pub acceptedValues : Acceptance → Values
+acceptedValues a = record { kind = 0; number = 0; index = 0; wanted = 0; fields = a }
+
+abbrev pub refusedValues : ℕ → ℕ → Values
+refusedValues number index = record { kind = 1; number = number; index = index; wanted = 0; fields = zeros }
+
+abbrev pub wantedValues : ℕ → Values
+wantedValues k = record { kind = 2; number = 0; index = 0; wanted = k; fields = zeros }
+
+-- what each case of the verdict says
+abbrev pub valuesOf : Verdict → Values
+valuesOf (Accepted a) = acceptedValues a
+valuesOf (Refused r) = refusedValues (r .number) (r .index)
+valuesOf (Wanted k) = wantedValues k
+
+-- what the checks say
+abbrev pub answerValues : Answer Acceptable → Values
+answerValues (decided (accept x)) = acceptedValues (x .fields)
+answerValues (decided (refuse r)) = refusedValues (r .number) (r .index)
+answerValues (wants k) = wantedValues k
+
+-- the working buffer of m places afterwards: the table after an acceptance, and filled after anything else
+abbrev pub bufferAfter : Answer Acceptable → ℕ → List ℕ
+bufferAfter (decided (accept x)) m = x .table
+bufferAfter (decided (refuse r)) m = filled m
+bufferAfter (wants k) m = filled m
+
+-- THE PROMISE of a reader whose checks answer so: its verdict, and the working buffer of m places afterwards
+pub record Reads (answer : Answer Acceptable) (m : ℕ) (v : Verdict) (after : List ℕ) : Type 0 where
+  pub verdict : valuesOf v ≡ answerValues answer
+  pub buffer : after ≡ bufferAfter answer m

@@ -1,0 +1,8 @@
+// The prefix reader and the whole-file reader.
+mod checks;
+mod verdict;
+
+pub use checks::read_file;
+pub use checks::read_prefix;
+pub use verdict::Acceptance;
+pub use verdict::Verdict;
