@@ -1,10 +1,10 @@
 -- The cases of the definitions, for `search` at a function's returns: `r` and `l` are what calls gave, and the tests are the branches' facts.
-use mathlib.Core.Path.{_≡_, refl, sym, ap, _∙_}
+use mathlib.Core.Path.{_≡_, sym, ap, _∙_}
 use mathlib.Core.Bool.{Bool, true, false}
 use mathlib.Core.List.{List, []}
-use Prim.Native.Nat.{ℕ, _+_, _-_, _*_, _≤_, _<_, _^_}
+use Prim.Native.Nat.{ℕ, _+_, _-_, _*_, _≤_, _<_}
 use native.Mathlib.Omega.{arith}
-use native.Mathlib.Nat.{mul-le-mul-left, le-refl}
+use native.Mathlib.Nat.{mul-le-mul-left}
 use lib.ListN.{length, take, drop, length-drop, drop-of-length-le}
 use lib.Seq.{take-all, take-nil}
 use mir.Syntax.{w64}
@@ -14,7 +14,7 @@ use Rattle.lists.specs.declared.Found.{Found}
 use Rattle.lists.specs.declared.Found.the-variants.{At, Nothing}
 use Rattle.lists.specs.First.{pickFound}
 use Rattle.little_endian.specs.Number.{le}
-use Rattle.layout.specs.Versions.{layoutOf, sizeLimit, Sound, layout-sound}
+use Rattle.layout.specs.Versions.{layoutOf, sizeLimit, layout-sound}
 use Rattle.layout.specs.declared.Version.{Version}
 use Rattle.layout.specs.declared.Layout.{Layout}
 use Rattle.head.specs.declared.fields.Section.{Section}

@@ -1,5 +1,5 @@
 -- The steps of these checks, for `search` at a function's returns. `r` is what a call gave; the code has matched on it.
-use mathlib.Core.Path.{_≡_, refl, sym, _∙_}
+use mathlib.Core.Path.{_≡_, sym, _∙_}
 use mathlib.Core.List.{List}
 use Prim.Native.Nat.{ℕ, _≤_, _<_}
 use lib.ListN.{length, take}
@@ -10,7 +10,7 @@ use Rattle.layout.specs.declared.Version.{Version}
 use Rattle.layout.specs.declared.Layout.{Layout}
 use Rattle.layout.specs.declared.KnownVersion.{KnownVersion}
 use Rattle.layout.specs.declared.KnownVersion.the-variants.{Known, Unknown}
-use Rattle.incremental.specs.Decision.{Decision, accept, refuse, refusal}
+use Rattle.incremental.specs.Decision.{accept, refuse, refusal}
 use Rattle.incremental.specs.Plan.{Plan, await, andThen, Answer, decided, wants, run, run-here, run-short, run-then, run-steps}
 use Rattle.incremental.specs.declared.Refusal.{Refusal}
 use Rattle.head.specs.declared.fields.Head.{Head}
