@@ -17,7 +17,8 @@ use Rattle.incremental.specs.declared.Refusal.{Refusal}
 use Rattle.incremental.specs.declared.Checked.{Checked}
 use Rattle.incremental.specs.declared.Checked.the-variants as checked
 use Rattle.head.specs.Fields.{faultAt, part}
-use Rattle.head.specs.Checks.{openPlan, openOf}
+use Rattle.head.specs.Checks.{stop, openPlan, openOf}
+use Rattle.head.specs.Steps.{stop-hit, stop-miss}
 use Rattle.head.specs.declared.checks.Opening.{Opening}
 use Rattle.head.specs.declared.checks.OpenAnswer.{OpenAnswer}
 use Rattle.head.specs.declared.checks.OpenAnswer.the-variants as openAnswer
@@ -81,6 +82,13 @@ module _ (o : Opening) (p : List ℕ) (k : ℕ) (e : k ≡ volumesReach o) where
 
 -- ---- 11 to 13
 
+abbrev nextsOf : Opening → List ℕ → List ℕ
+nextsOf o section = nexts section (o .head .trace .count)
+
+-- what follows the decision on the links
+abbrev afterLinks : ℕ → Opening → (ℕ → Acceptance) → List ℕ → Decision ℕ → Plan Acceptable
+afterLinks m o fields section d = andThen (decide d) λ chains. volumesPlan o (record { fields = fields chains; table = predecessors (nextsOf o section) m })
+
 module _ (m : ℕ) (o : Opening) (fields : ℕ → Acceptance) (p : List ℕ) where
   pub trace-short : length p < o .head .trace .end → wants (o .head .trace .end) ≡ run (tracePlan m o fields) p
   unfolding tracePlan
@@ -88,32 +96,110 @@ module _ (m : ℕ) (o : Opening) (fields : ℕ → Acceptance) (p : List ℕ) wh
 
   module _ (section : List ℕ) (h : o .head .trace .end ≤ length p) (e : section ≡ part (o .head .trace) (take (o .head .trace .end) p))
       (room : o .head .trace .count ≤ m) (r : Links) (buffer : List ℕ) (a : LinkAnswer section (o .head .trace .count) m r buffer) where
-    s : List ℕ
-    s = nexts section (o .head .trace .count)
+    decides : linkChecks (nextsOf o section) ≡ linksOf r
+    decides = sym (a .answer ∙ trace-room (nextsOf o section) m (rw (length-nexts section (o .head .trace .count)) room))
 
-    decides : linkChecks s ≡ linksOf r
-    unfolding s
-    decides = sym (a .answer ∙ trace-room s m (rw (length-nexts section (o .head .trace .count)) room))
+    trace-here : run (tracePlan m o fields) p ≡ run (afterLinks m o fields section (linksOf r)) p
+    unfolding tracePlan
+    trace-here = rw (run-here (o .head .trace .end) _ p h, ← e) (ap (λ (d : Decision ℕ). run (afterLinks m o fields section d) p) decides)
 
-    trace-here : run (tracePlan m o fields) p ≡ run (andThen (decide (linksOf r)) λ chains. volumesPlan o (record { fields = fields chains; table = predecessors s m })) p
-    unfolding tracePlan s
-    trace-here = rw (run-here (o .head .trace .end) _ p h, ← e, ← decides)
+    trace-case : (l : Links) → r ≡ l → run (tracePlan m o fields) p ≡ run (afterLinks m o fields section (linksOf l)) p
+    trace-case l q = trace-here ∙ ap (λ (x : Links). run (afterLinks m o fields section (linksOf x)) p) q
 
     pub trace-refused : (f : Refusal) → r ≡ links.Refused f → decided (refuse f) ≡ run (tracePlan m o fields) p
     unfolding run andThen
-    trace-refused f q = sym (trace-here ∙ rw q)
+    trace-refused f q = sym (trace-case (links.Refused f) q)
 
     -- the buffer is the table
-    tabled : (n : ℕ) → r ≡ links.Chains n → buffer ≡ predecessors s m
-    unfolding s
-    tabled n q = a .holds ∙ ap (λ (d : Decision ℕ). held d s m) (sym (a .answer) ∙ ap linksOf q)
+    tabled : (n : ℕ) → r ≡ links.Chains n → buffer ≡ predecessors (nextsOf o section) m
+    tabled n q = a .holds ∙ ap (λ (d : Decision ℕ). held d (nextsOf o section) m) (sym (a .answer) ∙ ap linksOf q)
 
     pub trace-passed : (n : ℕ) (x : Acceptance) (v : Verdict) → r ≡ links.Chains n → x ≡ fields n
         → ((t : List ℕ) → verdictOf v t ≡ run (volumesPlan o (record { fields = x; table = t })) p)
         → verdictOf v buffer ≡ run (tracePlan m o fields) p
-    unfolding run andThen
+    unfolding andThen
     trace-passed n x v q f w =
         w buffer
         ∙ ap (λ (t : List ℕ). run (volumesPlan o (record { fields = x; table = t })) p) (tabled n q)
-        ∙ ap (λ (y : Acceptance). run (volumesPlan o (record { fields = y; table = predecessors s m })) p) f
-        ∙ sym (trace-here ∙ rw q)
+        ∙ ap (λ (y : Acceptance). run (volumesPlan o (record { fields = y; table = predecessors (nextsOf o section) m })) p) f
+        ∙ sym (trace-case (links.Chains n) q)
+
+-- ---- 10
+
+module _ (m : ℕ) (o : Opening) (fields : ℕ → Acceptance) (p : List ℕ) (k : ℕ) (e : k ≡ namesReach o) where
+  pub names-short : length p < k → wants k ≡ run (namesPlan m o fields) p
+  unfolding namesPlan
+  names-short h = rw (run-short (namesReach o) _ p (rw (← e) h), ← e)
+
+  names-here : (metrics strings : List ℕ) (r : Found) → k ≤ length p → metrics ≡ part (o .head .metrics) (take k p) → strings ≡ part (o .head .strings) (take k p)
+      → r ≡ firstUnsound (o .version) metrics (o .head .metrics .count) strings
+      → run (namesPlan m o fields) p ≡ run (stop 10 r (tracePlan m o fields)) p
+  unfolding namesPlan
+  names-here metrics strings r h a b q = rw (run-here (namesReach o) _ p (rw (← e) h), ← e, ← a, ← b, ← q)
+
+  pub names-hit : (metrics strings : List ℕ) (r : Found) (i : ℕ) → k ≤ length p → metrics ≡ part (o .head .metrics) (take k p) → strings ≡ part (o .head .strings) (take k p)
+      → r ≡ firstUnsound (o .version) metrics (o .head .metrics .count) strings → r ≡ At i
+      → decided (refuse (refusal 10 i)) ≡ run (namesPlan m o fields) p
+  names-hit metrics strings r i h a b q z = stop-hit 10 i r r (tracePlan m o fields) p refl z ∙ sym (names-here metrics strings r h a b q)
+
+  pub names-miss : (metrics strings : List ℕ) (r : Found) (v : Answer Acceptable) → k ≤ length p → metrics ≡ part (o .head .metrics) (take k p) → strings ≡ part (o .head .strings) (take k p)
+      → r ≡ firstUnsound (o .version) metrics (o .head .metrics .count) strings → r ≡ Nothing
+      → v ≡ run (tracePlan m o fields) p → v ≡ run (namesPlan m o fields) p
+  names-miss metrics strings r v h a b q z w = stop-miss 10 r r (tracePlan m o fields) p v refl z w ∙ sym (names-here metrics strings r h a b q)
+
+-- ---- 9
+
+module _ (m : ℕ) (o : Opening) (fields : ℕ → Acceptance) (p : List ℕ) where
+  pub metrics-short : length p < o .head .metrics .end → wants (o .head .metrics .end) ≡ run (metricsPlan m o fields) p
+  unfolding metricsPlan
+  metrics-short h = sym (run-short (o .head .metrics .end) _ p h)
+
+  metrics-here : (metrics : List ℕ) (r : Found) → o .head .metrics .end ≤ length p → metrics ≡ part (o .head .metrics) (take (o .head .metrics .end) p)
+      → r ≡ firstMisfit (o .version) metrics (o .head .metrics .count) (o .head .strings .len)
+      → run (metricsPlan m o fields) p ≡ run (stop 9 r (namesPlan m o fields)) p
+  unfolding metricsPlan
+  metrics-here metrics r h a q = rw (run-here (o .head .metrics .end) _ p h, ← a, ← q)
+
+  pub metrics-hit : (metrics : List ℕ) (r : Found) (i : ℕ) → o .head .metrics .end ≤ length p → metrics ≡ part (o .head .metrics) (take (o .head .metrics .end) p)
+      → r ≡ firstMisfit (o .version) metrics (o .head .metrics .count) (o .head .strings .len) → r ≡ At i
+      → decided (refuse (refusal 9 i)) ≡ run (metricsPlan m o fields) p
+  metrics-hit metrics r i h a q z = stop-hit 9 i r r (namesPlan m o fields) p refl z ∙ sym (metrics-here metrics r h a q)
+
+  pub metrics-miss : (metrics : List ℕ) (r : Found) (v : Answer Acceptable) → o .head .metrics .end ≤ length p → metrics ≡ part (o .head .metrics) (take (o .head .metrics .end) p)
+      → r ≡ firstMisfit (o .version) metrics (o .head .metrics .count) (o .head .strings .len) → r ≡ Nothing
+      → v ≡ run (namesPlan m o fields) p → v ≡ run (metricsPlan m o fields) p
+  metrics-miss metrics r v h a q z w = stop-miss 9 r r (namesPlan m o fields) p v refl z w ∙ sym (metrics-here metrics r h a q)
+
+-- ---- 7 and 8
+
+module _ (m : ℕ) (o : Opening) (p : List ℕ) (h : headEnd o ≤ length p) where
+  pub few-places : m < o .head .trace .count → decided (refuse (refusal 7 0)) ≡ run (restPlan m o) p
+  unfolding restPlan run
+  few-places l = rw (run-here (headEnd o) _ p h, lt-ltb m (o .head .trace .count) l)
+
+  pub few-bytes : o .head .trace .count ≤ m → o .head .volumes .len < o .head .volumes .count * layoutOf (o .version) .volume
+      → decided (refuse (refusal 8 0)) ≡ run (restPlan m o) p
+  unfolding restPlan run
+  few-bytes l n = rw (run-here (headEnd o) _ p h, le-ltb m (o .head .trace .count) l, lt-ltb _ _ n)
+
+  pub room-enough : (v : Answer Acceptable) → RoomFor o m → v ≡ run (metricsPlan m o (recordOf o (take (headEnd o) p))) p → v ≡ run (restPlan m o) p
+  unfolding restPlan
+  room-enough v r w = rw (run-here (headEnd o) _ p h, le-ltb m (o .head .trace .count) (r .places), le-ltb _ _ (r .entries)) w
+
+-- ---- the readers
+
+-- a verdict of all checks, once the working buffer is seen to
+pub reads-accepted : (answer : Answer Acceptable) (m : ℕ) (after : List ℕ) (v : Verdict) (a : Acceptance) → verdictOf v after ≡ answer → v ≡ Accepted a → Reads answer m (Accepted a) after
+reads-accepted answer m after v a e q =
+    let x : answer ≡ decided (accept (record { fields = a; table = after })) = sym e ∙ ap (λ (y : Verdict). verdictOf y after) q in
+    rw x (record { verdict = refl; buffer = refl })
+
+pub reads-refused : (answer : Answer Acceptable) (m : ℕ) (after last : List ℕ) (v : Verdict) (r : Refusal) → verdictOf v after ≡ answer → v ≡ Refused r → last ≡ filled m → Reads answer m (Refused r) last
+reads-refused answer m after last v r e q f =
+    let x : answer ≡ decided (refuse r) = sym e ∙ ap (λ (y : Verdict). verdictOf y after) q in
+    rw x (record { verdict = refl; buffer = f })
+
+pub reads-wanted : (answer : Answer Acceptable) (m : ℕ) (after last : List ℕ) (v : Verdict) (k : ℕ) → verdictOf v after ≡ answer → v ≡ Wanted k → last ≡ filled m → Reads answer m (Wanted k) last
+reads-wanted answer m after last v k e q f =
+    let x : answer ≡ wants k = sym e ∙ ap (λ (y : Verdict). verdictOf y after) q in
+    rw x (record { verdict = refl; buffer = f })

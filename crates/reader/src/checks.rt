@@ -4,6 +4,7 @@ ghost use Prim.Native.Nat.{ℕ, _*_, _≤_};
 ghost use lib.ListN.{length, take};
 ghost use Rattle.incremental.specs.Plan.{run};
 ghost use Rattle.layout.specs.Versions.{layoutOf};
+ghost use Rattle.head.specs.Facts.{OpenFacts};
 ghost use Rattle.reader.specs.Verdict.{Reads};
 ghost use Rattle.reader.specs.Checks.{headEnd, recordOf, volumesReach, namesReach, volumesPlan, tracePlan, namesPlan, metricsPlan, restPlan, readPlan, prefixAnswer, fileAnswer};
 ghost use Rattle.reader.specs.Stages.{verdictOf, RoomFor, misfitAnswer};
@@ -30,6 +31,7 @@ fn volumes_reach(o: Opening) -> usize
 
 // Checks 14 and 15.
 fn check_volumes(file: &[u8], o: Opening, a: Acceptance) -> Verdict
+    requires { ⌜ OpenFacts (now file) o ⌝ }
     requires { ⌜ o .head .volumes .count * layoutOf (o .version) .volume ≤ o .head .volumes .len ⌝ }
     ensures { λ r. ⌜ ((t : List ℕ) → verdictOf r t ≡ run (volumesPlan o (record { fields = a; table = t })) (now (file .entry))) ⌝ }
 {
@@ -47,6 +49,7 @@ fn check_volumes(file: &[u8], o: Opening, a: Acceptance) -> Verdict
 
 // Checks 11 to 13, the table of predecessors and the record; then what follows.
 fn check_trace(file: &[u8], o: Opening, predecessors: &mut [u32]) -> Verdict
+    requires { ⌜ OpenFacts (now file) o ⌝ }
     requires { ⌜ RoomFor o (length (now predecessors)) ⌝ }
     ensures { λ r. ⌜ verdictOf r (now (predecessors .exit)) ≡ run (tracePlan (length (now (predecessors .entry))) o (recordOf o (take (headEnd o) (now (file .entry))))) (now (file .entry)) ⌝ }
 {
@@ -84,6 +87,7 @@ fn names_reach(o: Opening) -> usize
 
 // Check 10, and what follows.
 fn check_names(file: &[u8], o: Opening, predecessors: &mut [u32]) -> Verdict
+    requires { ⌜ OpenFacts (now file) o ⌝ }
     requires { ⌜ RoomFor o (length (now predecessors)) ⌝ }
     ensures { λ r. ⌜ verdictOf r (now (predecessors .exit)) ≡ run (namesPlan (length (now (predecessors .entry))) o (recordOf o (take (headEnd o) (now (file .entry))))) (now (file .entry)) ⌝ }
 {
@@ -107,6 +111,7 @@ fn check_names(file: &[u8], o: Opening, predecessors: &mut [u32]) -> Verdict
 
 // Check 9, and what follows.
 fn check_metrics(file: &[u8], o: Opening, predecessors: &mut [u32]) -> Verdict
+    requires { ⌜ OpenFacts (now file) o ⌝ }
     requires { ⌜ RoomFor o (length (now predecessors)) ⌝ }
     ensures { λ r. ⌜ verdictOf r (now (predecessors .exit)) ≡ run (metricsPlan (length (now (predecessors .entry))) o (recordOf o (take (headEnd o) (now (file .entry))))) (now (file .entry)) ⌝ }
 {
@@ -129,6 +134,7 @@ fn check_metrics(file: &[u8], o: Opening, predecessors: &mut [u32]) -> Verdict
 
 // Checks 7 and 8, and what follows.
 fn check_rest(file: &[u8], o: Opening, predecessors: &mut [u32]) -> Verdict
+    requires { ⌜ OpenFacts (now file) o ⌝ }
     ensures { λ r. ⌜ verdictOf r (now (predecessors .exit)) ≡ run (restPlan (length (now (predecessors .entry))) o) (now (file .entry)) ⌝ }
 {
     let v = o.version;

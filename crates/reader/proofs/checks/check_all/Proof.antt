@@ -6,39 +6,39 @@ use Rattle.reader.proofs.checks.check_all.Lts as lts
 use Rattle.head.proofs.read_open.Reads as read-open-reads
 use Rattle.reader.proofs.checks.check_rest.Reads as check-rest-reads
 
--- src/checks.rt:158:11
+-- src/checks.rt:164:11
 read-open-requires : tie.Need-read-open-requires
 read-open-requires c κs = search needs
 
--- src/checks.rt:159:28
+-- src/checks.rt:165:28
 enum-known-o : tie.Need-enum-known-o
 enum-known-o c = search needs
 
--- src/checks.rt:159:34
+-- src/checks.rt:165:34
 check-rest-requires : tie.Need-check-rest-requires
 check-rest-requires c κs = search needs
 
--- src/checks.rt:160:29
+-- src/checks.rt:166:29
 enum-known-r : tie.Need-enum-known-r
 enum-known-r c = search needs
 
--- src/checks.rt:161:28
+-- src/checks.rt:167:28
 enum-known-k : tie.Need-enum-known-k
 enum-known-k c = search needs
 
--- src/checks.rt:155:1
+-- src/checks.rt:161:1
 same-length : tie.Need-same-length
 same-length c = search needs
 
--- src/checks.rt:155:1
+-- src/checks.rt:161:1
 returns : tie.Need-returns
 returns c = search needs
 
--- src/checks.rt:155:1
+-- src/checks.rt:161:1
 returns-2 : tie.Need-returns-2
 returns-2 c = search needs
 
--- src/checks.rt:155:1
+-- src/checks.rt:161:1
 returns-3 : tie.Need-returns-3
 returns-3 c = search needs
 

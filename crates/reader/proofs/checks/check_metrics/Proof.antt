@@ -7,42 +7,42 @@ use Rattle.head.proofs.part_of.Reads as part-of-reads
 use Rattle.names.proofs.first_misfit.Reads as first-misfit-reads
 use Rattle.reader.proofs.checks.check_names.Reads as check-names-reads
 
--- src/checks.rt:118:9
+-- src/checks.rt:123:9
 returns : tie.Need-returns
 returns c = search needs
 
--- src/checks.rt:120:33
+-- src/checks.rt:125:33
 slice-aggregate-part-of : tie.Need-slice-aggregate-part-of
 slice-aggregate-part-of c = search needs
 
--- src/checks.rt:120:9
+-- src/checks.rt:125:9
 part-of-requires : tie.Need-part-of-requires
 part-of-requires c κs = search needs
 
--- src/checks.rt:121:27
+-- src/checks.rt:126:27
 first-misfit-requires : tie.Need-first-misfit-requires
 first-misfit-requires c κs = search needs
 
--- src/checks.rt:121:22
+-- src/checks.rt:126:22
 enum-known-i : tie.Need-enum-known-i
 enum-known-i c = search needs
 
--- src/checks.rt:122:9
+-- src/checks.rt:127:9
 returns-2 : tie.Need-returns-2
 returns-2 c = search needs
 
 enum-told : tie.Need-enum-told
 enum-told c = search needs
 
--- src/checks.rt:127:5
+-- src/checks.rt:132:5
 check-names-requires : tie.Need-check-names-requires
 check-names-requires c κs = search needs
 
--- src/checks.rt:109:1
+-- src/checks.rt:113:1
 same-length : tie.Need-same-length
 same-length c = search needs
 
--- src/checks.rt:109:1
+-- src/checks.rt:113:1
 returns-3 : tie.Need-returns-3
 returns-3 c = search needs
 

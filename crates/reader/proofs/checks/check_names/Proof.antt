@@ -8,54 +8,54 @@ use Rattle.names.proofs.first_unsound.Reads as first-unsound-reads
 use Rattle.reader.proofs.checks.check_trace.Reads as check-trace-reads
 use Rattle.reader.proofs.checks.names_reach.Reads as names-reach-reads
 
--- src/checks.rt:90:9
+-- src/checks.rt:94:9
 names-reach-requires : tie.Need-names-reach-requires
 names-reach-requires c κs = search needs
 
--- src/checks.rt:95:9
+-- src/checks.rt:99:9
 returns : tie.Need-returns
 returns c = search needs
 
--- src/checks.rt:97:33
+-- src/checks.rt:101:33
 slice-aggregate-part-of : tie.Need-slice-aggregate-part-of
 slice-aggregate-part-of c = search needs
 
--- src/checks.rt:97:9
+-- src/checks.rt:101:9
 part-of-requires : tie.Need-part-of-requires
 part-of-requires c κs = search needs
 
--- src/checks.rt:98:30
+-- src/checks.rt:102:30
 slice-aggregate-part-of-2 : tie.Need-slice-aggregate-part-of-2
 slice-aggregate-part-of-2 c = search needs
 
--- src/checks.rt:98:9
+-- src/checks.rt:102:9
 part-of-requires-2 : tie.Need-part-of-requires-2
 part-of-requires-2 c κs = search needs
 
--- src/checks.rt:99:27
+-- src/checks.rt:103:27
 first-unsound-requires : tie.Need-first-unsound-requires
 first-unsound-requires c κs = search needs
 
--- src/checks.rt:99:22
+-- src/checks.rt:103:22
 enum-known-i : tie.Need-enum-known-i
 enum-known-i c = search needs
 
--- src/checks.rt:100:9
+-- src/checks.rt:104:9
 returns-2 : tie.Need-returns-2
 returns-2 c = search needs
 
 enum-told : tie.Need-enum-told
 enum-told c = search needs
 
--- src/checks.rt:105:5
+-- src/checks.rt:109:5
 check-trace-requires : tie.Need-check-trace-requires
 check-trace-requires c κs = search needs
 
--- src/checks.rt:86:1
+-- src/checks.rt:89:1
 same-length : tie.Need-same-length
 same-length c = search needs
 
--- src/checks.rt:86:1
+-- src/checks.rt:89:1
 returns-3 : tie.Need-returns-3
 returns-3 c = search needs
 

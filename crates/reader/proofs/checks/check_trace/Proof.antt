@@ -9,59 +9,59 @@ use Rattle.reader.proofs.checks.check_volumes.Reads as check-volumes-re
 use Rattle.reader.proofs.verdict.record_of.Reads as record-of-reads
 use Rattle.trace.proofs.check_links.Reads as check-links-reads
 
--- src/checks.rt:56:13
+-- src/checks.rt:59:13
 of-requires : tie.Need-of-requires
 of-requires c κs = search needs
 
--- src/checks.rt:58:9
+-- src/checks.rt:61:9
 returns : tie.Need-returns
 returns c = search needs
 
--- src/checks.rt:60:31
+-- src/checks.rt:63:31
 slice-aggregate-part-of : tie.Need-slice-aggregate-part-of
 slice-aggregate-part-of c = search needs
 
--- src/checks.rt:60:9
+-- src/checks.rt:63:9
 part-of-requires : tie.Need-part-of-requires
 part-of-requires c κs = search needs
 
--- src/checks.rt:61:11
+-- src/checks.rt:64:11
 check-links-requires : tie.Need-check-links-requires
 check-links-requires c κs = search needs
 
--- src/checks.rt:62:23
+-- src/checks.rt:65:23
 enum-known-n : tie.Need-enum-known-n
 enum-known-n c = search needs
 
--- src/checks.rt:63:50
+-- src/checks.rt:66:50
 slice-aggregate-record-of : tie.Need-slice-aggregate-record-of
 slice-aggregate-record-of c = search needs
 
--- src/checks.rt:63:17
+-- src/checks.rt:66:17
 record-of-requires : tie.Need-record-of-requires
 record-of-requires c κs = search needs
 
--- src/checks.rt:64:13
+-- src/checks.rt:67:13
 check-volumes-requires : tie.Need-check-volumes-requires
 check-volumes-requires c κs = search needs
 
--- src/checks.rt:66:24
+-- src/checks.rt:69:24
 enum-known-r : tie.Need-enum-known-r
 enum-known-r c = search needs
 
--- src/checks.rt:49:1
+-- src/checks.rt:51:1
 same-length : tie.Need-same-length
 same-length c = search needs
 
--- src/checks.rt:49:1
+-- src/checks.rt:51:1
 returns-2 : tie.Need-returns-2
 returns-2 c = search needs
 
--- src/checks.rt:49:1
+-- src/checks.rt:51:1
 same-length-2 : tie.Need-same-length-2
 same-length-2 c = search needs
 
--- src/checks.rt:49:1
+-- src/checks.rt:51:1
 returns-3 : tie.Need-returns-3
 returns-3 c = search needs
 

@@ -7,39 +7,39 @@ use Rattle.head.proofs.part_of.Reads as part-of-reads
 use Rattle.reader.proofs.checks.volumes_reach.Reads as volumes-reach-reads
 use Rattle.volumes.proofs.check_volumes.Reads as check-volumes-reads
 
--- src/checks.rt:36:9
+-- src/checks.rt:38:9
 volumes-reach-requires : tie.Need-volumes-reach-requires
 volumes-reach-requires c κs = search needs
 
--- src/checks.rt:40:9
+-- src/checks.rt:42:9
 returns : tie.Need-returns
 returns c = search needs
 
--- src/checks.rt:42:48
+-- src/checks.rt:44:48
 slice-aggregate-part-of : tie.Need-slice-aggregate-part-of
 slice-aggregate-part-of c = search needs
 
--- src/checks.rt:42:34
+-- src/checks.rt:44:34
 part-of-requires : tie.Need-part-of-requires
 part-of-requires c κs = search needs
 
--- src/checks.rt:42:11
+-- src/checks.rt:44:11
 check-volumes-requires : tie.Need-check-volumes-requires
 check-volumes-requires c κs = search needs
 
--- src/checks.rt:43:28
+-- src/checks.rt:45:28
 enum-told : tie.Need-enum-told
 enum-told c = search needs
 
--- src/checks.rt:44:26
+-- src/checks.rt:46:26
 enum-known-r : tie.Need-enum-known-r
 enum-known-r c = search needs
 
--- src/checks.rt:32:1
+-- src/checks.rt:33:1
 returns-2 : tie.Need-returns-2
 returns-2 c = search needs
 
--- src/checks.rt:32:1
+-- src/checks.rt:33:1
 returns-3 : tie.Need-returns-3
 returns-3 c = search needs
 

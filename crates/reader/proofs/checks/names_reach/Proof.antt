@@ -5,19 +5,19 @@ use Rattle.reader.proofs.checks.names_reach.Reads as reads
 use Rattle.reader.proofs.checks.names_reach.Lts as lts
 use Rattle.layout.proofs.Layout.of.Reads as of-reads
 
--- src/checks.rt:76:16
+-- src/checks.rt:79:16
 of-requires : tie.Need-of-requires
 of-requires c κs = search needs
 
--- src/checks.rt:76:9
+-- src/checks.rt:79:9
 returns : tie.Need-returns
 returns c = search needs
 
--- src/checks.rt:71:1
+-- src/checks.rt:74:1
 returns-2 : tie.Need-returns-2
 returns-2 c = search needs
 
--- src/checks.rt:71:1
+-- src/checks.rt:74:1
 returns-3 : tie.Need-returns-3
 returns-3 c = search needs
 

@@ -6,75 +6,75 @@ use Rattle.reader.proofs.checks.read_file.Lts as lts
 use Rattle.reader.proofs.checks.misfit.Reads as misfit-reads
 use Rattle.reader.proofs.checks.read_prefix.Reads as read-prefix-reads
 
--- src/checks.rt:197:11
+-- src/checks.rt:203:11
 read-prefix-requires : tie.Need-read-prefix-requires
 read-prefix-requires c κs = search needs
 
--- src/checks.rt:198:27
+-- src/checks.rt:204:27
 enum-known-a : tie.Need-enum-known-a
 enum-known-a c = search needs
 
--- src/checks.rt:199:24
+-- src/checks.rt:205:24
 cast-size : tie.Need-cast-size
 cast-size c = search needs
 
--- src/checks.rt:201:17
+-- src/checks.rt:207:17
 misfit-requires : tie.Need-misfit-requires
 misfit-requires c κs = search needs
 
--- src/checks.rt:201:17
+-- src/checks.rt:207:17
 same-length : tie.Need-same-length
 same-length c = search needs
 
--- src/checks.rt:201:17
+-- src/checks.rt:207:17
 returns : tie.Need-returns
 returns c = search needs
 
--- src/checks.rt:204:17
+-- src/checks.rt:210:17
 misfit-requires-2 : tie.Need-misfit-requires-2
 misfit-requires-2 c κs = search needs
 
--- src/checks.rt:204:17
+-- src/checks.rt:210:17
 same-length-2 : tie.Need-same-length-2
 same-length-2 c = search needs
 
--- src/checks.rt:204:17
+-- src/checks.rt:210:17
 returns-2 : tie.Need-returns-2
 returns-2 c = search needs
 
--- src/checks.rt:208:26
+-- src/checks.rt:214:26
 enum-known-r : tie.Need-enum-known-r
 enum-known-r c = search needs
 
--- src/checks.rt:209:42
+-- src/checks.rt:215:42
 enum-told : tie.Need-enum-told
 enum-told c = search needs
 
--- src/checks.rt:209:31
+-- src/checks.rt:215:31
 misfit-requires-3 : tie.Need-misfit-requires-3
 misfit-requires-3 c κs = search needs
 
--- src/checks.rt:194:1
+-- src/checks.rt:200:1
 same-length-3 : tie.Need-same-length-3
 same-length-3 c = search needs
 
--- src/checks.rt:194:1
+-- src/checks.rt:200:1
 returns-3 : tie.Need-returns-3
 returns-3 c = search needs
 
--- src/checks.rt:194:1
+-- src/checks.rt:200:1
 same-length-4 : tie.Need-same-length-4
 same-length-4 c = search needs
 
--- src/checks.rt:194:1
+-- src/checks.rt:200:1
 returns-4 : tie.Need-returns-4
 returns-4 c = search needs
 
--- src/checks.rt:194:1
+-- src/checks.rt:200:1
 same-length-5 : tie.Need-same-length-5
 same-length-5 c = search needs
 
--- src/checks.rt:194:1
+-- src/checks.rt:200:1
 returns-5 : tie.Need-returns-5
 returns-5 c = search needs
 

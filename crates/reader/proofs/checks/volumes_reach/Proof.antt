@@ -5,15 +5,15 @@ use Rattle.reader.proofs.checks.volumes_reach.Reads as reads
 use Rattle.reader.proofs.checks.volumes_reach.Lts as lts
 use Rattle.layout.proofs.Layout.of.Reads as of-reads
 
--- src/checks.rt:26:16
+-- src/checks.rt:27:16
 of-requires : tie.Need-of-requires
 of-requires c κs = search needs
 
--- src/checks.rt:26:9
+-- src/checks.rt:27:9
 returns : tie.Need-returns
 returns c = search needs
 
--- src/checks.rt:21:1
+-- src/checks.rt:22:1
 returns-2 : tie.Need-returns-2
 returns-2 c = search needs
 

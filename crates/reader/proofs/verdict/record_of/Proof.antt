@@ -8,31 +8,31 @@ use Rattle.layout.proofs.Version.number.Reads as number-reads
 use Rattle.little_endian.proofs.u32_at.Reads as u32-at-reads
 use Rattle.little_endian.proofs.u64_at.Reads as u64-at-reads
 
--- src/verdict.rt:44:9
+-- src/verdict.rt:31:9
 of-requires : tie.Need-of-requires
 of-requires c κs = search needs
 
--- src/verdict.rt:49:18
+-- src/verdict.rt:36:18
 number-requires : tie.Need-number-requires
 number-requires c κs = search needs
 
--- src/verdict.rt:50:15
+-- src/verdict.rt:37:15
 u32-at-requires : tie.Need-u32-at-requires
 u32-at-requires c κs = search needs
 
--- src/verdict.rt:52:15
+-- src/verdict.rt:39:15
 u32-at-requires-2 : tie.Need-u32-at-requires-2
 u32-at-requires-2 c κs = search needs
 
--- src/verdict.rt:53:15
+-- src/verdict.rt:40:15
 u64-at-requires : tie.Need-u64-at-requires
 u64-at-requires c κs = search needs
 
--- src/verdict.rt:54:15
+-- src/verdict.rt:41:15
 u32-at-requires-3 : tie.Need-u32-at-requires-3
 u32-at-requires-3 c κs = search needs
 
--- src/verdict.rt:40:1
+-- src/verdict.rt:27:1
 returns : tie.Need-returns
 returns c = search needs
 
