@@ -5,8 +5,10 @@ use mathlib.Core.List.{List}
 use Prim.Native.Nat.{ℕ, _*_, _≤_, _<_, max}
 use native.Mathlib.Omega.{arith}
 use lib.Dec.{eqb, ltb}
-use lib.ListN.{length, take}
-use borrow.Author.Tests.{lt-ltb, le-ltb}
+use lib.ListN.{length, take, length-take}
+use native.Mathlib.Decide.{ℕ-discrete}
+use native.Mathlib.Nat.{zero-mul}
+use borrow.Author.Tests.{lt-ltb, le-ltb, ne-eqb}
 use Rattle.lists.specs.declared.Found.{Found}
 use Rattle.lists.specs.declared.Found.the-variants.{At, Nothing}
 use Rattle.layout.specs.Versions.{layoutOf}
@@ -19,6 +21,7 @@ use Rattle.incremental.specs.declared.Checked.the-variants as checked
 use Rattle.head.specs.Fields.{faultAt, part}
 use Rattle.head.specs.Checks.{stop, openPlan, openOf}
 use Rattle.head.specs.Steps.{stop-hit, stop-miss}
+use Rattle.head.specs.Facts.{OpenFacts, part-length, open-shapes}
 use Rattle.head.specs.declared.checks.Opening.{Opening}
 use Rattle.head.specs.declared.checks.OpenAnswer.{OpenAnswer}
 use Rattle.head.specs.declared.checks.OpenAnswer.the-variants as openAnswer
@@ -33,7 +36,7 @@ use Rattle.volumes.specs.VolumeLaws.{volumes-room}
 use Rattle.reader.specs.declared.verdict.Acceptance.{Acceptance}
 use Rattle.reader.specs.declared.verdict.Verdict.{Verdict}
 use Rattle.reader.specs.declared.verdict.Verdict.the-variants.{Accepted, Refused, Wanted}
-use Rattle.reader.specs.Verdict.{Acceptable, Reads, valuesOf, answerValues, bufferAfter}
+use Rattle.reader.specs.Verdict.{Acceptable, Reads, Values, valuesOf, answerValues, acceptedValues, refusedValues, wantedValues, bufferAfter}
 use Rattle.reader.specs.Checks.{headEnd, recordOf, volumesReach, volumesPlan, tracePlan, namesReach, namesPlan, metricsPlan, restPlan, readPlan, prefixAnswer, whole, fileAnswer, sized}
 
 -- a stage's verdict, where the working buffer ends as `after`
@@ -203,3 +206,81 @@ pub reads-wanted : (answer : Answer Acceptable) (m : ℕ) (after last : List ℕ
 reads-wanted answer m after last v k e q f =
     let x : answer ≡ wants k = sym e ∙ ap (λ (y : Verdict). verdictOf y after) q in
     rw x (record { verdict = refl; buffer = f })
+
+-- ---- what the opening's facts give the stages
+
+-- the volumes section, as far as its required length, has all its bytes
+pub volumes-all : (p : List ℕ) (o : Opening) (k : ℕ) → OpenFacts p o → k ≡ volumesReach o → k ≤ length p
+    → o .head .volumes .count * layoutOf (o .version) .volume ≤ o .head .volumes .len
+    → o .head .volumes .count * layoutOf (o .version) .volume ≤ length (part (o .head .volumes) (take k p))
+volumes-all p o k f e h room = go (ℕ-discrete (o .head .volumes .count) 0)
+  where
+    go : Dec (o .head .volumes .count ≡ 0) → o .head .volumes .count * layoutOf (o .version) .volume ≤ length (part (o .head .volumes) (take k p))
+    go (yes z) = rw (z, zero-mul) (omega arith)
+    go (no z) =
+        let q : k ≡ o .head .volumes .end = e ∙ rw (ne-eqb _ _ z) in
+        let l : o .head .volumes .end ≤ length (take k p) = rw (length-take k p) (omega arith) in
+        rw (part-length (o .head .volumes) (headEnd o) (take k p) (open-shapes p o f .volumes-end) l) room
+
+pub head-reach : (p : List ℕ) (o : Opening) (l : Layout) → OpenFacts p o → l ≡ layoutOf (o .version) → l .head ≤ length p
+head-reach p o l f e = rw e (f .whole)
+
+-- ---- the whole reader
+
+module _ (n m : ℕ) (answer : Answer Acceptable) (v : Verdict) (after : List ℕ) (r : Reads answer m v after) where
+  -- an acceptance is of the size that its record has
+  accepted-whole : (a : Acceptance) (x : Answer Acceptable) → answer ≡ x → v ≡ Accepted a → whole n x ≡ whole n (decided (accept (record { fields = a; table = after })))
+  accepted-whole a (decided (accept x)) e q =
+      let z : acceptedValues a ≡ acceptedValues (x .fields) = ap valuesOf (sym q) ∙ r .verdict ∙ ap answerValues e in
+      let f : a ≡ x .fields = ap (λ (w : Values). w .fields) z in
+      let t : after ≡ x .table = r .buffer ∙ ap (λ (w : Answer Acceptable). bufferAfter w m) e in
+      ap (λ (w : Acceptable). whole n (decided (accept w))) (sym (λ i. record { fields = f i; table = t i }))
+  accepted-whole a (decided (refuse x)) e q =
+      let z : acceptedValues a ≡ refusedValues (x .number) (x .index) = ap valuesOf (sym q) ∙ r .verdict ∙ ap answerValues e in
+      let k : _≡_ {A = ℕ} 0 1 = ap (λ (w : Values). w .kind) z in
+      absurd (omega arith)
+  accepted-whole a (wants k) e q =
+      let z : acceptedValues a ≡ wantedValues k = ap valuesOf (sym q) ∙ r .verdict ∙ ap answerValues e in
+      let k : _≡_ {A = ℕ} 0 2 = ap (λ (w : Values). w .kind) z in
+      absurd (omega arith)
+
+  pub whole-short : (a : Acceptance) → v ≡ Accepted a → n < a .size → whole n answer ≡ misfitAnswer 16
+  whole-short a q l = accepted-whole a answer refl q ∙ rw (lt-ltb _ _ l)
+
+  pub whole-long : (a : Acceptance) → v ≡ Accepted a → a .size ≤ n → a .size < n → whole n answer ≡ misfitAnswer 17
+  whole-long a q l h = accepted-whole a answer refl q ∙ rw (le-ltb _ _ l, lt-ltb _ _ h)
+
+  pub whole-exact : (a : Acceptance) → v ≡ Accepted a → a .size ≤ n → n ≤ a .size → Reads (whole n answer) m (Accepted a) after
+  whole-exact a q l h = rw (accepted-whole a answer refl q, le-ltb _ _ l, le-ltb _ _ h) (record { verdict = refl; buffer = refl })
+
+  refused-whole : (f : Refusal) (x : Answer Acceptable) → answer ≡ x → v ≡ Refused f → whole n x ≡ x
+  refused-whole f (decided (accept x)) e q =
+      let z : refusedValues (f .number) (f .index) ≡ acceptedValues (x .fields) = ap valuesOf (sym q) ∙ r .verdict ∙ ap answerValues e in
+      let k : _≡_ {A = ℕ} 1 0 = ap (λ (w : Values). w .kind) z in
+      absurd (omega arith)
+  refused-whole f (decided (refuse x)) e q = refl
+  refused-whole f (wants k) e q =
+      let z : refusedValues (f .number) (f .index) ≡ wantedValues k = ap valuesOf (sym q) ∙ r .verdict ∙ ap answerValues e in
+      let k : _≡_ {A = ℕ} 1 2 = ap (λ (w : Values). w .kind) z in
+      absurd (omega arith)
+
+  pub whole-refused : (f : Refusal) → v ≡ Refused f → Reads (whole n answer) m (Refused f) after
+  whole-refused f q = rw (refused-whole f answer refl q) (record { verdict = ap valuesOf (sym q) ∙ r .verdict; buffer = r .buffer })
+
+  wanted-whole : (k : ℕ) (x : Answer Acceptable) → answer ≡ x → v ≡ Wanted k → whole n x ≡ misfitAnswer 16
+  wanted-whole k (decided (accept x)) e q =
+      let z : wantedValues k ≡ acceptedValues (x .fields) = ap valuesOf (sym q) ∙ r .verdict ∙ ap answerValues e in
+      let k : _≡_ {A = ℕ} 2 0 = ap (λ (w : Values). w .kind) z in
+      absurd (omega arith)
+  wanted-whole k (decided (refuse x)) e q =
+      let z : wantedValues k ≡ refusedValues (x .number) (x .index) = ap valuesOf (sym q) ∙ r .verdict ∙ ap answerValues e in
+      let k : _≡_ {A = ℕ} 2 1 = ap (λ (w : Values). w .kind) z in
+      absurd (omega arith)
+  wanted-whole k (wants j) e q = refl
+
+  pub whole-wanted : (k : ℕ) → v ≡ Wanted k → whole n answer ≡ misfitAnswer 16
+  whole-wanted k q = wanted-whole k answer refl q
+
+-- the promise of an answer that is another
+pub reads-same : (x y : Answer Acceptable) (m k : ℕ) (v : Verdict) (after : List ℕ) → Reads x k v after → k ≡ m → y ≡ x → Reads y m v after
+reads-same x y m k v after r e q = rw (q, ← e) r

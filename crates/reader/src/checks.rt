@@ -15,6 +15,7 @@ use head::Opening;
 use incremental::Checked;
 use incremental::Refusal;
 use layout::Layout;
+use layout::Version;
 use lists::Found;
 use trace::Links;
 
@@ -132,23 +133,28 @@ fn check_metrics(file: &[u8], o: Opening, predecessors: &mut [u32]) -> Verdict
     check_names(file, o, predecessors)
 }
 
+// The bytes that so many volume entries take.
+fn entries_len(version: Version, count: u32) -> usize
+    ensures { λ r. ⌜ r ≡ count * layoutOf version .volume ⌝ }
+{
+    count as usize * Layout::of(version).volume
+}
+
 // Checks 7 and 8, and what follows.
 fn check_rest(file: &[u8], o: Opening, predecessors: &mut [u32]) -> Verdict
     requires { ⌜ OpenFacts (now file) o ⌝ }
     ensures { λ r. ⌜ verdictOf r (now (predecessors .exit)) ≡ run (restPlan (length (now (predecessors .entry))) o) (now (file .entry)) ⌝ }
 {
     let v = o.version;
-    let volume = Layout::of(v).volume;
-    let links = o.head.trace.count;
-    let drives = o.head.volumes.count;
     let len = o.head.volumes.len;
-    if predecessors.len() < links as usize {
+    let drives = o.head.volumes.count;
+    if predecessors.len() < o.head.trace.count as usize {
         return Verdict::Refused(Refusal {
             number: 7,
             index: 0,
         });
     }
-    if len < drives as usize * volume {
+    if len < entries_len(v, drives) {
         return Verdict::Refused(Refusal {
             number: 8,
             index: 0,

@@ -1,3 +1,14 @@
+use Rattle.head.specs.Checks.{openPlan}
+use Rattle.head.specs.Facts.{open-met}
+use Rattle.head.specs.Steps.{open-on, open-refused, open-wanted}
+use Rattle.reader.specs.Checks.{readPlan, restPlan}
+use Rattle.trace.specs.Links.{filled}
+use mathlib.Core.Path.{_≡_, refl, sym, ap, _∙_}
+use mathlib.Core.List.{List}
+use Prim.Native.Nat.{ℕ}
+use native.Mathlib.Omega.{arith}
+use lib.ListN.{length-take}
+use Rattle.layout.specs.declared.Layout.{Layout}
 use borrow.Author.Needs.{needs}
 use Rattle.reader.proofs.checks.check_all.Statement.{statement}
 use Rattle.reader.proofs.checks.check_all.Tie as tie
@@ -16,7 +27,7 @@ enum-known-o c = search needs
 
 -- src/checks.rt:165:34
 check-rest-requires : tie.Need-check-rest-requires
-check-rest-requires c κs = search needs
+check-rest-requires c κs = open-met _ _ _ (c .before .before .before .before .read-open .ensures) (c .before .before .o .given .1)
 
 -- src/checks.rt:166:29
 enum-known-r : tie.Need-enum-known-r
@@ -32,15 +43,18 @@ same-length c = search needs
 
 -- src/checks.rt:161:1
 returns : tie.Need-returns
-returns c = search needs
+unfolding readPlan
+returns c = open-on openPlan (restPlan _) _ _ _ _ (c .before .before .before .before .before .before .before .read-open .ensures) (c .before .before .before .before .before .o .given .1) (c .before .before .check-rest .ensures)
 
 -- src/checks.rt:161:1
 returns-2 : tie.Need-returns-2
-returns-2 c = search needs
+unfolding readPlan
+returns-2 c = open-refused openPlan (restPlan _) _ _ _ (c .before .before .before .read-open .ensures) (c .before .r .given .1)
 
 -- src/checks.rt:161:1
 returns-3 : tie.Need-returns-3
-returns-3 c = search needs
+unfolding readPlan
+returns-3 c = open-wanted openPlan (restPlan _) _ _ _ (c .before .before .before .read-open .ensures) (c .before .k .given .1)
 
 pub check-all-spec : {M : Type 1} → statement M
 check-all-spec =

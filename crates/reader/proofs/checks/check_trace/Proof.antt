@@ -1,3 +1,12 @@
+use Rattle.reader.specs.Checks.{recordOf, headEnd}
+use Rattle.reader.specs.Stages.{trace-short, trace-passed, trace-refused, head-reach}
+use lib.ListN.{take}
+use mathlib.Core.Path.{_≡_, refl, sym, ap, _∙_}
+use mathlib.Core.List.{List}
+use Prim.Native.Nat.{ℕ}
+use native.Mathlib.Omega.{arith}
+use lib.ListN.{length-take}
+use Rattle.layout.specs.declared.Layout.{Layout}
 use borrow.Author.Needs.{needs}
 use Rattle.reader.proofs.checks.check_trace.Statement.{statement}
 use Rattle.reader.proofs.checks.check_trace.Tie as tie
@@ -15,11 +24,11 @@ of-requires c κs = search needs
 
 -- src/checks.rt:61:9
 returns : tie.Need-returns
-returns c = search needs
+returns c = trace-short _ (c .before .before .before .before .before .args .o) _ _ (c .if1 .taken)
 
 -- src/checks.rt:63:31
 slice-aggregate-part-of : tie.Need-slice-aggregate-part-of
-slice-aggregate-part-of c = search needs
+slice-aggregate-part-of c = simp length-take (omega arith)
 
 -- src/checks.rt:63:9
 part-of-requires : tie.Need-part-of-requires
@@ -35,7 +44,9 @@ enum-known-n c = search needs
 
 -- src/checks.rt:66:50
 slice-aggregate-record-of : tie.Need-slice-aggregate-record-of
-slice-aggregate-record-of c = search needs
+slice-aggregate-record-of c =
+    let h = head-reach _ (c .before .before .before .before .before .before .before .before .before .before .before .before .before .before .before .args .o) _ (c .before .before .before .before .before .before .before .before .before .before .before .before .before .before .before .pre .0) (c .before .before .before .before .before .before .before .before .before .before .before .of .ensures) in
+    simp length-take (omega arith)
 
 -- src/checks.rt:66:17
 record-of-requires : tie.Need-record-of-requires
@@ -55,7 +66,10 @@ same-length c = search needs
 
 -- src/checks.rt:51:1
 returns-2 : tie.Need-returns-2
-returns-2 c = search needs
+returns-2 c =
+    let s = c .before .before .before .before .before .before .before .before .before .before .before .before .before .before .before .before .before in
+    trace-passed _ (s .args .o) _ _ _ (c .before .before .before .before .before .before .before .before .before .before .before .before .if1 .left) (c .before .before .before .before .before .before .before .before .before .before .part-of .ensures) (s .pre .1 .places) _ _ (c .before .before .before .before .before .before .before .before .check-links .ensures) _ _ (c .check-volumes .result) (c .before .before .before .before .n .given .1)
+    (c .before .record-of .ensures ∙ ap (λ (l : Layout). recordOf (s .args .o) (take (l .head) (s .args .file .now)) (c .before .before .before .before .n .given .0 .0)) (c .before .before .before .before .before .before .before .before .before .before .before .before .before .of .ensures)) (c .check-volumes .ensures)
 
 -- src/checks.rt:51:1
 same-length-2 : tie.Need-same-length-2
@@ -63,7 +77,9 @@ same-length-2 c = search needs
 
 -- src/checks.rt:51:1
 returns-3 : tie.Need-returns-3
-returns-3 c = search needs
+returns-3 c =
+    let s = c .before .before .before .before .before .before .before .before .before .before .before .before .before .before in
+    trace-refused _ (s .args .o) _ _ _ (c .before .before .before .before .before .before .before .before .before .if1 .left) (c .before .before .before .before .before .before .before .part-of .ensures) (s .pre .1 .places) _ _ (c .before .before .before .before .before .check-links .ensures) _ (c .before .r .given .1)
 
 pub check-trace-spec : {M : Type 1} → statement M
 check-trace-spec =

@@ -1,3 +1,10 @@
+use Rattle.reader.specs.Stages.{volumes-short, volumes-passed, volumes-refused, volumes-all}
+use mathlib.Core.Path.{_≡_, refl, sym, ap, _∙_}
+use mathlib.Core.List.{List}
+use Prim.Native.Nat.{ℕ}
+use native.Mathlib.Omega.{arith}
+use lib.ListN.{length-take}
+use Rattle.layout.specs.declared.Layout.{Layout}
 use borrow.Author.Needs.{needs}
 use Rattle.reader.proofs.checks.check_volumes.Statement.{statement}
 use Rattle.reader.proofs.checks.check_volumes.Tie as tie
@@ -13,11 +20,11 @@ volumes-reach-requires c κs = search needs
 
 -- src/checks.rt:42:9
 returns : tie.Need-returns
-returns c = search needs
+returns c = λ t. volumes-short (c .before .before .before .before .args .o) _ _ (c .before .before .volumes-reach .ensures) _ (c .if1 .taken)
 
 -- src/checks.rt:44:48
 slice-aggregate-part-of : tie.Need-slice-aggregate-part-of
-slice-aggregate-part-of c = search needs
+slice-aggregate-part-of c = simp length-take (omega arith)
 
 -- src/checks.rt:44:34
 part-of-requires : tie.Need-part-of-requires
@@ -37,11 +44,19 @@ enum-known-r c = search needs
 
 -- src/checks.rt:33:1
 returns-2 : tie.Need-returns-2
-returns-2 c = search needs
+returns-2 c =
+    let s = c .before .before .before .before .before .before .before .before .before in
+    let e = c .before .before .before .before .before .before .before .volumes-reach .ensures in
+    let h = c .before .before .before .before .before .if1 .left in
+    λ t. volumes-passed (s .args .o) _ _ e _ _ _ h (c .before .before .before .part-of .ensures) (volumes-all _ _ _ (s .pre .0) e h (s .pre .1)) (c .before .before .check-volumes .ensures) (c .enum-told .given .1)
 
 -- src/checks.rt:33:1
 returns-3 : tie.Need-returns-3
-returns-3 c = search needs
+returns-3 c =
+    let s = c .before .before .before .before .before .before .before .before .before .before in
+    let e = c .before .before .before .before .before .before .before .before .volumes-reach .ensures in
+    let h = c .before .before .before .before .before .before .if1 .left in
+    λ t. volumes-refused (s .args .o) _ _ e _ _ _ _ h (c .before .before .before .before .part-of .ensures) (volumes-all _ _ _ (s .pre .0) e h (s .pre .1)) (c .before .before .before .check-volumes .ensures) (c .before .r .given .1)
 
 pub check-volumes-spec : {M : Type 1} → statement M
 check-volumes-spec =

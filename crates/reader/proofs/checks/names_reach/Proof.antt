@@ -1,3 +1,7 @@
+use mathlib.Core.Path.{ap, _∙_, sym}
+use native.Mathlib.Omega.{arith}
+use borrow.Author.Tests.{eq-eqb, ne-eqb}
+use Rattle.layout.specs.declared.Layout.{Layout}
 use borrow.Author.Needs.{needs}
 use Rattle.reader.proofs.checks.names_reach.Statement.{statement}
 use Rattle.reader.proofs.checks.names_reach.Tie as tie
@@ -11,15 +15,15 @@ of-requires c κs = search needs
 
 -- src/checks.rt:79:9
 returns : tie.Need-returns
-returns c = search needs
+returns c = rw (eq-eqb _ _ (c .before .if1 .taken)) (ap (λ (l : Layout). l .head) (c .of .ensures))
 
 -- src/checks.rt:74:1
 returns-2 : tie.Need-returns-2
-returns-2 c = search needs
+returns-2 c = rw (ne-eqb _ _ (c .before .before .if1 .left)) (omega arith)
 
 -- src/checks.rt:74:1
 returns-3 : tie.Need-returns-3
-returns-3 c = search needs
+returns-3 c = rw (ne-eqb _ _ (c .before .before .if1 .left)) (omega arith)
 
 pub names-reach-spec : {M : Type 1} → statement M
 names-reach-spec = tie.close (tie.spec of-requires returns returns-2 returns-3)

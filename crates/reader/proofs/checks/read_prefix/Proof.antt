@@ -1,3 +1,8 @@
+use Rattle.reader.specs.Stages.{reads-accepted, reads-refused, reads-wanted}
+use mathlib.Core.Path.{_≡_, refl, sym, ap, _∙_}
+use Prim.Native.Nat.{ℕ}
+use native.Mathlib.Omega.{arith}
+use Rattle.trace.specs.Links.{filled}
 use borrow.Author.Needs.{needs}
 use Rattle.reader.proofs.checks.read_prefix.Statement.{statement}
 use Rattle.reader.proofs.checks.read_prefix.Tie as tie
@@ -36,7 +41,7 @@ same-length c = search needs
 
 -- src/checks.rt:172:1
 returns : tie.Need-returns
-returns c = search needs
+returns c = reads-accepted _ _ _ _ _ (c .before .before .before .before .before .check-all .ensures) (c .before .a .given .1)
 
 -- src/checks.rt:172:1
 same-length-2 : tie.Need-same-length-2
@@ -44,7 +49,7 @@ same-length-2 c = search needs
 
 -- src/checks.rt:172:1
 returns-2 : tie.Need-returns-2
-returns-2 c = search needs
+returns-2 c = reads-refused _ _ _ _ _ _ (c .before .before .before .before .before .before .before .before .before .check-all .ensures) (c .before .before .before .before .before .r .given .1) (c .before .before .fill .ensures ∙ ap filled (c .before .before .before .before .before .before .before .before .before .check-all .kept .1 .0))
 
 -- src/checks.rt:172:1
 same-length-3 : tie.Need-same-length-3
@@ -52,7 +57,7 @@ same-length-3 c = search needs
 
 -- src/checks.rt:172:1
 returns-3 : tie.Need-returns-3
-returns-3 c = search needs
+returns-3 c = reads-wanted _ _ _ _ _ _ (c .before .before .before .before .before .before .before .before .before .check-all .ensures) (c .before .before .before .before .before .k .given .1) (c .before .before .fill2 .ensures ∙ ap filled (c .before .before .before .before .before .before .before .before .before .check-all .kept .1 .0))
 
 pub read-prefix-spec : {M : Type 1} → statement M
 read-prefix-spec =

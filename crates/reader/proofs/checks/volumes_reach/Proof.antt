@@ -1,3 +1,6 @@
+use mathlib.Core.Path.{ap, _∙_, sym}
+use borrow.Author.Tests.{eq-eqb, ne-eqb}
+use Rattle.layout.specs.declared.Layout.{Layout}
 use borrow.Author.Needs.{needs}
 use Rattle.reader.proofs.checks.volumes_reach.Statement.{statement}
 use Rattle.reader.proofs.checks.volumes_reach.Tie as tie
@@ -11,11 +14,11 @@ of-requires c κs = search needs
 
 -- src/checks.rt:27:9
 returns : tie.Need-returns
-returns c = search needs
+returns c = rw (eq-eqb _ _ (c .before .if1 .taken)) (ap (λ (l : Layout). l .head) (c .of .ensures))
 
 -- src/checks.rt:22:1
 returns-2 : tie.Need-returns-2
-returns-2 c = search needs
+returns-2 c = rw (ne-eqb _ _ (c .if1 .left))
 
 pub volumes-reach-spec : {M : Type 1} → statement M
 volumes-reach-spec = tie.close (tie.spec of-requires returns returns-2)

@@ -1,3 +1,4 @@
+use Rattle.reader.specs.Checks.{recordOf}
 use borrow.Author.Needs.{needs}
 use Rattle.reader.proofs.verdict.record_of.Statement.{statement}
 use Rattle.reader.proofs.verdict.record_of.Tie as tie
@@ -34,7 +35,8 @@ u32-at-requires-3 c κs = search needs
 
 -- src/verdict.rt:27:1
 returns : tie.Need-returns
-returns c = search needs
+unfolding recordOf
+returns c = cc
 
 pub record-of-spec : {M : Type 1} → statement M
 record-of-spec =
