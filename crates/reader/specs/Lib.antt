@@ -1,3 +1,4 @@
 pub mod Verdict
 pub mod Checks
 pub mod Stages
+pub mod Early

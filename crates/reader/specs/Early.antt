@@ -1,0 +1,152 @@
+-- DEMAND 3: what the prefix reader accepts or refuses early stands.
+use mathlib.Core.Path.{_≡_, refl, sym, _∙_, ap}
+use mathlib.Core.List.{List}
+use mathlib.Core.Logic.{_↔_}
+use Prim.Native.Nat.{ℕ, _*_, _≤_, _<_, max}
+use native.Mathlib.Nat.{le-trans}
+use native.Mathlib.Decide.{ℕ-discrete}
+use native.Mathlib.Omega.{arith}
+use borrow.Author.Tests.{eq-eqb, ne-eqb}
+use lib.Dec.{eqb, ltb}
+use lib.ListN.{length, take}
+use lib.Seq.{take-take}
+use Rattle.lists.specs.Count.{pick}
+use Rattle.layout.specs.Versions.{layoutOf}
+use Rattle.incremental.specs.Decision.{Decision, accept, refuse}
+use Rattle.incremental.specs.Plan.{Plan, decide, andThen, Answer, decided, wants, run, stands, begins-take, Decided, decided-decide, decided-await, decided-then}
+use Rattle.incremental.specs.declared.Refusal.{Refusal}
+use Rattle.head.specs.Fields.{declaredSize, faultAt, part}
+use Rattle.head.specs.Checks.{openPlan, stop}
+use Rattle.head.specs.Facts.{OpenFacts, open-facts, decided-open, decided-stop}
+use Rattle.head.specs.declared.checks.Opening.{Opening}
+use Rattle.names.specs.Names.{firstMisfit, firstUnsound}
+use Rattle.trace.specs.Links.{filled, nexts, linkChecks, predecessors}
+use Rattle.volumes.specs.Volumes.{volumesFrom}
+use Rattle.reader.specs.declared.verdict.Acceptance.{Acceptance}
+use Rattle.reader.specs.declared.verdict.Verdict.{Verdict}
+use Rattle.reader.specs.declared.verdict.Verdict.the-variants.{Accepted, Refused, Wanted}
+use Rattle.reader.specs.Verdict.{Acceptable, Reads, Values, valuesOf, answerValues, acceptedValues, refusedValues, wantedValues, bufferAfter}
+use Rattle.reader.specs.Checks.{headEnd, recordOf, volumesReach, namesReach, volumesPlan, tracePlan, namesPlan, metricsPlan, restPlan, readPlan, prefixAnswer}
+
+-- ---- no required length exceeds the greater of sixteen and S
+
+names-reach-low : (p : List ℕ) (o : Opening) → OpenFacts p o → namesReach o ≤ declaredSize p
+names-reach-low p o f = go (ℕ-discrete (o .head .metrics .count) 0)
+  where
+    go : Dec (o .head .metrics .count ≡ 0) → namesReach o ≤ declaredSize p
+    go (yes z) = rw (eq-eqb _ _ z) (f .start .least)
+    go (no z) = rw (ne-eqb _ _ z) (omega (arith, f .metrics, f .strings))
+
+volumes-reach-low : (p : List ℕ) (o : Opening) → OpenFacts p o → volumesReach o ≤ declaredSize p
+volumes-reach-low p o f = go (ℕ-discrete (o .head .volumes .count) 0)
+  where
+    go : Dec (o .head .volumes .count ≡ 0) → volumesReach o ≤ declaredSize p
+    go (yes z) = rw (eq-eqb _ _ z) (f .start .least)
+    go (no z) = rw (ne-eqb _ _ z) (f .volumes)
+
+decided-volumes : (p : List ℕ) (o : Opening) (x : Acceptable) → OpenFacts p o → declaredSize p ≤ length p → Decided (run (volumesPlan o x) p)
+unfolding volumesPlan
+decided-volumes p o x f d =
+    decided-await (volumesReach o) _ p (le-trans (volumes-reach-low p o f) d)
+    (decided-then (decide (volumesFrom (part (o .head .volumes) (take (volumesReach o) p)) (o .version) (o .head .volumes .count) 0)) _ p
+    (decided-decide _ p) λ a e. decided-decide _ p)
+
+decided-trace : (m : ℕ) (p : List ℕ) (o : Opening) (fields : ℕ → Acceptance) → OpenFacts p o → declaredSize p ≤ length p → Decided (run (tracePlan m o fields) p)
+unfolding tracePlan
+decided-trace m p o fields f d =
+    decided-await (o .head .trace .end) _ p (le-trans (f .trace) d)
+    (decided-then (decide (linkChecks (nexts (part (o .head .trace) (take (o .head .trace .end) p)) (o .head .trace .count)))) _ p
+    (decided-decide _ p) λ chains e. decided-volumes p o _ f d)
+
+decided-rest : (m : ℕ) (p : List ℕ) (o : Opening) → OpenFacts p o → declaredSize p ≤ length p → Decided (run (restPlan m o) p)
+unfolding restPlan metricsPlan namesPlan
+decided-rest m p o f d =
+    decided-await (headEnd o) _ p (f .whole)
+    (decided-stop 7 (faultAt 0 (ltb m (o .head .trace .count))) _ p λ _.
+    decided-stop 8 (faultAt 0 (ltb (o .head .volumes .len) (o .head .volumes .count * layoutOf (o .version) .volume))) _ p λ _.
+    decided-await (o .head .metrics .end) _ p (le-trans (f .metrics) d)
+    (decided-stop 9 (firstMisfit (o .version) (part (o .head .metrics) (take (o .head .metrics .end) p)) (o .head .metrics .count) (o .head .strings .len)) _ p λ _.
+    decided-await (namesReach o) _ p (le-trans (names-reach-low p o f) d)
+    (decided-stop 10 (firstUnsound (o .version) (part (o .head .metrics) (take (namesReach o) p)) (o .head .metrics .count) (part (o .head .strings) (take (namesReach o) p))) _ p λ _.
+    decided-trace m p o _ f d)))
+
+pub decided-read : (m : ℕ) (p : List ℕ) → 16 ≤ length p → declaredSize p ≤ length p → Decided (prefixAnswer p m)
+unfolding readPlan
+decided-read m p h d =
+    decided-then openPlan (restPlan m) p (decided-open p h d) λ o e. decided-rest m p o (open-facts p .holds o e) d
+
+-- ---- a verdict is known by its values
+
+same-kind : (v w : Verdict) → valuesOf v ≡ valuesOf w → v ≡ w
+same-kind (Accepted a) (Accepted b) e = ap Accepted (ap (λ (x : Values). x .fields) e)
+same-kind (Accepted a) (Refused r) e = let z : _≡_ {A = ℕ} 0 1 = ap (λ (x : Values). x .kind) e in absurd (omega arith)
+same-kind (Accepted a) (Wanted k) e = let z : _≡_ {A = ℕ} 0 2 = ap (λ (x : Values). x .kind) e in absurd (omega arith)
+same-kind (Refused r) (Accepted b) e = let z : _≡_ {A = ℕ} 1 0 = ap (λ (x : Values). x .kind) e in absurd (omega arith)
+same-kind (Refused r) (Refused s) e =
+    let n : r .number ≡ s .number = ap (λ (x : Values). x .number) e in
+    let i : r .index ≡ s .index = ap (λ (x : Values). x .index) e in
+    λ j. Refused (record { number = n j; index = i j })
+same-kind (Refused r) (Wanted k) e = let z : _≡_ {A = ℕ} 1 2 = ap (λ (x : Values). x .kind) e in absurd (omega arith)
+same-kind (Wanted k) (Accepted b) e = let z : _≡_ {A = ℕ} 2 0 = ap (λ (x : Values). x .kind) e in absurd (omega arith)
+same-kind (Wanted k) (Refused s) e = let z : _≡_ {A = ℕ} 2 1 = ap (λ (x : Values). x .kind) e in absurd (omega arith)
+same-kind (Wanted k) (Wanted j) e = ap Wanted (ap (λ (x : Values). x .wanted) e)
+
+-- a request is made exactly where the checks make it
+wanted-answer : (x : Answer Acceptable) (k : ℕ) → wantedValues k ≡ answerValues x → x ≡ wants k
+wanted-answer (decided (accept a)) k e = let z : _≡_ {A = ℕ} 2 0 = ap (λ (x : Values). x .kind) e in absurd (omega arith)
+wanted-answer (decided (refuse r)) k e = let z : _≡_ {A = ℕ} 2 1 = ap (λ (x : Values). x .kind) e in absurd (omega arith)
+wanted-answer (wants j) k e = ap wants (sym (ap (λ (x : Values). x .wanted) e))
+
+-- any other verdict is a decision
+decided-answer : (x : Answer Acceptable) → ((k : ℕ) → answerValues x ≡ wantedValues k → ⊥) → (d : Decision Acceptable) × (x ≡ decided d)
+decided-answer (decided d) h = (d, refl)
+decided-answer (wants k) h = absurd (h k refl)
+
+-- ---- the demand
+
+-- what the verdict `v` on the prefix `p`, with the working buffer left as `after`, says of those on a prefix `q` that is at least as long
+pub record EarlyStands (p q : List ℕ) (v w : Verdict) (after after′ : List ℕ) : Type 0 where
+  -- an acceptance or refusal is given again, the same in every field, number and index, and the working buffers end equal
+  pub accepted : (a : Acceptance) → v ≡ Accepted a → (w ≡ Accepted a) × (after ≡ after′)
+  pub refused : (r : Refusal) → v ≡ Refused r → (w ≡ Refused r) × (after ≡ after′)
+  -- a request exceeds the prefix, and the second prefix gets it exactly when it is shorter
+  pub asks-more : (k : ℕ) → v ≡ Wanted k → length p < k
+  pub asks-again : (k : ℕ) → v ≡ Wanted k → (w ≡ Wanted k ↔ length q < k)
+  -- sixteen bytes, and as many as the declared size, get no request
+  pub asks-no-more : 16 ≤ length p → declaredSize p ≤ length p → (k : ℕ) → v ≡ Wanted k → ⊥
+
+module _ (xs : List ℕ) (i j m : ℕ) (h : i ≤ j) (v w : Verdict) (after after′ : List ℕ)
+    (r : Reads (prefixAnswer (take i xs) m) m v after) (s : Reads (prefixAnswer (take j xs) m) m w after′) where
+  -- what the first prefix has decided, the second has
+  kept : ((k : ℕ) → v ≡ Wanted k → ⊥) → prefixAnswer (take j xs) m ≡ prefixAnswer (take i xs) m
+  kept n =
+      let d = decided-answer (prefixAnswer (take i xs) m) (λ k e. n k (same-kind v (Wanted k) (r .verdict ∙ e))) in
+      stands (readPlan m) (take i xs) (take j xs) (begins-take xs i j h) .kept (d .0) (d .1) ∙ sym (d .1)
+
+  both : ((k : ℕ) → v ≡ Wanted k → ⊥) → (w ≡ v) × (after ≡ after′)
+  both n = (
+    same-kind w v (s .verdict ∙ ap answerValues (kept n) ∙ sym (r .verdict)),
+    r .buffer ∙ sym (s .buffer ∙ ap (λ (x : Answer Acceptable). bufferAfter x m) (kept n)),
+  )
+
+  -- DEMAND 3, for every pair of prefixes of any bytes and every pair of working buffers of equal length
+  pub early-stands : EarlyStands (take i xs) (take j xs) v w after after′
+  early-stands =
+      let t = stands (readPlan m) (take i xs) (take j xs) (begins-take xs i j h) in
+      let first : (k : ℕ) → v ≡ Wanted k → prefixAnswer (take i xs) m ≡ wants k = λ k e. wanted-answer _ k (ap valuesOf (sym e) ∙ r .verdict) in
+      record {
+        accepted = λ a e. let b = both (λ k z. other (sym e ∙ z)) in (b .0 ∙ e, b .1);
+        refused = λ f e. let b = both (λ k z. another (sym e ∙ z)) in (b .0 ∙ e, b .1);
+        asks-more = λ k e. t .longer k (first k e);
+        asks-again = λ k e. (
+          (λ g. t .again k (first k e) (wanted-answer _ k (ap valuesOf (sym g) ∙ s .verdict))),
+          (λ l. same-kind w (Wanted k) (s .verdict ∙ ap answerValues (t .still k (first k e) l))),
+        );
+        asks-no-more = λ a b k e. decided-read m (take i xs) a b .never k (first k e);
+      }
+    where
+      other : {a : Acceptance} {k : ℕ} → Accepted a ≡ Wanted k → ⊥
+      other e = let z : _≡_ {A = ℕ} 0 2 = ap (λ (x : Verdict). valuesOf x .kind) e in omega arith
+
+      another : {f : Refusal} {k : ℕ} → Refused f ≡ Wanted k → ⊥
+      another e = let z : _≡_ {A = ℕ} 1 2 = ap (λ (x : Verdict). valuesOf x .kind) e in omega arith
