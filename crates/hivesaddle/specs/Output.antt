@@ -7,6 +7,9 @@ use native.Mathlib.Nat.{zero-add}
 use native.Mathlib.Omega.{arith}
 use lib.ListN.{length, take, drop, drop-of-length-le}
 use lib.Seq.{paste, take-all}
+use Rattle.incremental.specs.Plan.{Answer}
+use Rattle.reader.specs.Verdict.{Acceptable, Values, Reads, valuesOf, answerValues, bufferAfter}
+use Rattle.reader.specs.declared.verdict.Verdict.{Verdict}
 use Rattle.catalogue.specs.declared.Fields.{Fields}
 use Rattle.catalogue.specs.declared.ReadLine.{ReadLine}
 use Rattle.catalogue.specs.declared.WrittenLine.{WrittenLine}
@@ -46,3 +49,40 @@ pub record LineWriting (f : Fields) (before : List ℕ) (r : ℕ) (after : List 
 
 pub writing-is : (f : Fields) (before after : List ℕ) (w : WrittenLine) (r : ℕ) → Writing f before w after → writtenNumber w ≡ r → LineWriting f before r after
 writing-is f before after w r h e = record { number = sym e ∙ h .number; output = h .output }
+
+-- a verdict's values in order: refusal number and index, bytes wanted, and the acceptance record
+abbrev pub verdictValues : Values → List ℕ
+verdictValues v =
+    v .number
+    ∷ v .index
+    ∷ v .wanted
+    ∷ v .fields .version
+    ∷ v .fields .size
+    ∷ v .fields .units
+    ∷ v .fields .hash
+    ∷ v .fields .time
+    ∷ v .fields .runs
+    ∷ v .fields .metrics
+    ∷ v .fields .trace
+    ∷ v .fields .volumes
+    ∷ v .fields .chains
+    ∷ []
+
+-- what a reader says over the C boundary: 0 accepted, 1 refused, 2 more bytes wanted; the values, and the working buffer afterwards
+pub record ReadOut (answer : Answer Acceptable) (m : ℕ) (code : ℕ) (buffer out out′ : List ℕ) : Type 0 where
+  pub kind : code ≡ answerValues answer .kind
+  pub places : buffer ≡ bufferAfter answer m
+  pub values : out′ ≡ overlay out (verdictValues (answerValues answer))
+
+pub read-out : (answer : Answer Acceptable) (m : ℕ) (v : Verdict) (code : ℕ) (buffer out out′ : List ℕ) → Reads answer m v buffer → code ≡ valuesOf v .kind → out′ ≡ overlay out (verdictValues (valuesOf v)) → ReadOut answer m code buffer out out′
+read-out answer m v code buffer out out′ r e q =
+    record {
+      kind = e ∙ ap (λ (x : Values). x .kind) (r .verdict);
+      places = r .buffer;
+      values = q ∙ ap (λ (x : Values). overlay out (verdictValues x)) (r .verdict);
+    }
+
+-- a verdict's values are those of the case that was found
+pub verdict-out : (v w : Verdict) (code : ℕ) (out out′ : List ℕ) → v ≡ w → code ≡ valuesOf w .kind → out′ ≡ overlay out (verdictValues (valuesOf w))
+    → (code ≡ valuesOf v .kind) × (out′ ≡ overlay out (verdictValues (valuesOf v)))
+verdict-out v w code out out′ e k q = rw e (k, q)

@@ -2,10 +2,16 @@
 ghost use mathlib.Core.Path.{_≡_};
 ghost use Rattle.path_hash.specs.Hash.{xp, vista, hash2008, units};
 ghost use Rattle.catalogue.specs.Line.{reading};
-ghost use Rattle.hivesaddle.specs.Output.{overlay, lineValues, fieldsOf, LineWriting};
+ghost use Prim.Native.Nat.{ℕ};
+ghost use lib.ListN.{length};
+ghost use Rattle.reader.specs.Verdict.{valuesOf, zeros};
+ghost use Rattle.reader.specs.Checks.{prefixAnswer, fileAnswer};
+ghost use Rattle.hivesaddle.specs.Output.{overlay, lineValues, fieldsOf, LineWriting, verdictValues, ReadOut};
 use catalogue::Fields;
 use catalogue::ReadLine;
 use catalogue::WrittenLine;
+use reader::Acceptance;
+use reader::Verdict;
 
 #[no_mangle]
 pub extern "C" fn hs_hash_xp(numbers: &[u32]) -> u32
@@ -120,4 +126,81 @@ pub extern "C" fn hs_catalogue_write(
         WrittenLine::Written => 0,
         WrittenLine::Refused => 19,
     }
+}
+
+fn put_values(out: &mut [u64], number: u32, index: usize, wanted: usize, a: Acceptance)
+    ensures { λ _. ⌜ now (out .exit) ≡ overlay (now (out .entry)) (verdictValues (record { kind = 0; number = number; index = index; wanted = wanted; fields = a })) ⌝ }
+{
+    let values = [
+        number as u64,
+        index as u64,
+        wanted as u64,
+        a.version as u64,
+        a.size as u64,
+        a.units as u64,
+        a.hash as u64,
+        a.time,
+        a.runs as u64,
+        a.metrics as u64,
+        a.trace as u64,
+        a.volumes as u64,
+        a.chains as u64,
+    ];
+    put(out, &values);
+}
+
+// The record of an answer that is no acceptance.
+fn no_record() -> Acceptance
+    ensures { λ r. ⌜ r ≡ zeros ⌝ }
+{
+    Acceptance {
+        version: 0,
+        size: 0,
+        units: 0,
+        hash: 0,
+        time: 0,
+        runs: 0,
+        metrics: 0,
+        trace: 0,
+        volumes: 0,
+        chains: 0,
+    }
+}
+
+fn put_verdict(v: Verdict, out: &mut [u64]) -> u32
+    ensures kind { λ r. ⌜ r ≡ valuesOf v .kind ⌝ }
+    ensures values { λ r. ⌜ now (out .exit) ≡ overlay (now (out .entry)) (verdictValues (valuesOf v)) ⌝ }
+{
+    match v {
+        Verdict::Accepted(a) => {
+            put_values(out, 0, 0, 0, a);
+            0
+        }
+        Verdict::Refused(r) => {
+            put_values(out, r.number, r.index, 0, no_record());
+            1
+        }
+        Verdict::Wanted(k) => {
+            put_values(out, 0, 0, k, no_record());
+            2
+        }
+    }
+}
+
+// The verdict on a prefix: 0 accepted, 1 refused, 2 more bytes wanted.
+#[no_mangle]
+pub extern "C" fn hs_read_prefix(file: &[u8], predecessors: &mut [u32], out: &mut [u64]) -> u32
+    ensures { λ r. ⌜ ReadOut (prefixAnswer (now (file .entry)) (length (now (predecessors .entry)))) (length (now (predecessors .entry))) r (now (predecessors .exit)) (now (out .entry)) (now (out .exit)) ⌝ }
+{
+    let v = reader::read_prefix(file, predecessors);
+    put_verdict(v, out)
+}
+
+// The verdict on a whole file.
+#[no_mangle]
+pub extern "C" fn hs_read_file(file: &[u8], predecessors: &mut [u32], out: &mut [u64]) -> u32
+    ensures { λ r. ⌜ ReadOut (fileAnswer (now (file .entry)) (length (now (predecessors .entry)))) (length (now (predecessors .entry))) r (now (predecessors .exit)) (now (out .entry)) (now (out .exit)) ⌝ }
+{
+    let v = reader::read_file(file, predecessors);
+    put_verdict(v, out)
 }
