@@ -1,0 +1,4 @@
+pub mod Questions
+pub mod Search
+pub mod Parts
+pub mod QuestionLaws
