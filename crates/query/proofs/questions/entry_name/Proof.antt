@@ -28,11 +28,11 @@ slice-aggregate-result c = search needs
 
 -- src/questions.rt:122:1
 returns : tie.Need-returns
-returns c = search needs
+returns c = ?
 
 -- src/questions.rt:122:1
 returns-2 : tie.Need-returns-2
-returns-2 c = search needs
+returns-2 c = ?
 
 pub entry-name-spec : {M : Type 1} → statement M
 entry-name-spec =

@@ -9,63 +9,63 @@ use Rattle.query.proofs.questions.name_shown.Reads as name-shown-reads
 
 -- src/questions.rt:91:8
 cast-if1 : tie.Need-cast-if1
-cast-if1 c = search needs
+cast-if1 c = ?
 
 -- src/questions.rt:92:9
 returns : tie.Need-returns
-returns c = search needs
+returns c = ?
 
 -- src/questions.rt:94:9
 part-of-requires : tie.Need-part-of-requires
-part-of-requires c κs = search needs
+part-of-requires c κs = ?
 
 -- src/questions.rt:95:9
 of-requires : tie.Need-of-requires
-of-requires c κs = search needs
+of-requires c κs = ?
 
 -- src/questions.rt:96:25
 add-if2 : tie.Need-add-if2
-add-if2 c = search needs
+add-if2 c = ?
 
 -- src/questions.rt:96:24
 mul-if2 : tie.Need-mul-if2
-mul-if2 c = search needs
+mul-if2 c = ?
 
 -- src/questions.rt:97:9
 returns-2 : tie.Need-returns-2
-returns-2 c = search needs
+returns-2 c = ?
 
 -- src/questions.rt:100:9
 part-of-requires-2 : tie.Need-part-of-requires-2
-part-of-requires-2 c κs = search needs
+part-of-requires-2 c κs = ?
 
 -- src/questions.rt:101:49
 cast-name-shown : tie.Need-cast-name-shown
-cast-name-shown c = search needs
+cast-name-shown c = ?
 
 -- src/questions.rt:101:11
 name-shown-requires : tie.Need-name-shown-requires
-name-shown-requires c κs = search needs
+name-shown-requires c κs = ?
 
 -- src/questions.rt:102:28
 enum-known-w : tie.Need-enum-known-w
-enum-known-w c = search needs
+enum-known-w c = ?
 
 -- src/questions.rt:103:17
 add-t19 : tie.Need-add-t19
-add-t19 c = search needs
+add-t19 c = ?
 
 -- src/questions.rt:106:34
 enum-told : tie.Need-enum-told
-enum-told c = search needs
+enum-told c = ?
 
 -- src/questions.rt:84:1
 returns-3 : tie.Need-returns-3
-returns-3 c = search needs
+returns-3 c = ?
 
 -- src/questions.rt:84:1
 returns-4 : tie.Need-returns-4
-returns-4 c = search needs
+returns-4 c = ?
 
 pub entry-of-spec : {M : Type 1} → statement M
 entry-of-spec =

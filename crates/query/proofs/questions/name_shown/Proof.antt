@@ -1,3 +1,4 @@
+use Rattle.query.specs.QuestionLaws.{names}
 use borrow.Author.Needs.{needs}
 use Rattle.query.proofs.questions.name_shown.Statement.{statement}
 use Rattle.query.proofs.questions.name_shown.Tie as tie
@@ -33,11 +34,11 @@ mul-t11 c = search needs
 
 -- src/questions.rt:68:1
 returns : tie.Need-returns
-returns c = search needs
+returns c = search names
 
 -- src/questions.rt:68:1
 returns-2 : tie.Need-returns-2
-returns-2 c = search needs
+returns-2 c = search names
 
 pub name-shown-spec : {M : Type 1} → statement M
 name-shown-spec =

@@ -1,3 +1,6 @@
+use native.Mathlib.Omega.{arith}
+use Rattle.head.specs.Facts.{start-met, name-law}
+use Rattle.query.specs.QuestionLaws.{asking}
 use borrow.Author.Needs.{needs}
 use Rattle.query.proofs.questions.program_place.Statement.{statement}
 use Rattle.query.proofs.questions.program_place.Tie as tie
@@ -15,7 +18,7 @@ enum-known-s c = search needs
 
 -- src/questions.rt:50:18
 mul-t5 : tie.Need-mul-t5
-mul-t5 c = search needs
+mul-t5 c = ?
 
 -- src/questions.rt:52:36
 enum-told : tie.Need-enum-told
@@ -27,15 +30,15 @@ enum-told-2 c = search needs
 
 -- src/questions.rt:44:1
 returns : tie.Need-returns
-returns c = search needs
+returns c = search asking
 
 -- src/questions.rt:44:1
 returns-2 : tie.Need-returns-2
-returns-2 c = search needs
+returns-2 c = search asking
 
 -- src/questions.rt:44:1
 returns-3 : tie.Need-returns-3
-returns-3 c = search needs
+returns-3 c = search asking
 
 pub program-place-spec : {M : Type 1} → statement M
 program-place-spec =

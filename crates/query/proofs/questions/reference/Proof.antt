@@ -1,3 +1,4 @@
+use Rattle.query.specs.QuestionLaws.{asking}
 use borrow.Author.Needs.{needs}
 use Rattle.query.proofs.questions.reference.Statement.{statement}
 use Rattle.query.proofs.questions.reference.Tie as tie
@@ -28,15 +29,15 @@ enum-told-2 c = search needs
 
 -- src/questions.rt:218:1
 returns : tie.Need-returns
-returns c = search needs
+returns c = search asking
 
 -- src/questions.rt:218:1
 returns-2 : tie.Need-returns-2
-returns-2 c = search needs
+returns-2 c = search asking
 
 -- src/questions.rt:218:1
 returns-3 : tie.Need-returns-3
-returns-3 c = search needs
+returns-3 c = search asking
 
 pub reference-spec : {M : Type 1} → statement M
 reference-spec =

@@ -10,47 +10,47 @@ use Rattle.volumes.proofs.volume_at.Reads as volume-at-reads
 
 -- src/questions.rt:207:9
 part-of-requires : tie.Need-part-of-requires
-part-of-requires c κs = search needs
+part-of-requires c κs = ?
 
 -- src/questions.rt:208:9
 section-shown-requires : tie.Need-section-shown-requires
-section-shown-requires c κs = search needs
+section-shown-requires c κs = ?
 
 -- src/questions.rt:209:9
 returns : tie.Need-returns
-returns c = search needs
+returns c = ?
 
 -- src/questions.rt:211:50
 cast-volume-at : tie.Need-cast-volume-at
-cast-volume-at c = search needs
+cast-volume-at c = ?
 
 -- src/questions.rt:211:9
 volume-at-requires : tie.Need-volume-at-requires
-volume-at-requires c κs = search needs
+volume-at-requires c κs = ?
 
 -- src/questions.rt:212:8
 cast-if2 : tie.Need-cast-if2
-cast-if2 c = search needs
+cast-if2 c = ?
 
 -- src/questions.rt:213:9
 returns-2 : tie.Need-returns-2
-returns-2 c = search needs
+returns-2 c = ?
 
 -- src/questions.rt:215:68
 cast-reference-at : tie.Need-cast-reference-at
-cast-reference-at c = search needs
+cast-reference-at c = ?
 
 -- src/questions.rt:215:78
 cast-reference-at-2 : tie.Need-cast-reference-at-2
-cast-reference-at-2 c = search needs
+cast-reference-at-2 c = ?
 
 -- src/questions.rt:215:28
 reference-at-requires : tie.Need-reference-at-requires
-reference-at-requires c κs = search needs
+reference-at-requires c κs = ?
 
 -- src/questions.rt:201:1
 returns-3 : tie.Need-returns-3
-returns-3 c = search needs
+returns-3 c = ?
 
 pub reference-in-spec : {M : Type 1} → statement M
 reference-in-spec =

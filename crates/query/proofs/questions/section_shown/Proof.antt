@@ -8,55 +8,55 @@ use Rattle.volumes.proofs.check_volume.Reads as check-volume-reads
 
 -- src/questions.rt:135:9
 of-requires : tie.Need-of-requires
-of-requires c κs = search needs
+of-requires c κs = ?
 
 -- src/questions.rt:136:16
 cast-if1 : tie.Need-cast-if1
-cast-if1 c = search needs
+cast-if1 c = ?
 
 -- src/questions.rt:136:16
 mul-if1 : tie.Need-mul-if1
-mul-if1 c = search needs
+mul-if1 c = ?
 
 -- src/questions.rt:137:9
 returns : tie.Need-returns
-returns c = search needs
+returns c = ?
 
 -- src/questions.rt:139:8
 cast-if2 : tie.Need-cast-if2
-cast-if2 c = search needs
+cast-if2 c = ?
 
 -- src/questions.rt:140:9
 returns-2 : tie.Need-returns-2
-returns-2 c = search needs
+returns-2 c = ?
 
 -- src/questions.rt:143:9
 returns-3 : tie.Need-returns-3
-returns-3 c = search needs
+returns-3 c = ?
 
 -- src/questions.rt:145:51
 cast-check-volume : tie.Need-cast-check-volume
-cast-check-volume c = search needs
+cast-check-volume c = ?
 
 -- src/questions.rt:145:11
 check-volume-requires : tie.Need-check-volume-requires
-check-volume-requires c κs = search needs
+check-volume-requires c κs = ?
 
 -- src/questions.rt:146:28
 enum-told : tie.Need-enum-told
-enum-told c = search needs
+enum-told c = ?
 
 -- src/questions.rt:147:32
 enum-told-2 : tie.Need-enum-told-2
-enum-told-2 c = search needs
+enum-told-2 c = ?
 
 -- src/questions.rt:132:1
 returns-4 : tie.Need-returns-4
-returns-4 c = search needs
+returns-4 c = ?
 
 -- src/questions.rt:132:1
 returns-5 : tie.Need-returns-5
-returns-5 c = search needs
+returns-5 c = ?
 
 pub section-shown-spec : {M : Type 1} → statement M
 section-shown-spec =

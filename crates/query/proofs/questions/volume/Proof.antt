@@ -1,3 +1,4 @@
+use Rattle.query.specs.QuestionLaws.{asking}
 use borrow.Author.Needs.{needs}
 use Rattle.query.proofs.questions.volume.Statement.{statement}
 use Rattle.query.proofs.questions.volume.Tie as tie
@@ -16,7 +17,7 @@ enum-known-o c = search needs
 
 -- src/questions.rt:181:34
 volume-in-requires : tie.Need-volume-in-requires
-volume-in-requires c κs = search needs
+volume-in-requires c κs = search asking
 
 -- src/questions.rt:182:35
 enum-told : tie.Need-enum-told
@@ -28,15 +29,15 @@ enum-told-2 c = search needs
 
 -- src/questions.rt:177:1
 returns : tie.Need-returns
-returns c = search needs
+returns c = search asking
 
 -- src/questions.rt:177:1
 returns-2 : tie.Need-returns-2
-returns-2 c = search needs
+returns-2 c = search asking
 
 -- src/questions.rt:177:1
 returns-3 : tie.Need-returns-3
-returns-3 c = search needs
+returns-3 c = search asking
 
 pub volume-spec : {M : Type 1} → statement M
 volume-spec =

@@ -9,35 +9,35 @@ use Rattle.volumes.proofs.volume_at.Reads as volume-at-reads
 
 -- src/questions.rt:159:9
 part-of-requires : tie.Need-part-of-requires
-part-of-requires c κs = search needs
+part-of-requires c κs = ?
 
 -- src/questions.rt:160:9
 section-shown-requires : tie.Need-section-shown-requires
-section-shown-requires c κs = search needs
+section-shown-requires c κs = ?
 
 -- src/questions.rt:161:9
 returns : tie.Need-returns
-returns c = search needs
+returns c = ?
 
 -- src/questions.rt:163:50
 cast-volume-at : tie.Need-cast-volume-at
-cast-volume-at c = search needs
+cast-volume-at c = ?
 
 -- src/questions.rt:163:9
 volume-at-requires : tie.Need-volume-at-requires
-volume-at-requires c κs = search needs
+volume-at-requires c κs = ?
 
 -- src/questions.rt:170:17
 add-t12 : tie.Need-add-t12
-add-t12 c = search needs
+add-t12 c = ?
 
 -- src/questions.rt:171:18
 mul-t13 : tie.Need-mul-t13
-mul-t13 c = search needs
+mul-t13 c = ?
 
 -- src/questions.rt:152:1
 returns-2 : tie.Need-returns-2
-returns-2 c = search needs
+returns-2 c = ?
 
 pub volume-in-spec : {M : Type 1} → statement M
 volume-in-spec =

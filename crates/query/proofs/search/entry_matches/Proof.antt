@@ -8,43 +8,43 @@ use Rattle.query.proofs.search.name_matches.Reads as name-matches-reads
 
 -- src/search.rt:77:11
 name-shown-requires : tie.Need-name-shown-requires
-name-shown-requires c κs = search needs
+name-shown-requires c κs = ?
 
 -- src/search.rt:78:28
 enum-known-w : tie.Need-enum-known-w
-enum-known-w c = search needs
+enum-known-w c = ?
 
 -- src/search.rt:80:23
 add-end : tie.Need-add-end
-add-end c = search needs
+add-end c = ?
 
 -- src/search.rt:81:26
 sub-name-matches : tie.Need-sub-name-matches
-sub-name-matches c = search needs
+sub-name-matches c = ?
 
 -- src/search.rt:81:26
 part-name-matches-start : tie.Need-part-name-matches-start
-part-name-matches-start c = search needs
+part-name-matches-start c = ?
 
 -- src/search.rt:81:26
 part-name-matches-end : tie.Need-part-name-matches-end
-part-name-matches-end c = search needs
+part-name-matches-end c = ?
 
 -- src/search.rt:81:13
 name-matches-requires : tie.Need-name-matches-requires
-name-matches-requires c κs = search needs
+name-matches-requires c κs = ?
 
 -- src/search.rt:83:34
 enum-told : tie.Need-enum-told
-enum-told c = search needs
+enum-told c = ?
 
 -- src/search.rt:74:1
 returns : tie.Need-returns
-returns c = search needs
+returns c = ?
 
 -- src/search.rt:74:1
 returns-2 : tie.Need-returns-2
-returns-2 c = search needs
+returns-2 c = ?
 
 pub entry-matches-spec : {M : Type 1} → statement M
 entry-matches-spec =

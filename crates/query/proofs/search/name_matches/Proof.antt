@@ -51,15 +51,15 @@ one-hash-requires-2 c κs = search needs
 
 -- src/search.rt:59:1
 returns : tie.Need-returns
-returns c = search needs
+returns c = ?
 
 -- src/search.rt:59:1
 returns-2 : tie.Need-returns-2
-returns-2 c = search needs
+returns-2 c = ?
 
 -- src/search.rt:59:1
 returns-3 : tie.Need-returns-3
-returns-3 c = search needs
+returns-3 c = ?
 
 pub name-matches-spec : {M : Type 1} → statement M
 name-matches-spec =

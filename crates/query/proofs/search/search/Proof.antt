@@ -14,50 +14,50 @@ abbrev μ-loop : tie.MeasureT-loop
 
 -- src/search.rt:92:9
 of-requires : tie.Need-of-requires Inv-loop μ-loop
-of-requires c κs = search needs
+of-requires c κs = ?
 
 -- src/search.rt:93:19
 div-entries : tie.Need-div-entries Inv-loop μ-loop
-div-entries c = search needs
+div-entries c = ?
 
 -- src/search.rt:95:5
 loop-holds : tie.Need-loop-holds Inv-loop μ-loop
-loop-holds c = search needs
+loop-holds c = ?
 
 -- src/search.rt:96:80
 cast-entry-matches : tie.Need-cast-entry-matches Inv-loop μ-loop
-cast-entry-matches c = search needs
+cast-entry-matches c = ?
 
 -- src/search.rt:96:39
 entry-matches-requires : tie.Need-entry-matches-requires Inv-loop μ-loop
-entry-matches-requires c κs = search needs
+entry-matches-requires c κs = ?
 
 -- src/search.rt:96:29
 enum-known-report : tie.Need-enum-known-report Inv-loop μ-loop
-enum-known-report c = search needs
+enum-known-report c = ?
 
 -- src/search.rt:97:13
 returns : tie.Need-returns Inv-loop μ-loop
-returns c = search needs
+returns c = ?
 
 enum-told : tie.Need-enum-told Inv-loop μ-loop
-enum-told c = search needs
+enum-told c = ?
 
 -- src/search.rt:102:9
 add-i : tie.Need-add-i Inv-loop μ-loop
-add-i c = search needs
+add-i c = ?
 
 -- src/search.rt:95:5
 loop-less : tie.Need-loop-less Inv-loop μ-loop
-loop-less c = search needs
+loop-less c = ?
 
 -- src/search.rt:95:5
 loop-again : tie.Need-loop-again Inv-loop μ-loop
-loop-again c = search needs
+loop-again c = ?
 
 -- src/search.rt:88:1
 returns-2 : tie.Need-returns-2 Inv-loop μ-loop
-returns-2 c = search needs
+returns-2 c = ?
 
 pub search-spec : {M : Type 1} → statement M
 search-spec =
