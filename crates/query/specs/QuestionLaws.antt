@@ -116,6 +116,11 @@ pub name-inside : (v : Version) (metrics strings : List ℕ) (i : ℕ) → nameS
 unfolding nameSound
 name-inside v metrics strings i s = sound-name strings (nameAt v metrics i) (nameUnits v metrics i) .0 s .inside
 
+pub name-end : (v : Version) (metrics strings : List ℕ) (i : ℕ) {r : PlaceAnswer} (w : Place) → r ≡ nameShown v metrics strings i → r ≡ placeAnswer.Shown w → w .at + w .len + 2 ≤ length strings
+name-end v metrics strings i w e q =
+    let n = name-shown v metrics strings i w e q in
+    rw (n .place) (name-inside v metrics strings i (n .sound))
+
 -- ---- a part of the file, where it is shown and where it is not
 
 pub place-part : (p : List ℕ) {b : List ℕ} {r a : PlaceAnswer} {w : Place} → r ≡ a → r ≡ placeAnswer.Shown w → b ≡ take (w .len) (drop (w .at) p) → b ≡ bytesAt (placeOf a) p
@@ -232,9 +237,7 @@ name-placed o p i f e =
 pub name-low : (o : Opening) (p metrics : List ℕ) (i : ℕ) {strings : List ℕ} {r : PlaceAnswer} {w : Place} → OpenFacts p o → strings ≡ part (o .head .strings) p → r ≡ nameShown (o .version) metrics strings i → r ≡ placeAnswer.Shown w → o .head .strings .at + w .at ≤ sizeLimit
 name-low o p metrics i {strings} {w = w} f es e q =
     let s = o .head .strings in
-    let n = name-shown (o .version) metrics strings i w e q in
-    let h : w .at + w .len + 2 ≤ length strings = rw (n .place) (name-inside (o .version) metrics strings i (n .sound)) in
-    let g : w .at + w .len + 2 ≤ length (part s p) = rw (← es) h in
+    let g : w .at + w .len + 2 ≤ length (part s p) = rw (← es) (name-end (o .version) metrics strings i w e q) in
     let r = part-reach s p (w .at + w .len + 2) (omega arith) .0 g in
     let z : s .end ≡ s .at + s .len = section-end s _ (open-shapes p o f .strings-end) (omega (arith, r .0)) in
     omega (arith, r .0, f .strings, f .start .most)

@@ -89,6 +89,19 @@ entry-differs v metrics strings hash i e q = go (nameSound v metrics strings i) 
     go true false h = refl
     go false b h = refl
 
+-- the loop ends, for code that has the layout at hand
+pub search-hit : (v : Version) (metrics strings : List ℕ) (hash i : ℕ) {l : Layout} {x : Report} → l ≡ layoutOf v → first (testIn v metrics strings hash) (length metrics / l .metric) ≡ At i → x ≡ reportOf v (numbersIn v metrics strings i) hash → pathAnswer.Entry i x ≡ pathIn v metrics strings hash
+unfolding pathIn
+search-hit v metrics strings hash i e h q =
+    let g : first (testIn v metrics strings hash) (length metrics / layoutOf v .metric) ≡ At i = rw (← e) h in
+    rw (g, q)
+
+pub search-none : (v : Version) (metrics strings : List ℕ) (hash : ℕ) {l : Layout} → l ≡ layoutOf v → first (testIn v metrics strings hash) (length metrics / l .metric) ≡ Nothing → pathAnswer.NoPath ≡ pathIn v metrics strings hash
+unfolding pathIn
+search-none v metrics strings hash e h =
+    let g : first (testIn v metrics strings hash) (length metrics / layoutOf v .metric) ≡ Nothing = rw (← e) h in
+    rw g
+
 -- ---- THE SEARCH ON THE SECTIONS IS THE SEARCH ON THE FILE
 
 -- the bytes of a name that is shown are the same in the file
@@ -99,21 +112,21 @@ name-bytes o p i s =
     part-bytes (o .head .strings) p (n .at) (n .len) (omega (arith, h, part-there (o .head .strings) p))
 
 -- an entry lies whole in the metrics exactly when its index is below their number of whole entries
-metric-some : (v : Version) → 0 < layoutOf v .metric
-metric-some v = omega (arith, layout-sound v .name)
+pub metric-some : (v : Version) {l : Layout} → l ≡ layoutOf v → 0 < l .metric
+metric-some v e = rw e (omega (arith, layout-sound v .name))
 
 pub entry-whole : (v : Version) (metrics : List ℕ) (i : ℕ) → i < entriesIn v metrics → (i + 1) * layoutOf v .metric ≤ length metrics
-entry-whole v metrics i l = le-div-iff-mul-le (metric-some v) .0 (omega arith)
+entry-whole v metrics i l = le-div-iff-mul-le (metric-some v refl) .0 (omega arith)
 
 pub entry-not-whole : (v : Version) (metrics : List ℕ) (i : ℕ) → entriesIn v metrics ≤ i → length metrics < (i + 1) * layoutOf v .metric
-entry-not-whole v metrics i l = div-lt-iff-lt-mul (metric-some v) .0 (omega arith)
+entry-not-whole v metrics i l = div-lt-iff-lt-mul (metric-some v refl) .0 (omega arith)
 
 -- there are no more of them than the count says
-pub entries-most : (v : Version) (metrics : List ℕ) (count : ℕ) → length metrics ≤ count * layoutOf v .metric → entriesIn v metrics ≤ count
-entries-most v metrics count h =
-    let g : length metrics < (count + 1) * layoutOf v .metric = omega (arith, h, metric-some v, add-mul count 1 (layoutOf v .metric), one-mul (layoutOf v .metric)) in
-    let l = div-lt-iff-lt-mul (metric-some v) .1 g in
-    omega arith
+pub entries-most : (v : Version) (metrics : List ℕ) (count : ℕ) {l : Layout} → l ≡ layoutOf v → length metrics ≤ count * layoutOf v .metric → length metrics / l .metric ≤ count
+entries-most v metrics count e h =
+    let g : length metrics < (count + 1) * layoutOf v .metric = omega (arith, h, metric-some v refl, add-mul count 1 (layoutOf v .metric), one-mul (layoutOf v .metric)) in
+    let d = div-lt-iff-lt-mul (metric-some v refl) .1 g in
+    rw e (omega arith)
 
 -- the test of the definition, and the sections of an opening
 abbrev matchAt : Opening → List ℕ → ℕ → Bool
@@ -140,7 +153,7 @@ module _ (o : Opening) (p : List ℕ) (f : OpenFacts p o) where
   metrics-most = omega (arith, part-there (o .head .metrics) p, open-shapes p o f .metrics-len)
 
   entries-below : (i : ℕ) → i < entriesOn o p → i < o .head .metrics .count
-  entries-below i l = omega (arith, entries-most (o .version) (metricsOf o p) (o .head .metrics .count) metrics-most)
+  entries-below i l = omega (arith, entries-most (o .version) (metricsOf o p) (o .head .metrics .count) refl metrics-most)
 
   whole-entry : (i : ℕ) → i < entriesOn o p → matchAt o p i ≡ testOn o p i
   unfolding entryShown testIn nameSound
@@ -178,3 +191,9 @@ module _ (o : Opening) (p : List ℕ) (f : OpenFacts p o) where
           let d : first (matchAt o p) (o .head .metrics .count) ≡ Nothing =
               first-is-nothing (matchAt o p) (o .head .metrics .count) (λ k h. none e k h (ltb k (entriesOn o p)) refl) in
           rw d
+
+-- for the code, which has the sections from calls
+pub path-given : (o : Opening) (p : List ℕ) {metrics strings : List ℕ} {hash : ℕ} {r : PathAnswer} → OpenFacts p o → metrics ≡ part (o .head .metrics) p → strings ≡ part (o .head .strings) p → hash ≡ storedHash p → r ≡ pathIn (o .version) metrics strings hash → r ≡ reported o p (firstMatch o p)
+path-given o p f em es eh e =
+    let g : _ ≡ pathIn (o .version) (metricsOf o p) (stringsOf o p) (storedHash p) = rw (em, es, eh) at e in
+    g ∙ path-law o p f

@@ -18,7 +18,7 @@ enum-known-s c = search needs
 
 -- src/questions.rt:50:18
 mul-t5 : tie.Need-mul-t5
-mul-t5 c = ?
+mul-t5 c = omega (arith, name-law _ _ (start-met _ _ _ (c .before .before .before .before .read-start .ensures) (c .before .before .s .given .1) .ended) .short)
 
 -- src/questions.rt:52:36
 enum-told : tie.Need-enum-told

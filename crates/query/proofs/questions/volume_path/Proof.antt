@@ -1,3 +1,4 @@
+use Rattle.query.specs.QuestionLaws.{shown-parts}
 use borrow.Author.Needs.{needs}
 use Rattle.query.proofs.questions.volume_path.Statement.{statement}
 use Rattle.query.proofs.questions.volume_path.Tie as tie
@@ -28,11 +29,11 @@ slice-aggregate-result c = search needs
 
 -- src/questions.rt:188:1
 returns : tie.Need-returns
-returns c = ?
+returns c = search shown-parts
 
 -- src/questions.rt:188:1
 returns-2 : tie.Need-returns-2
-returns-2 c = ?
+returns-2 c = search shown-parts
 
 pub volume-path-spec : {M : Type 1} → statement M
 volume-path-spec =

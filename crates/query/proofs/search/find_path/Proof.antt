@@ -1,3 +1,4 @@
+use Rattle.query.specs.QuestionLaws.{asking}
 use borrow.Author.Needs.{needs}
 use Rattle.query.proofs.search.find_path.Statement.{statement}
 use Rattle.query.proofs.search.find_path.Tie as tie
@@ -16,7 +17,7 @@ enum-known-o c = search needs
 
 -- src/search.rt:127:34
 search-in-requires : tie.Need-search-in-requires
-search-in-requires c κs = ?
+search-in-requires c κs = search asking
 
 -- src/search.rt:128:35
 enum-told : tie.Need-enum-told
@@ -28,15 +29,15 @@ enum-told-2 c = search needs
 
 -- src/search.rt:123:1
 returns : tie.Need-returns
-returns c = ?
+returns c = search asking
 
 -- src/search.rt:123:1
 returns-2 : tie.Need-returns-2
-returns-2 c = ?
+returns-2 c = search asking
 
 -- src/search.rt:123:1
 returns-3 : tie.Need-returns-3
-returns-3 c = ?
+returns-3 c = search asking
 
 pub find-path-spec : {M : Type 1} → statement M
 find-path-spec =

@@ -1,3 +1,4 @@
+use Rattle.query.specs.SearchLaws.{by-version}
 use borrow.Author.Needs.{needs}
 use Rattle.query.proofs.search.name_matches.Statement.{statement}
 use Rattle.query.proofs.search.name_matches.Tie as tie
@@ -51,15 +52,15 @@ one-hash-requires-2 c κs = search needs
 
 -- src/search.rt:59:1
 returns : tie.Need-returns
-returns c = ?
+returns c = search by-version
 
 -- src/search.rt:59:1
 returns-2 : tie.Need-returns-2
-returns-2 c = ?
+returns-2 c = search by-version
 
 -- src/search.rt:59:1
 returns-3 : tie.Need-returns-3
-returns-3 c = ?
+returns-3 c = search by-version
 
 pub name-matches-spec : {M : Type 1} → statement M
 name-matches-spec =

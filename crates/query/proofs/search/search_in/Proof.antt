@@ -1,3 +1,4 @@
+use Rattle.query.specs.SearchLaws.{metrics-most, path-given}
 use borrow.Author.Needs.{needs}
 use Rattle.query.proofs.search.search_in.Statement.{statement}
 use Rattle.query.proofs.search.search_in.Tie as tie
@@ -21,11 +22,11 @@ u32-at-requires c κs = search needs
 
 -- src/search.rt:119:5
 search-requires : tie.Need-search-requires
-search-requires c κs = ?
+search-requires c κs = rw (c .before .before .part-of .ensures) (metrics-most (c .before .before .before .before .before .before .before .args .o) _ (c .before .before .before .before .before .before .before .pre))
 
 -- src/search.rt:108:1
 returns : tie.Need-returns
-returns c = ?
+returns c = search path-given
 
 pub search-in-spec : {M : Type 1} → statement M
 search-in-spec =
