@@ -11,7 +11,7 @@ pickList false a b = b
 -- the digits of a number; `turns` is above their number
 unfoldable pub decimalIn : ℕ → ℕ → List ℕ
 decimalIn zero n = []
-decimalIn (suc turns) n = pickList (ltb n 10) (48 + n ∷ []) (decimalIn turns (n / 10) ++ (48 + n % 10 ∷ []))
+decimalIn (suc turns) n = pickList (ltb n 10) ((48 + n) ∷ []) (decimalIn turns (n / 10) ++ ((48 + n % 10) ∷ []))
 
 -- a number has fewer digits than one more than itself
 unfoldable pub decimal : ℕ → List ℕ

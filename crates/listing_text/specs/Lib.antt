@@ -1,2 +1,5 @@
 pub mod Decimal
+pub mod DecimalLaws
 pub mod Listing
+pub mod Growth
+pub mod Steps

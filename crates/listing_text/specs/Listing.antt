@@ -2,9 +2,9 @@
 use mathlib.Core.Path.{_≡_}
 use mathlib.Core.Bool.{Bool, true, false, _&&_}
 use mathlib.Core.List.{List, [], _∷_, _++_}
-use Prim.Native.Nat.{ℕ, _+_, _*_}
+use Prim.Native.Nat.{ℕ, _+_, _-_, _*_, _≤_}
 use lib.Dec.{leb, ltb}
-use lib.ListN.{length, take}
+use lib.ListN.{length, take, drop, replicate}
 use Rattle.lists.specs.Count.{pick}
 use Rattle.lists.specs.Table.{tabulate}
 use Rattle.little_endian.specs.Number.{le}
@@ -116,7 +116,14 @@ room = 256
 abbrev pub textOf : Text → List ℕ
 textOf t = take (t .len) (t .bytes)
 
+-- a text within its room, with zeros after it
+pub record Sound (t : Text) : Type 0 where
+  pub fits : t .len ≤ room
+  pub size : length (t .bytes) ≡ room
+  pub rest : drop (t .len) (t .bytes) ≡ replicate (room - t .len) 0
+
 -- the text, and the working buffer afterwards: as it was where the file is too long, else as the whole-file reader leaves it
 pub record Listed (p buffer : List ℕ) (t : Text) (after : List ℕ) : Type 0 where
+  pub sound : Sound t
   pub text : textOf t ≡ take room (listing p (length buffer))
   pub places : after ≡ pickList (ltb fileLimit (length p)) buffer (bufferAfter (fileAnswer p (length buffer)) (length buffer))
