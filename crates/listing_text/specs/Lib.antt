@@ -3,3 +3,4 @@ pub mod DecimalLaws
 pub mod Listing
 pub mod Growth
 pub mod Steps
+pub mod Lines
