@@ -4,3 +4,4 @@ pub mod Listing
 pub mod Growth
 pub mod Steps
 pub mod Lines
+pub mod Bounds
