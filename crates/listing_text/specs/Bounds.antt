@@ -35,9 +35,11 @@ use Rattle.trace.specs.Steps.{length-nexts}
 use Rattle.volumes.specs.declared.Step.{Step}
 use Rattle.volumes.specs.declared.Step.the-variants.{Next, Past, Unended}
 use Rattle.volumes.specs.Volumes.{stepAt, onStep, directoryChecks, unless, entryChecks, entryAt, volumeChecks, also, volumesFrom, pathFits, referencesFit, directoryCount, directoriesAt}
-use Rattle.reader.specs.Verdict.{Acceptable, Values, answerValues, acceptedValues}
+use Rattle.reader.specs.Verdict.{Acceptable, Values, Reads, valuesOf, answerValues, acceptedValues}
 use Rattle.reader.specs.Checks.{headEnd, recordOf, volumesReach, volumesPlan, tracePlan, namesReach, namesPlan, metricsPlan, restPlan, readPlan, prefixAnswer, sized, whole, fileAnswer}
 use Rattle.reader.specs.declared.verdict.Acceptance.{Acceptance}
+use Rattle.reader.specs.declared.verdict.Verdict.{Verdict}
+use Rattle.reader.specs.declared.verdict.Verdict.the-variants.{Accepted}
 
 -- every byte is below 256
 abbrev pub Bytes : List ℕ → Type 0
@@ -345,3 +347,12 @@ module _ (p : List ℕ) (m : ℕ) (h : Bytes p) where
   -- WHAT THE WHOLE READER ANSWERS IS SMALL
   pub small-answer : Each SmallRecord (fileAnswer p m)
   small-answer = each-whole (length p) (prefixAnswer p m) each-read
+
+-- an accepted record has a name of fewer than 30 units
+pub accepted-units : (p : List ℕ) (m : ℕ) (v : Verdict) (after : List ℕ) (a : Acceptance) → Bytes p → Reads (fileAnswer p m) m v after → v ≡ Accepted a → a .units < 30
+accepted-units p m v after a h r q = go (fileAnswer p m) (small-answer p m h) (ap valuesOf (sym q) ∙ r .verdict)
+  where
+    go : (x : Answer Acceptable) → Each (λ y. SmallFields (y .fields)) x → acceptedValues a ≡ answerValues x → a .units < 30
+    go (decided (accept y)) k e = let f : a ≡ y .fields = ap (λ (w : Values). w .fields) e in rw f (k .accepts y refl .units)
+    go (decided (refuse s)) k e = let z : _≡_ {A = ℕ} 0 1 = ap (λ (w : Values). w .kind) e in absurd (omega arith)
+    go (wants j) k e = let z : _≡_ {A = ℕ} 0 2 = ap (λ (w : Values). w .kind) e in absurd (omega arith)

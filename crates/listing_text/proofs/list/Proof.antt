@@ -1,3 +1,5 @@
+use native.Mathlib.Omega.{arith}
+use Rattle.listing_text.specs.Bounds.{accepted-units}
 use Rattle.listing_text.specs.Lines.{listed-too-long, listed-accepted, listed-refused, listed-wanted}
 use borrow.Author.Needs.{needs}
 use Rattle.listing_text.proofs.list.Statement.{statement}
@@ -16,7 +18,7 @@ too-long-text-requires c κs = search needs
 
 -- src/lib.rt:227:9
 returns : tie.Need-returns
-returns c = ?
+returns c = listed-too-long _ _ _ (c .before .if1 .taken) (c .too-long-text .ensures)
 
 -- src/lib.rt:229:11
 read-file-requires : tie.Need-read-file-requires
@@ -28,7 +30,7 @@ enum-known-a c = search needs
 
 -- src/lib.rt:230:33
 accepted-text-requires : tie.Need-accepted-text-requires
-accepted-text-requires c κs = ?
+accepted-text-requires c κs = omega (arith, accepted-units _ _ _ _ _ (λ i. omega (arith, c .before .before .before .before .before .before .before .before .before .shared-slice-known .given i)) (c .before .before .before .before .before .read-file .ensures) (c .before .a .given .1))
 
 -- src/lib.rt:231:26
 enum-known-r : tie.Need-enum-known-r
@@ -52,7 +54,7 @@ same-length c = search needs
 
 -- src/lib.rt:223:1
 returns-2 : tie.Need-returns-2
-returns-2 c = ?
+returns-2 c = listed-accepted _ _ (c .before .before .before .before .before .before .before .before .if1 .left) _ _ (c .before .before .before .before .before .before .read-file .ensures) _ _ (c .before .before .a .given .1) (c .accepted-text .ensures)
 
 -- src/lib.rt:223:1
 same-length-2 : tie.Need-same-length-2
@@ -60,7 +62,7 @@ same-length-2 c = search needs
 
 -- src/lib.rt:223:1
 returns-3 : tie.Need-returns-3
-returns-3 c = ?
+returns-3 c = listed-refused _ _ (c .before .before .before .before .before .before .before .before .if1 .left) _ _ (c .before .before .before .before .before .before .read-file .ensures) _ _ (c .before .before .r .given .1) (c .refused-text .ensures)
 
 -- src/lib.rt:223:1
 same-length-3 : tie.Need-same-length-3
@@ -68,7 +70,7 @@ same-length-3 c = search needs
 
 -- src/lib.rt:223:1
 returns-4 : tie.Need-returns-4
-returns-4 c = ?
+returns-4 c = listed-wanted _ _ (c .before .before .before .before .before .before .before .if1 .left) _ _ (c .before .before .before .before .before .read-file .ensures) _ _ (c .before .enum-told .given .1) (record { sound = c .empty .ensures .0; text = c .empty .ensures .1 })
 
 pub list-spec : {M : Type 1} → statement M
 list-spec =
