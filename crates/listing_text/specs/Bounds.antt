@@ -260,16 +260,16 @@ number-low p n at h = le-lt 4 (take n p) at within
             rw (List·getD-eq-default (take n p) 0 s) (omega arith)
 
 -- the counts of the sections are numbers of four bytes
-record LowCounts (h : Head) : Type 0 where
-  metrics : h .metrics .count < 2 ^ 32
-  trace : h .trace .count < 2 ^ 32
-  volumes : h .volumes .count < 2 ^ 32
+pub record LowCounts (h : Head) : Type 0 where
+  pub metrics : h .metrics .count < 2 ^ 32
+  pub trace : h .trace .count < 2 ^ 32
+  pub volumes : h .volumes .count < 2 ^ 32
 
 low-head : (p : List ℕ) (v : Version) (n : ℕ) → Bytes p → LowCounts (headOf v (take n p))
 unfolding headOf
 low-head p v n h = record { metrics = number-low p n 88 h; trace = number-low p n 96 h; volumes = number-low p n 112 h }
 
-low-counts : (p : List ℕ) (o : Opening) → Bytes p → OpenFacts p o → LowCounts (o .head)
+pub low-counts : (p : List ℕ) (o : Opening) → Bytes p → OpenFacts p o → LowCounts (o .head)
 low-counts p o h f = rw (f .fields) (low-head p (o .version) (headEnd o) h)
 
 version-low : (v : Version) → versionNumber v < 100

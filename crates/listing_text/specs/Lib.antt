@@ -5,3 +5,4 @@ pub mod Growth
 pub mod Steps
 pub mod Lines
 pub mod Bounds
+pub mod Short
