@@ -7,7 +7,6 @@ ghost use Rattle.listing_text.specs.Decimal.{decimal};
 ghost use Rattle.listing_text.specs.Listing.{textOf, Sound, line, name·word, hash·word, path·word, too-long, shownUnit, shownName, reportWord, pathText, acceptedText, refusedText, Listed};
 ghost use Rattle.listing_text.specs.Growth.{Grown, Shows};
 ghost use Rattle.listing_text.specs.Lines.{countLines};
-use incremental::Refusal;
 use query::PathAnswer;
 use query::Report;
 use reader::Acceptance;
@@ -201,14 +200,14 @@ fn accepted_text(file: &[u8], a: Acceptance) -> Text
         .push_path_line(query::find_path(file))
 }
 
-fn refused_text(r: Refusal) -> Text
-    ensures { λ t. ⌜ Shows (refusedText (r .number) (r .index)) t ⌝ }
+fn refused_text(number: u32, index: usize) -> Text
+    ensures { λ r. ⌜ Shows (refusedText number index) r ⌝ }
 {
     Text::empty()
         .push_all(b"refused ")
-        .push_decimal(r.number as u64)
+        .push_decimal(number as u64)
         .push(32)
-        .push_decimal(r.index as u64)
+        .push_decimal(index as u64)
         .push(10)
 }
 
@@ -228,7 +227,7 @@ pub fn list(file: &[u8], predecessors: &mut [u32]) -> Text
     }
     match reader::read_file(file, predecessors) {
         Verdict::Accepted(a) => accepted_text(file, a),
-        Verdict::Refused(r) => refused_text(r),
+        Verdict::Refused(r) => refused_text(r.number, r.index),
         Verdict::Wanted(_) => Text::empty(),
     }
 }
