@@ -25,7 +25,6 @@ use Rattle.incremental.specs.declared.Refusal.{Refusal}
 use Rattle.head.specs.Fields.{faultAt, signatureFault, declaredSize, sizeFault, nameEnd, headOf, outside, firstOutside, shares, firstShared, part}
 use Rattle.head.specs.Checks.{stop, byName, namePlan, sizePlan, signaturePlan, byVersion, startPlan, sectionPlan, headPlan, openPlan}
 use Rattle.head.specs.Facts.{OpenFacts, open-facts, name-law}
-use Rattle.head.specs.declared.checks.Start.{Start}
 use Rattle.head.specs.declared.checks.Opening.{Opening}
 use Rattle.head.specs.declared.fields.Head.{Head}
 use Rattle.names.specs.Names.{firstMisfit, firstUnsound}

@@ -1,12 +1,11 @@
 -- The lines of a listing, joined, and the answers that they list.
 use mathlib.Core.Path.{_≡_, refl, sym, ap, _∙_}
-use mathlib.Core.Bool.{Bool, true, false}
 use mathlib.Core.List.{List, [], _∷_, _++_, append-assoc}
 use Prim.Native.Nat.{ℕ, _≤_, _<_}
 use native.Mathlib.Omega.{arith}
 use borrow.Author.Tests.{lt-ltb, le-ltb}
-use lib.ListN.{length, take}
-use Rattle.incremental.specs.Decision.{Decision, accept, refuse}
+use lib.ListN.{length}
+use Rattle.incremental.specs.Decision.{accept, refuse}
 use Rattle.incremental.specs.Plan.{Answer, decided, wants}
 use Rattle.incremental.specs.declared.Refusal.{Refusal}
 use Rattle.catalogue.specs.Hex.{hexDigits}
@@ -17,8 +16,8 @@ use Rattle.reader.specs.declared.verdict.Verdict.{Verdict}
 use Rattle.reader.specs.declared.verdict.Verdict.the-variants.{Accepted, Refused, Wanted}
 use Rattle.query.specs.Search.{pathFound}
 use Rattle.query.specs.declared.search.PathAnswer.{PathAnswer}
-use Rattle.listing_text.specs.Decimal.{decimal, pickList}
-use Rattle.listing_text.specs.Listing.{line, version·word, name·word, hash·word, runs·word, files·word, chains·word, volumes·word, path·word, refused·word, too-long, shownName, pathText, acceptedText, refusedText, answerText, fileLimit, listing, room, textOf, Listed}
+use Rattle.listing_text.specs.Decimal.{decimal}
+use Rattle.listing_text.specs.Listing.{line, version·word, name·word, hash·word, runs·word, files·word, chains·word, volumes·word, path·word, refused·word, too-long, shownName, pathText, acceptedText, refusedText, answerText, fileLimit, listing, textOf, Listed}
 use Rattle.listing_text.specs.Growth.{Grown, Shows, grown-then, shows}
 use Rattle.listing_text.specs.declared.Text.{Text}
 

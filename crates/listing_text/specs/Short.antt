@@ -1,20 +1,20 @@
 -- Every listing has room.
-use mathlib.Core.Path.{_≡_, refl, sym, ap, _∙_}
+use mathlib.Core.Path.{_≡_, refl, _∙_}
 use mathlib.Core.Bool.{Bool, true, false}
-use mathlib.Core.List.{List, [], _∷_, _++_}
-use Prim.Native.Nat.{ℕ, zero, suc, _+_, _*_, _/_, _^_, _≤_, _<_}
+use mathlib.Core.List.{List}
+use Prim.Native.Nat.{ℕ, zero, suc, _*_, _/_, _^_, _≤_, _<_}
 use native.Mathlib.Nat.{pow-suc, div-lt-iff-lt-mul}
 use native.Mathlib.Decide.{decLt}
 use native.Mathlib.Omega.{arith}
 use lib.Dec.{ltb}
-use lib.ListN.{length, take, length-append}
+use lib.ListN.{length, length-append}
 use lib.Seq.{take-all}
-use Rattle.lists.specs.First.{first, first-at}
+use Rattle.lists.specs.First.{first-at}
 use Rattle.lists.specs.Table.{length-tabulate}
 use Rattle.lists.specs.declared.Found.{Found}
 use Rattle.lists.specs.declared.Found.the-variants.{At, Nothing}
 use Rattle.catalogue.specs.Hex.{length-digits}
-use Rattle.incremental.specs.Decision.{Decision, accept, refuse}
+use Rattle.incremental.specs.Decision.{accept, refuse}
 use Rattle.incremental.specs.Plan.{Answer, decided, wants, run}
 use Rattle.incremental.specs.declared.Refusal.{Refusal}
 use Rattle.head.specs.Checks.{openPlan}
@@ -27,11 +27,10 @@ use Rattle.query.specs.Questions.{asked}
 use Rattle.query.specs.Search.{storedHash, reportOf, entryNumbers, firstMatch, reported, pathFound}
 use Rattle.query.specs.declared.search.Report.{Report}
 use Rattle.query.specs.declared.search.Report.the-variants as report
-use Rattle.query.specs.declared.search.PathAnswer.{PathAnswer}
 use Rattle.query.specs.declared.search.PathAnswer.the-variants as pathAnswer
 use Rattle.listing_text.specs.Decimal.{decimal, pickList}
 use Rattle.listing_text.specs.DecimalLaws.{decimal-digit, decimal-more}
-use Rattle.listing_text.specs.Listing.{line, too-long, shownName, reportWord, pathText, acceptedText, refusedText, answerText, fileLimit, listing, room, textOf, Listed}
+use Rattle.listing_text.specs.Listing.{line, too-long, reportWord, pathText, acceptedText, refusedText, answerText, fileLimit, listing, room, textOf, Listed}
 use Rattle.listing_text.specs.declared.Text.{Text}
 use Rattle.listing_text.specs.Bounds.{Bytes, SmallRefusal, SmallFields, Each, low-counts, small-answer}
 

@@ -1,6 +1,5 @@
 use native.Mathlib.Omega.{arith}
 use Rattle.listing_text.specs.Steps.{decimal-one, decimal-then}
-use borrow.Author.Needs.{needs}
 use Prim.Native.Nat.{ℕ, _<_}
 use borrow.Fn.Kinds.{In}
 use borrow.Fn.PlainCycle.{Measures, is, falls, and}
@@ -26,7 +25,6 @@ push-decimal-below t =
     (falls 0 push-decimal-kinds.ps _<_ μ-push-decimal t)
     push-decimal.Pre
 
--- src/lib.rt:89:26
 push-decimal-cast-digit : (t : ℕ) → push-decimal-lts.Need-cast-digit (
   push-reads.Asked,
   push-reads.Learnt,
@@ -35,7 +33,6 @@ push-decimal-cast-digit : (t : ℕ) → push-decimal-lts.Need-cast-digit (
 ) (push-decimal-at t) push-decimal.Post
 push-decimal-cast-digit t c = omega arith
 
--- src/lib.rt:89:21
 push-decimal-add-digit : (t : ℕ) → push-decimal-lts.Need-add-digit (
   push-reads.Asked,
   push-reads.Learnt,
@@ -44,7 +41,6 @@ push-decimal-add-digit : (t : ℕ) → push-decimal-lts.Need-add-digit (
 ) (push-decimal-at t) push-decimal.Post
 push-decimal-add-digit t c = omega arith
 
--- src/lib.rt:91:13
 push-decimal-push-requires : (t : ℕ) → push-decimal-lts.Need-push-requires (
   push-reads.Asked,
   push-reads.Learnt,
@@ -53,7 +49,6 @@ push-decimal-push-requires : (t : ℕ) → push-decimal-lts.Need-push-requires (
 ) (push-decimal-at t) push-decimal.Post
 push-decimal-push-requires t c κs = c .before .pre .1
 
--- src/lib.rt:91:13
 push-decimal-returns : (t : ℕ) → push-decimal-lts.Need-returns (
   push-reads.Asked,
   push-reads.Learnt,
@@ -62,7 +57,6 @@ push-decimal-returns : (t : ℕ) → push-decimal-lts.Need-returns (
 ) (push-decimal-at t) push-decimal.Post
 push-decimal-returns t c = decimal-one _ _ _ (c .before .if1 .taken) (c .push .ensures)
 
--- src/lib.rt:93:9
 push-decimal-push-decimal-requires : (t : ℕ) → push-decimal-lts.Need-push-decimal-requires (
   push-reads.Asked,
   push-reads.Learnt,
@@ -71,7 +65,6 @@ push-decimal-push-decimal-requires : (t : ℕ) → push-decimal-lts.Need-push-de
 ) (push-decimal-at t) push-decimal.Post
 push-decimal-push-decimal-requires t c κs = (omega (arith, c .before .pre .0), c .before .pre .1)
 
--- src/lib.rt:93:9
 push-decimal-push-requires-2 : (t : ℕ) → push-decimal-lts.Need-push-requires-2 (
   push-reads.Asked,
   push-reads.Learnt,
@@ -80,7 +73,6 @@ push-decimal-push-requires-2 : (t : ℕ) → push-decimal-lts.Need-push-requires
 ) (push-decimal-at t) push-decimal.Post
 push-decimal-push-requires-2 t c κs = c .push-decimal .ensures .sound
 
--- src/lib.rt:85:5
 push-decimal-returns-2 : (t : ℕ) → push-decimal-lts.Need-returns-2 (
   push-reads.Asked,
   push-reads.Learnt,

@@ -1,6 +1,5 @@
 use native.Mathlib.Omega.{arith}
 use Rattle.listing_text.specs.Steps.{hex-none, hex-then}
-use borrow.Author.Needs.{needs}
 use Prim.Native.Nat.{ℕ, _<_}
 use borrow.Fn.Kinds.{In}
 use borrow.Fn.PlainCycle.{Measures, is, falls, and}
@@ -22,7 +21,6 @@ abbrev push-hex-below : ℕ → In 0 push-hex-kinds.ps
 push-hex-below t =
     and 0 push-hex-kinds.ps (falls 0 push-hex-kinds.ps _<_ μ-push-hex t) push-hex.Pre
 
--- src/lib.rt:101:13
 push-hex-returns : (t : ℕ) → push-hex-lts.Need-returns (
   hex-digit-reads.Asked,
   hex-digit-reads.Learnt,
@@ -33,7 +31,6 @@ push-hex-returns : (t : ℕ) → push-hex-lts.Need-returns (
 ) (push-hex-at t) push-hex.Post
 push-hex-returns t c = hex-none _ _ _ (c .before .pre .1) (c .if1 .taken)
 
--- src/lib.rt:103:31
 push-hex-cast-hex-digit : (t : ℕ) → push-hex-lts.Need-cast-hex-digit (
   hex-digit-reads.Asked,
   hex-digit-reads.Learnt,
@@ -44,7 +41,6 @@ push-hex-cast-hex-digit : (t : ℕ) → push-hex-lts.Need-cast-hex-digit (
 ) (push-hex-at t) push-hex.Post
 push-hex-cast-hex-digit t c = omega arith
 
--- src/lib.rt:103:13
 push-hex-hex-digit-requires : (t : ℕ) → push-hex-lts.Need-hex-digit-requires (
   hex-digit-reads.Asked,
   hex-digit-reads.Learnt,
@@ -55,7 +51,6 @@ push-hex-hex-digit-requires : (t : ℕ) → push-hex-lts.Need-hex-digit-requires
 ) (push-hex-at t) push-hex.Post
 push-hex-hex-digit-requires t c κs = omega arith
 
--- src/lib.rt:104:23
 push-hex-sub-push-hex : (t : ℕ) → push-hex-lts.Need-sub-push-hex (
   hex-digit-reads.Asked,
   hex-digit-reads.Learnt,
@@ -66,7 +61,6 @@ push-hex-sub-push-hex : (t : ℕ) → push-hex-lts.Need-sub-push-hex (
 ) (push-hex-at t) push-hex.Post
 push-hex-sub-push-hex t c = omega arith
 
--- src/lib.rt:104:9
 push-hex-push-hex-requires : (t : ℕ) → push-hex-lts.Need-push-hex-requires (
   hex-digit-reads.Asked,
   hex-digit-reads.Learnt,
@@ -77,7 +71,6 @@ push-hex-push-hex-requires : (t : ℕ) → push-hex-lts.Need-push-hex-requires (
 ) (push-hex-at t) push-hex.Post
 push-hex-push-hex-requires t c κs = (omega (arith, c .before .before .pre .0), c .before .before .pre .1)
 
--- src/lib.rt:104:9
 push-hex-push-requires : (t : ℕ) → push-hex-lts.Need-push-requires (
   hex-digit-reads.Asked,
   hex-digit-reads.Learnt,
@@ -88,7 +81,6 @@ push-hex-push-requires : (t : ℕ) → push-hex-lts.Need-push-requires (
 ) (push-hex-at t) push-hex.Post
 push-hex-push-requires t c κs = c .push-hex .ensures .sound
 
--- src/lib.rt:96:5
 push-hex-returns-2 : (t : ℕ) → push-hex-lts.Need-returns-2 (
   hex-digit-reads.Asked,
   hex-digit-reads.Learnt,
