@@ -17,7 +17,8 @@ use Rattle.names.specs.Names.{firstMisfit, firstUnsound}
 use Rattle.trace.specs.Links.{nexts, linkChecks, predecessors}
 use Rattle.volumes.specs.Volumes.{volumesFrom}
 use Rattle.reader.specs.declared.verdict.Acceptance.{Acceptance}
-use Rattle.reader.specs.Verdict.{Acceptable}
+use Rattle.reader.specs.declared.verdict.Verdict.{Verdict}
+use Rattle.reader.specs.Verdict.{Acceptable, Reads}
 
 -- H
 abbrev pub headEnd : Opening → ℕ
@@ -105,3 +106,10 @@ whole n (wants k) = decided (refuse (refusal 16 0))
 -- what the whole reader answers on a file
 abbrev pub fileAnswer : List ℕ → ℕ → Answer Acceptable
 fileAnswer p m = whole (length p) (prefixAnswer p m)
+
+-- THE PROMISES of the two readers on bytes `p` and a working buffer, whatever it holds: the verdict, and the buffer afterwards
+abbrev pub ReadsPrefix : List ℕ → List ℕ → Verdict → List ℕ → Type 0
+ReadsPrefix p buffer v after = Reads (prefixAnswer p (length buffer)) (length buffer) v after
+
+abbrev pub ReadsFile : List ℕ → List ℕ → Verdict → List ℕ → Type 0
+ReadsFile p buffer v after = Reads (fileAnswer p (length buffer)) (length buffer) v after

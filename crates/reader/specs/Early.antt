@@ -1,5 +1,5 @@
 -- DEMAND 3: what the prefix reader accepts or refuses early stands.
-use mathlib.Core.Path.{_≡_, refl, sym, _∙_, ap}
+use mathlib.Core.Path.{_≡_, refl, sym, _∙_, ap, subst⁻¹}
 use mathlib.Core.List.{List}
 use mathlib.Core.Logic.{_↔_}
 use Prim.Native.Nat.{ℕ, _*_, _≤_, _<_, max}
@@ -9,7 +9,8 @@ use native.Mathlib.Omega.{arith}
 use borrow.Author.Tests.{eq-eqb, ne-eqb}
 use lib.Dec.{eqb, ltb}
 use lib.ListN.{length, take}
-use lib.Seq.{take-take}
+use lib.Seq.{length-take-le, take-length}
+use Rattle.little_endian.specs.Number.{le-take}
 use Rattle.lists.specs.Count.{pick}
 use Rattle.layout.specs.Versions.{layoutOf}
 use Rattle.incremental.specs.Decision.{Decision, accept, refuse}
@@ -26,7 +27,7 @@ use Rattle.reader.specs.declared.verdict.Acceptance.{Acceptance}
 use Rattle.reader.specs.declared.verdict.Verdict.{Verdict}
 use Rattle.reader.specs.declared.verdict.Verdict.the-variants.{Accepted, Refused, Wanted}
 use Rattle.reader.specs.Verdict.{Acceptable, Reads, Values, valuesOf, answerValues, acceptedValues, refusedValues, wantedValues, bufferAfter}
-use Rattle.reader.specs.Checks.{headEnd, recordOf, volumesReach, namesReach, volumesPlan, tracePlan, namesPlan, metricsPlan, restPlan, readPlan, prefixAnswer}
+use Rattle.reader.specs.Checks.{headEnd, recordOf, volumesReach, namesReach, volumesPlan, tracePlan, namesPlan, metricsPlan, restPlan, readPlan, prefixAnswer, ReadsPrefix}
 
 -- ---- no required length exceeds the greater of sixteen and S
 
@@ -129,8 +130,7 @@ module _ (xs : List ℕ) (i j m : ℕ) (h : i ≤ j) (v w : Verdict) (after afte
     r .buffer ∙ sym (s .buffer ∙ ap (λ (x : Answer Acceptable). bufferAfter x m) (kept n)),
   )
 
-  -- DEMAND 3, for every pair of prefixes of any bytes and every pair of working buffers of equal length
-  pub early-stands : EarlyStands (take i xs) (take j xs) v w after after′
+  early-stands : EarlyStands (take i xs) (take j xs) v w after after′
   early-stands =
       let t = stands (readPlan m) (take i xs) (take j xs) (begins-take xs i j h) in
       let first : (k : ℕ) → v ≡ Wanted k → prefixAnswer (take i xs) m ≡ wants k = λ k e. wanted-answer _ k (ap valuesOf (sym e) ∙ r .verdict) in
@@ -150,3 +150,33 @@ module _ (xs : List ℕ) (i j m : ℕ) (h : i ≤ j) (v w : Verdict) (after afte
 
       another : {f : Refusal} {k : ℕ} → Refused f ≡ Wanted k → ⊥
       another e = let z : _≡_ {A = ℕ} 1 2 = ap (λ (x : Verdict). valuesOf x .kind) e in omega arith
+
+-- DEMAND 3. Take any bytes, any two prefixes of them, the second at least as long as the first, and two working buffers of equal
+-- length, whatever they hold.
+pub demand-3 : (xs : List ℕ) (i j : ℕ) (buffer buffer′ : List ℕ) (v w : Verdict) (after after′ : List ℕ)
+    → i ≤ j
+    → length buffer ≡ length buffer′
+    → ReadsPrefix (take i xs) buffer v after
+    → ReadsPrefix (take j xs) buffer′ w after′
+    → EarlyStands (take i xs) (take j xs) v w after after′
+demand-3 xs i j buffer buffer′ v w after after′ h l r s =
+    early-stands xs i j (length buffer) h v w after after′ r (subst⁻¹ (λ (m : ℕ). Reads (prefixAnswer (take j xs) m) m w after′) l s)
+
+-- Beyond the first sixteen, no byte after S is looked at: bytes that agree up to there get one answer
+pub after-size : (p q : List ℕ) (m n : ℕ) → 16 ≤ n → declaredSize p ≤ n → n ≤ length p → n ≤ length q → take n p ≡ take n q → prefixAnswer p m ≡ prefixAnswer q m
+after-size p q m n a b lp lq e = same p lp refl ∙ ap (λ (t : List ℕ). prefixAnswer t m) e ∙ sym (same q lq (sym e))
+  where
+    size : declaredSize (take n p) ≤ n
+    size = rw (le-take 4 n p 12 a) b
+
+    long : length (take n p) ≡ n
+    long = length-take-le n p lp
+
+    settled : (d : Decision Acceptable) × (prefixAnswer (take n p) m ≡ decided d)
+    settled = decided-answer (prefixAnswer (take n p) m) (λ k z. decided-read m (take n p) (rw long a) (rw long size) .never k (wanted-answer _ k (sym z)))
+
+    same : (t : List ℕ) → n ≤ length t → take n t ≡ take n p → prefixAnswer t m ≡ prefixAnswer (take n t) m
+    same t l f =
+        let d : prefixAnswer (take n t) m ≡ decided (settled .0) = ap (λ (x : List ℕ). prefixAnswer x m) f ∙ settled .1 in
+        let s = stands (readPlan m) (take n t) (take (length t) t) (begins-take t n (length t) l) in
+        ap (λ (x : List ℕ). prefixAnswer x m) (sym (take-length t)) ∙ s .kept (settled .0) d ∙ sym d

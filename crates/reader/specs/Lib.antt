@@ -2,3 +2,4 @@ pub mod Verdict
 pub mod Checks
 pub mod Stages
 pub mod Early
+pub mod Allowed

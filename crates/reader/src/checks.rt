@@ -6,7 +6,7 @@ ghost use Rattle.incremental.specs.Plan.{run};
 ghost use Rattle.layout.specs.Versions.{layoutOf};
 ghost use Rattle.head.specs.Facts.{OpenFacts};
 ghost use Rattle.reader.specs.Verdict.{Reads};
-ghost use Rattle.reader.specs.Checks.{headEnd, recordOf, volumesReach, namesReach, volumesPlan, tracePlan, namesPlan, metricsPlan, restPlan, readPlan, prefixAnswer, fileAnswer};
+ghost use Rattle.reader.specs.Checks.{headEnd, recordOf, volumesReach, namesReach, volumesPlan, tracePlan, namesPlan, metricsPlan, restPlan, prefixAnswer, ReadsPrefix, ReadsFile};
 ghost use Rattle.reader.specs.Stages.{verdictOf, RoomFor, misfitAnswer};
 use crate::verdict::Acceptance;
 use crate::verdict::Verdict;
@@ -176,7 +176,7 @@ fn check_all(file: &[u8], predecessors: &mut [u32]) -> Verdict
 
 // The verdict on a prefix of a file.
 pub fn read_prefix(file: &[u8], predecessors: &mut [u32]) -> Verdict
-    ensures { λ r. ⌜ Reads (prefixAnswer (now (file .entry)) (length (now (predecessors .entry)))) (length (now (predecessors .entry))) r (now (predecessors .exit)) ⌝ }
+    ensures { λ r. ⌜ ReadsPrefix (now (file .entry)) (now (predecessors .entry)) r (now (predecessors .exit)) ⌝ }
 {
     match check_all(file, predecessors) {
         Verdict::Accepted(a) => Verdict::Accepted(a),
@@ -204,7 +204,7 @@ fn misfit(number: u32, predecessors: &mut [u32]) -> Verdict
 
 // The verdict on a whole file.
 pub fn read_file(file: &[u8], predecessors: &mut [u32]) -> Verdict
-    ensures { λ r. ⌜ Reads (fileAnswer (now (file .entry)) (length (now (predecessors .entry)))) (length (now (predecessors .entry))) r (now (predecessors .exit)) ⌝ }
+    ensures { λ r. ⌜ ReadsFile (now (file .entry)) (now (predecessors .entry)) r (now (predecessors .exit)) ⌝ }
 {
     match read_prefix(file, predecessors) {
         Verdict::Accepted(a) => {

@@ -1,0 +1,76 @@
+-- DEMAND 2: a file is accepted exactly when document 01's layout allows it, and then every field is the one that layout gives.
+use mathlib.Core.Path.{_≡_, refl, sym, _∙_, ap}
+use mathlib.Core.List.{List}
+use mathlib.Core.Logic.{_⊎_}
+use Prim.Native.Nat.{ℕ, _*_, _≤_, _<_}
+use lib.ListN.{length}
+use Rattle.little_endian.specs.Number.{le}
+use Rattle.layout.specs.Versions.{versionOf, layoutOf, sizeLimit}
+use Rattle.layout.specs.declared.KnownVersion.the-variants.{Known}
+use Rattle.incremental.specs.Decision.{accept}
+use Rattle.head.specs.Fields.{declaredSize, headOf, part}
+use Rattle.head.specs.Facts.{NameEnds, Inside, Apart}
+use Rattle.head.specs.declared.checks.Opening.{Opening}
+use Rattle.names.specs.Names.{nameAt, nameUnits}
+use Rattle.names.specs.NameLaws.{SoundName}
+use Rattle.trace.specs.Links.{end, nexts, after, Cyclic, chains, predecessors}
+use Rattle.volumes.specs.Volumes.{volumeChecks}
+use Rattle.reader.specs.declared.verdict.Acceptance.{Acceptance}
+use Rattle.reader.specs.declared.verdict.Verdict.{Verdict}
+use Rattle.reader.specs.declared.verdict.Verdict.the-variants.{Accepted}
+use Rattle.reader.specs.Checks.{recordOf, ReadsFile}
+
+-- the next indexes of the trace section
+abbrev pub nextsIn : Opening → List ℕ → List ℕ
+nextsIn o p = nexts (part (o .head .trace) p) (o .head .trace .count)
+
+-- what the layout allows of the bytes `p`: the version, the name's length and the sections are those of `o`
+pub record Allowed (p : List ℕ) (o : Opening) : Type 0 where
+  -- 1: the version is 17, 23 or 26
+  pub version : versionOf (le 4 p 0) ≡ Known (o .version)
+  -- 2: the signature is 53 43 43 41
+  pub signature : le 4 p 4 ≡ 0x41434353
+  -- 3: S is neither below H nor above 16,777,215
+  pub least : layoutOf (o .version) .head ≤ declaredSize p
+  pub most : declaredSize p ≤ sizeLimit
+  -- 16, 17: the file is as long as it says
+  pub complete : length p ≡ declaredSize p
+  -- 4: the name ends within its 30 units
+  pub name : NameEnds p (o .units)
+  -- 5: no section of nonzero length starts before H or ends after S
+  pub sections : o .head ≡ headOf (o .version) p
+  pub inside : Inside (o .version) (o .head)
+  -- 6: no two sections of nonzero length share a byte
+  pub apart : Apart (o .head)
+  -- 8: the volume entries fit their section
+  pub entries : o .head .volumes .count * layoutOf (o .version) .volume ≤ o .head .volumes .len
+  -- 9, 10: every name fits the strings section, has no zero unit inside and one directly after it
+  pub names : (i : ℕ) → i < o .head .metrics .count
+      → SoundName (part (o .head .strings) p) (nameAt (o .version) (part (o .head .metrics) p) i) (nameUnits (o .version) (part (o .head .metrics) p) i)
+  -- 11: every next index is 4,294,967,295 or an entry
+  pub links : (i : ℕ) → i < o .head .trace .count → (after (nextsIn o p) i ≡ end) ⊎ (after (nextsIn o p) i < o .head .trace .count)
+  -- 12: no entry is named as next by two entries
+  pub unshared : (i k j : ℕ) → i < o .head .trace .count → k < o .head .trace .count → j < o .head .trace .count
+      → after (nextsIn o p) i ≡ j → after (nextsIn o p) k ≡ j → i ≡ k
+  -- 13: following next from an entry never comes back to it
+  pub acyclic : (i : ℕ) → i < o .head .trace .count → Cyclic (nextsIn o p) i → ⊥
+  -- 14, 15: every volume is sound
+  pub volumes : (i : ℕ) → i < o .head .volumes .count → volumeChecks (part (o .head .volumes) p) (o .version) i ≡ accept tt
+
+-- the acceptance record and the table that the layout gives
+abbrev pub givenRecord : Opening → List ℕ → Acceptance
+givenRecord o p = recordOf o p (chains (nextsIn o p))
+
+abbrev pub givenTable : Opening → List ℕ → ℕ → List ℕ
+givenTable o p m = predecessors (nextsIn o p) m
+
+-- what the whole reader's verdict says of the layout
+pub record AcceptedExactly (p buffer : List ℕ) (v : Verdict) (after : List ℕ) : Type 0 where
+  -- what is accepted is allowed, and every field and place is the one that the layout gives
+  pub sound : (a : Acceptance) → v ≡ Accepted a → (o : Opening) × Allowed p o × (a ≡ givenRecord o p) × (after ≡ givenTable o p (length buffer))
+  -- what is allowed is accepted, with a working place for each trace entry
+  pub complete : (o : Opening) → Allowed p o → o .head .trace .count ≤ length buffer → (v ≡ Accepted (givenRecord o p)) × (after ≡ givenTable o p (length buffer))
+
+-- DEMAND 2
+pub demand-2 : (p buffer : List ℕ) (v : Verdict) (after : List ℕ) → ReadsFile p buffer v after → AcceptedExactly p buffer v after
+demand-2 p buffer v after r = ?
