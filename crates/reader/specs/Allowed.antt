@@ -76,8 +76,9 @@ givenTable o p m = predecessors (nextsIn o p) m
 
 -- what the whole reader's verdict says of the layout
 pub record AcceptedExactly (p buffer : List ℕ) (v : Verdict) (after : List ℕ) : Type 0 where
-  -- what is accepted is allowed, and every field and place is the one that the layout gives
-  pub sound : (a : Acceptance) → v ≡ Accepted a → (o : Opening) × Allowed p o × (a ≡ givenRecord o p) × (after ≡ givenTable o p (length buffer))
+  -- what is accepted is allowed, has a working place for each trace entry, and every field and place is the one that the layout gives
+  pub sound : (a : Acceptance) → v ≡ Accepted a
+      → (o : Opening) × Allowed p o × (o .head .trace .count ≤ length buffer) × (a ≡ givenRecord o p) × (after ≡ givenTable o p (length buffer))
   -- what is allowed is accepted, with a working place for each trace entry
   pub complete : (o : Opening) → Allowed p o → o .head .trace .count ≤ length buffer → (v ≡ Accepted (givenRecord o p)) × (after ≡ givenTable o p (length buffer))
 
@@ -163,7 +164,8 @@ sizes o p n = refl
 pub demand-2 : (p buffer : List ℕ) (v : Verdict) (after : List ℕ) → ReadsFile p buffer v after → AcceptedExactly p buffer v after
 demand-2 p buffer v after r = record { sound = is-allowed; complete = is-accepted }
   where
-    is-allowed : (a : Acceptance) → v ≡ Accepted a → (o : Opening) × Allowed p o × (a ≡ givenRecord o p) × (after ≡ givenTable o p (length buffer))
+    is-allowed : (a : Acceptance) → v ≡ Accepted a
+        → (o : Opening) × Allowed p o × (o .head .trace .count ≤ length buffer) × (a ≡ givenRecord o p) × (after ≡ givenTable o p (length buffer))
     is-allowed a e =
         let m = length buffer in
         let y = accepted-answer (fileAnswer p m) a (ap valuesOf (sym e) ∙ r .verdict) in
@@ -175,6 +177,7 @@ demand-2 p buffer v after r = record { sound = is-allowed; complete = is-accepte
         let size : x .fields .size ≡ declaredSize p = ap (λ (b : Acceptance). b .size) (g .fields) ∙ sizes o p _ in (
           o,
           allowed m p o x (sym (w .1) ∙ size) (t .1) g,
+          g .places,
           y .2 ∙ g .fields,
           r .buffer ∙ ap (λ (z : Answer Acceptable). bufferAfter z m) (y .1) ∙ g .table,
         )
