@@ -183,13 +183,13 @@ module _ (o : Opening) (p : List ℕ) (f : OpenFacts p o) where
           let q = first-at (testOn o p) (entriesOn o p) 0 i e in
           let l : i < entriesOn o p = omega (arith, q .1) in
           let d : first (matchAt o p) (o .head .metrics .count) ≡ At i =
-              first-is-at (matchAt o p) (o .head .metrics .count) i (entries-below i l) (whole-entry i l ∙ q .2) (λ k h. whole-entry k (omega arith) ∙ q .3 k (omega arith) h) in
+          first-is-at (matchAt o p) (o .head .metrics .count) i (entries-below i l) (whole-entry i l ∙ q .2) (λ k h. whole-entry k (omega arith) ∙ q .3 k (omega arith) h) in
           rw d
           (ap (λ (n : List ℕ). pathAnswer.Entry i (reportOf (o .version) (numbersOf n) (storedHash p)))
           (name-bytes o p i (test-sound (o .version) (metricsOf o p) (stringsOf o p) (storedHash p) i (q .2))))
       go Nothing e =
           let d : first (matchAt o p) (o .head .metrics .count) ≡ Nothing =
-              first-is-nothing (matchAt o p) (o .head .metrics .count) (λ k h. none e k h (ltb k (entriesOn o p)) refl) in
+          first-is-nothing (matchAt o p) (o .head .metrics .count) (λ k h. none e k h (ltb k (entriesOn o p)) refl) in
           rw d
 
 -- for the code, which has the sections from calls
