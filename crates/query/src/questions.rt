@@ -1,7 +1,7 @@
 ghost use mathlib.Core.Path.{_≡_};
 ghost use Rattle.head.specs.Facts.{OpenFacts};
 ghost use Rattle.query.specs.Questions.{programPlace, entryPlace, placeOf, bytesAt, volumeAsked, volumeValues, referenceAsked};
-ghost use Rattle.query.specs.Parts.{nameShown, entryOf, sectionShown, volumeIn, referenceIn};
+ghost use Rattle.query.specs.Parts.{nameShown, entryIn, sectionShown, volumeIn, referenceIn};
 use head::OpenAnswer;
 use head::Opening;
 use head::Section;
@@ -81,9 +81,9 @@ pub fn name_shown(metrics: &[u8], strings: &[u8], version: Version, i: u32) -> P
 }
 
 // Metrics entry i, where checks 1 to 6 pass. The index is below a 32-bit count before it is cast.
-fn entry_of(file: &[u8], o: Opening, i: usize) -> PlaceAnswer
+fn entry_in(file: &[u8], o: Opening, i: usize) -> PlaceAnswer
     requires { ⌜ OpenFacts (now file) o ⌝ }
-    ensures { λ r. ⌜ r ≡ entryOf o (now (file .entry)) i ⌝ }
+    ensures { λ r. ⌜ r ≡ entryIn o (now (file .entry)) i ⌝ }
 {
     let version = o.version;
     let h = o.head;
@@ -112,7 +112,7 @@ pub fn entry_place(file: &[u8], i: usize) -> PlaceAnswer
     ensures { λ r. ⌜ r ≡ entryPlace (now (file .entry)) i ⌝ }
 {
     match head::read_open(file) {
-        OpenAnswer::Opened(o) => entry_of(file, o, i),
+        OpenAnswer::Opened(o) => entry_in(file, o, i),
         OpenAnswer::Refused(_) => PlaceAnswer::NotShown,
         OpenAnswer::Wanted(_) => PlaceAnswer::NotShown,
     }
