@@ -128,11 +128,14 @@ name-end v metrics strings i w e q =
 
 -- ---- a part of the file, where it is shown and where it is not
 
-pub place-part : (p : List ℕ) {b : List ℕ} {r a : PlaceAnswer} {w : Place} → r ≡ a → r ≡ placeAnswer.Shown w → b ≡ take (w .len) (drop (w .at) p) → b ≡ bytesAt (placeOf a) p
-place-part p e q h = rw (← e, q) h
+pub place-part : (p : List ℕ) {b : List ℕ} {a : PlaceAnswer} {w : Place} → a ≡ placeAnswer.Shown w → b ≡ take (w .len) (drop (w .at) p) → b ≡ bytesAt (placeOf a) p
+place-part p q h = rw q h
 
-pub place-none : (p : List ℕ) {r a : PlaceAnswer} → r ≡ a → r ≡ placeAnswer.NotShown → [] ≡ bytesAt (placeOf a) p
-place-none p e q = rw (← e, q)
+pub place-none : (p : List ℕ) {a : PlaceAnswer} → a ≡ placeAnswer.NotShown → [] ≡ bytesAt (placeOf a) p
+place-none p q = rw q
+
+pub place-of : (p : List ℕ) {b : List ℕ} {r a : PlaceAnswer} → b ≡ bytesAt (placeOf r) p → r ≡ a → b ≡ bytesAt (placeOf a) p
+place-of p h e = rw (← e) h
 
 pub path-part : (p : List ℕ) {b : List ℕ} {r a : VolumeAnswer} {v : VolumeFacts} → r ≡ a → r ≡ volumeAnswer.Shown v → b ≡ take (v .path .len) (drop (v .path .at) p) → b ≡ bytesAt (volumeValues a .path) p
 path-part p e q h = rw (← e, q) h
@@ -140,7 +143,7 @@ path-part p e q h = rw (← e, q) h
 pub path-none : (p : List ℕ) {r a : VolumeAnswer} → r ≡ a → r ≡ volumeAnswer.NotShown → [] ≡ bytesAt (volumeValues a .path) p
 path-none p e q = rw (← e, q)
 
-pub ruleset shown-parts = (place-part, place-none, path-part, path-none)
+pub ruleset shown-parts = (place-part, place-none, place-of, path-part, path-none)
 
 -- ---- metrics entry i, by the tests in their order
 

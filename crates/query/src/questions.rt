@@ -54,14 +54,21 @@ pub fn program_place(file: &[u8]) -> PlaceAnswer
     }
 }
 
-// The program name as the bytes of the file, and an empty part where there is none to show.
-pub fn program_name(file: &[u8]) -> &[u8]
-    ensures { λ r. ⌜ now r ≡ bytesAt (placeOf (programPlace (now (file .entry)))) (now (file .entry)) ⌝ }
+// The bytes of the file at a place, and an empty part where there is none to show.
+fn part_shown(file: &[u8], answer: PlaceAnswer) -> &[u8]
+    ensures { λ r. ⌜ now r ≡ bytesAt (placeOf answer) (now (file .entry)) ⌝ }
 {
-    match program_place(file) {
+    match answer {
         PlaceAnswer::Shown(w) => lists::part(file, w.at, w.len),
         PlaceAnswer::NotShown => &file[..0],
     }
+}
+
+// The program name as the bytes of the file.
+pub fn program_name(file: &[u8]) -> &[u8]
+    ensures { λ r. ⌜ now r ≡ bytesAt (placeOf (programPlace (now (file .entry)))) (now (file .entry)) ⌝ }
+{
+    part_shown(file, program_place(file))
 }
 
 // The name of an entry that lies whole in the metrics, as a place of the strings section.
@@ -118,14 +125,11 @@ pub fn entry_place(file: &[u8], i: usize) -> PlaceAnswer
     }
 }
 
-// That name as the bytes of the file, and an empty part where there is none to show.
+// That name as the bytes of the file.
 pub fn entry_name(file: &[u8], i: usize) -> &[u8]
     ensures { λ r. ⌜ now r ≡ bytesAt (placeOf (entryPlace (now (file .entry)) i)) (now (file .entry)) ⌝ }
 {
-    match entry_place(file, i) {
-        PlaceAnswer::Shown(w) => lists::part(file, w.at, w.len),
-        PlaceAnswer::NotShown => &file[..0],
-    }
+    part_shown(file, entry_place(file, i))
 }
 
 // Whether volume i can be shown, on the bytes that are there of its section.
