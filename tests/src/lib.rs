@@ -2,6 +2,8 @@
 //! generator of inputs, and the groups that compare the two with the library.
 
 #[cfg(feature = "readers")]
+pub mod beside;
+#[cfg(feature = "readers")]
 pub mod calls;
 pub mod generate;
 pub mod groups;

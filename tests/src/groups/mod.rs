@@ -5,6 +5,8 @@ use crate::tally::Tally;
 
 mod catalogue;
 mod hashes;
+#[cfg(feature = "readers")]
+mod links;
 pub mod listing;
 #[cfg(feature = "readers")]
 mod prefixes;
@@ -41,6 +43,8 @@ pub const GROUPS: &[Group] = &[
     ("readers", readers::run),
     #[cfg(feature = "readers")]
     ("prefixes", prefixes::run),
+    #[cfg(feature = "readers")]
+    ("links", links::run),
     #[cfg(feature = "queries")]
     ("queries", queries::run),
     ("listing", listing::run),
