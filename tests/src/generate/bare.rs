@@ -47,13 +47,22 @@ pub fn with_links(links: &[u32]) -> Vec<u8> {
 
 /// One volume at 148 of a version 17 file, with data behind its entry.
 pub fn one_volume(fields: [u32; 6], data: &[u8]) -> Vec<u8> {
-    let mut file = bare(17, 40 + data.len() as u32);
-    set_32(&mut file, 108, 148);
+    one_volume_of(17, fields, data)
+}
+
+/// One volume right behind the head, with data behind its entry. Path offset
+/// and units; references offset and size; directories offset and count.
+pub fn one_volume_of(version: u32, fields: [u32; 6], data: &[u8]) -> Vec<u8> {
+    let entry = if version == 17 { 40 } else { 104 };
+    let size = entry + data.len() as u32;
+    let mut file = bare(version, size);
+    let start = file.len() - size as usize;
+    set_32(&mut file, 108, start as u32);
     set_32(&mut file, 112, 1);
-    set_32(&mut file, 116, 40 + data.len() as u32);
+    set_32(&mut file, 116, size);
     for (place, number) in [0, 4, 20, 24, 28, 32].into_iter().zip(fields) {
-        set_32(&mut file, 148 + place, number);
+        set_32(&mut file, start + place, number);
     }
-    file[188..].copy_from_slice(data);
+    file[start + entry as usize..].copy_from_slice(data);
     file
 }

@@ -18,6 +18,8 @@ mod query_points;
 mod reader_points;
 #[cfg(feature = "readers")]
 mod readers;
+#[cfg(feature = "readers")]
+mod volumes;
 
 /// What a run is asked for.
 pub struct Run {
@@ -45,6 +47,8 @@ pub const GROUPS: &[Group] = &[
     ("prefixes", prefixes::run),
     #[cfg(feature = "readers")]
     ("links", links::run),
+    #[cfg(feature = "readers")]
+    ("volumes", volumes::run),
     #[cfg(feature = "queries")]
     ("queries", queries::run),
     ("listing", listing::run),

@@ -343,8 +343,7 @@ fn order_of_answers(tally: &mut Tally) {
     whole(tally, "a ring, and no strings", &file[..180], refused(16, 0));
 }
 
-/// Path offset and units; references offset and size; directories offset and
-/// count. The section is 40 bytes and the data.
+/// The section is 40 bytes and the data.
 fn volumes(tally: &mut Tally) {
     const FAR: u32 = u32::MAX;
     let sound: [([u32; 6], &[u8]); 8] = [
