@@ -1,17 +1,18 @@
 -- What checks 1 to 6 accept, in both directions, and what follows for the checks above them.
 use mathlib.Core.Path.{_≡_, refl, sym, ap, _∙_}
-use mathlib.Core.List.{List, [], _∷_}
+use mathlib.Core.List.{List}
 use mathlib.Core.Bool.{Bool, true, false, _&&_, _||_, not}
-use mathlib.Core.Logic.{_↔_, _⊎_, inl, inr, ⊎-elim, ⊎-map}
-use Prim.Native.Nat.{ℕ, zero, suc, _+_, _-_, _*_, _≤_, _<_}
-use native.Mathlib.Nat.{le-trans, suc-add, zero-add, eq-or-lt-of-le}
+use mathlib.Core.Logic.{_↔_, _⊎_, inl, inr, ⊎-map}
+use Prim.Native.Nat.{ℕ, _+_, _-_, _*_, _≤_, _<_}
+use native.Mathlib.Nat.{le-trans}
 use native.Mathlib.Omega.{arith}
 use lib.Dec.{eqb, ltb}
 use lib.ListN.{length, take, drop, length-take, length-drop}
-use lib.Seq.{take-take, take-nil}
+use lib.Seq.{take-take}
 use borrow.Author.Tests.{eq-eqb, le-ltb, ltb-false, eqb-true, eqb-false}
 use Rattle.lists.specs.Count.{pick, true-false}
-use Rattle.lists.specs.First.{pickFound, firstFrom}
+use Rattle.lists.specs.Parts.{drop-take}
+use Rattle.lists.specs.First.{pickFound, at-nothing, first-at}
 use Rattle.lists.specs.declared.Found.{Found}
 use Rattle.lists.specs.declared.Found.the-variants.{At, Nothing}
 use Rattle.little_endian.specs.Number.{le, le-take}
@@ -33,9 +34,6 @@ use Rattle.head.specs.declared.checks.OpenAnswer.the-variants as openAns
 use Rattle.head.specs.Fields.{faultAt, signatureFault, declaredSize, sizeFault, nameEnd, sectionOf, headOf, part, outside, firstOutside, shares, firstShared}
 use Rattle.head.specs.Checks.{stop, byName, namePlan, sizePlan, signaturePlan, byVersion, startPlan, sectionPlan, headPlan, openPlan, startOf, openOf}
 use Rattle.head.specs.Steps.{stop-miss, name-hit, version-hit, head-on}
-
-at-nothing : (i : ℕ) → At i ≡ Nothing → ⊥
-at-nothing i e = let z : _≡_ {A = ℕ} 0 1 = cc in omega arith
 
 -- What each of checks 2, 3, 5 and 6 lets pass, in plain words.
 pub signature-law : (b : List ℕ) → (signatureFault b ≡ Nothing) ↔ (le 4 b 4 ≡ 0x41434353)
@@ -60,21 +58,6 @@ pub record NameEnds (b : List ℕ) (u : ℕ) : Type 0 where
   pub short : u < 30
   pub zero-unit : le 2 b (16 + 2 * u) ≡ 0
   pub before : (k : ℕ) → k < u → le 2 b (16 + 2 * k) ≡ 0 → ⊥
-
-first-at : (test : ℕ → Bool) (n i u : ℕ) → firstFrom test n i ≡ At u → (i ≤ u) × (u < i + n) × (test u ≡ true) × ((k : ℕ) → i ≤ k → k < u → test k ≡ false)
-unfolding firstFrom
-first-at test zero i u e = absurd (at-nothing u (sym e))
-first-at test (suc n) i u e = go (test i) refl e (first-at test n (suc i) u)
-  where
-    go : (t : Bool) → test i ≡ t → pickFound t (At i) (firstFrom test n (suc i)) ≡ At u
-        → (firstFrom test n (suc i) ≡ At u → (suc i ≤ u) × (u < suc i + n) × (test u ≡ true) × ((k : ℕ) → suc i ≤ k → k < u → test k ≡ false))
-        → (i ≤ u) × (u < i + suc n) × (test u ≡ true) × ((k : ℕ) → i ≤ k → k < u → test k ≡ false)
-    go true q e ih =
-        let j : i ≡ u = cc in
-        (omega arith, omega arith, ap test (sym j) ∙ q, λ k l m. absurd (omega arith))
-    go false q e ih =
-        let r = ih e in
-        (omega (arith, r .0), omega (arith, r .1), r .2, λ k l m. ⊎-elim (λ j. ap test (sym j) ∙ q) (λ j. r .3 k j m) (eq-or-lt-of-le l))
 
 pub name-law : (b : List ℕ) (u : ℕ) → nameEnd b ≡ At u → NameEnds b u
 unfolding nameEnd
@@ -209,11 +192,6 @@ shares-law h = (there, back)
         rw (l (h .metrics) (h .trace) .1 (a .metrics-trace), l (h .metrics) (h .strings) .1 (a .metrics-strings), l (h .trace) (h .strings) .1 (a .trace-strings), l (h .metrics) (h .volumes) .1 (a .metrics-volumes), l (h .trace) (h .volumes) .1 (a .trace-volumes), l (h .strings) (h .volumes) .1 (a .strings-volumes))
 
 -- The bytes of a section.
-drop-take : (a n : ℕ) (l : List ℕ) → drop a (take (a + n) l) ≡ take n (drop a l)
-drop-take zero n l = rw zero-add
-drop-take (suc a) n [] = rw (suc-add, take-nil n)
-drop-take (suc a) n (x ∷ l) = rw suc-add (drop-take a n l)
-
 -- a section that ends within the bytes has as many as it says
 pub part-length : (s : Section) (h : ℕ) (b : List ℕ) → s .end ≡ pick (eqb (s .len) 0) h (s .at + s .len) → s .end ≤ length b → length (part s b) ≡ s .len
 part-length s h b e l = go (eqb (s .len) 0) refl e

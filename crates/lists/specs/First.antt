@@ -1,9 +1,10 @@
 -- The first index that passes a test: every check that names "the first such entry" is one of these.
 use mathlib.Core.Path.{_≡_, refl, ap, sym, _∙_}
 use mathlib.Core.Bool.{Bool, true, false}
+use mathlib.Core.Logic.{⊎-elim}
 use Prim.Native.Nat.{ℕ, zero, suc, _+_, _-_, _<_, _≤_}
 use native.Mathlib.Omega.{arith}
-use native.Mathlib.Nat.{sub-zero, zero-add, add-suc, add-zero}
+use native.Mathlib.Nat.{sub-zero, zero-add, add-suc, add-zero, eq-or-lt-of-le}
 use native.Mathlib.Numerals.{add-one}
 use lib.Dec.{ltb}
 use borrow.Author.Tests.{ltb-true, ltb-false}
@@ -13,6 +14,9 @@ use Rattle.lists.specs.declared.Found.the-variants.{At, Nothing}
 abbrev pub pickFound : Bool → Found → Found → Found
 pickFound true a b = a
 pickFound false a b = b
+
+pub at-nothing : (i : ℕ) → At i ≡ Nothing → ⊥
+at-nothing i e = let z : _≡_ {A = ℕ} 0 1 = cc in omega arith
 
 -- the first of the n indexes from i that passes the test
 unfoldable pub firstFrom : (ℕ → Bool) → ℕ → ℕ → Found
@@ -62,6 +66,22 @@ first-clear test (suc n) i e k l = go (test i) refl k l (first-clear test n (suc
 
 pub first-nothing : (test : ℕ → Bool) (n : ℕ) → first test n ≡ Nothing → (k : ℕ) → k < n → test k ≡ false
 first-nothing test n e k l = ap test (sym (zero-add k)) ∙ first-clear test n 0 e k l
+
+-- the index that is found passes the test, and none before it does
+pub first-at : (test : ℕ → Bool) (n i u : ℕ) → firstFrom test n i ≡ At u → (i ≤ u) × (u < i + n) × (test u ≡ true) × ((k : ℕ) → i ≤ k → k < u → test k ≡ false)
+unfolding firstFrom
+first-at test zero i u e = absurd (at-nothing u (sym e))
+first-at test (suc n) i u e = go (test i) refl e (first-at test n (suc i) u)
+  where
+    go : (t : Bool) → test i ≡ t → pickFound t (At i) (firstFrom test n (suc i)) ≡ At u
+        → (firstFrom test n (suc i) ≡ At u → (suc i ≤ u) × (u < suc i + n) × (test u ≡ true) × ((k : ℕ) → suc i ≤ k → k < u → test k ≡ false))
+        → (i ≤ u) × (u < i + suc n) × (test u ≡ true) × ((k : ℕ) → i ≤ k → k < u → test k ≡ false)
+    go true q e ih =
+        let j : i ≡ u = cc in
+        (omega arith, omega arith, ap test (sym j) ∙ q, λ k l m. absurd (omega arith))
+    go false q e ih =
+        let r = ih e in
+        (omega (arith, r .0), omega (arith, r .1), r .2, λ k l m. ⊎-elim (λ j. ap test (sym j) ∙ q) (λ j. r .3 k j m) (eq-or-lt-of-le l))
 
 -- where the indexes below r fail the test, the search goes on at r
 pub first-skip : (test : ℕ → Bool) (n r : ℕ) → r ≤ n → ((k : ℕ) → k < r → test k ≡ false) → first test n ≡ firstFrom test (n - r) r

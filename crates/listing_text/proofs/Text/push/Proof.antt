@@ -1,0 +1,25 @@
+use Rattle.listing_text.specs.Growth.{grown-byte, grown-full}
+use borrow.Author.Needs.{needs}
+use Rattle.listing_text.proofs.Text.push.Statement.{statement}
+use Rattle.listing_text.proofs.Text.push.Tie as tie
+use Rattle.listing_text.proofs.Text.push.Reads as reads
+use Rattle.listing_text.proofs.Text.push.Lts as lts
+
+-- src/lib.rt:62:13
+returns : tie.Need-returns
+returns c = grown-full _ _ (c .before .pre) (c .if1 .taken)
+
+-- src/lib.rt:65:9
+array-write-bytes : tie.Need-array-write-bytes
+array-write-bytes c = search needs
+
+-- src/lib.rt:68:18
+add-t9 : tie.Need-add-t9
+add-t9 c = search needs
+
+-- src/lib.rt:56:5
+returns-2 : tie.Need-returns-2
+returns-2 c = grown-byte _ _ (c .before .before .pre) (c .before .if1 .left)
+
+pub push-spec : {M : Type 1} → statement M
+push-spec = tie.close (tie.spec returns array-write-bytes add-t9 returns-2)

@@ -1,0 +1,34 @@
+use Rattle.listing_text.specs.Lines.{line-of}
+use borrow.Author.Needs.{needs}
+use Rattle.listing_text.proofs.Text.push_name_line.Statement.{statement}
+use Rattle.listing_text.proofs.Text.push_name_line.Tie as tie
+use Rattle.listing_text.proofs.Text.push_name_line.Reads as reads
+use Rattle.listing_text.proofs.Text.push_name_line.Lts as lts
+use Rattle.listing_text.proofs.Text.push.Reads as push-reads
+use Rattle.listing_text.proofs.Text.push_all.Reads as push-all-reads
+use Rattle.listing_text.proofs.Text.push_name.Reads as push-name-reads
+
+-- src/lib.rt:137:23
+slice-aggregate-push-all : tie.Need-slice-aggregate-push-all
+slice-aggregate-push-all c = search needs
+
+-- src/lib.rt:137:9
+push-all-requires : tie.Need-push-all-requires
+push-all-requires c κs = search needs
+
+-- src/lib.rt:137:9
+push-name-requires : tie.Need-push-name-requires
+push-name-requires c κs = search needs
+
+-- src/lib.rt:137:9
+push-requires : tie.Need-push-requires
+push-requires c κs = search needs
+
+-- src/lib.rt:132:5
+returns : tie.Need-returns
+returns c = line-of _ _ _ _ _ _ (c .before .before .push-all .ensures) (c .before .push-name .ensures) (c .push .ensures)
+
+pub push-name-line-spec : {M : Type 1} → statement M
+push-name-line-spec =
+    tie.close
+    (tie.spec slice-aggregate-push-all push-all-requires push-name-requires push-requires returns)

@@ -1,0 +1,68 @@
+use Rattle.listing_text.specs.Lines.{accepted-lines}
+use borrow.Author.Needs.{needs}
+use Rattle.listing_text.proofs.accepted_text.Statement.{statement}
+use Rattle.listing_text.proofs.accepted_text.Tie as tie
+use Rattle.listing_text.proofs.accepted_text.Reads as reads
+use Rattle.listing_text.proofs.accepted_text.Lts as lts
+use Rattle.listing_text.proofs.Text.empty.Reads as empty-reads
+use Rattle.listing_text.proofs.Text.push_count.Reads as push-count-reads
+use Rattle.listing_text.proofs.Text.push_counts.Reads as push-counts-reads
+use Rattle.listing_text.proofs.Text.push_hash_line.Reads as push-hash-line-reads
+use Rattle.listing_text.proofs.Text.push_name_line.Reads as push-name-line-reads
+use Rattle.listing_text.proofs.Text.push_path_line.Reads as push-path-line-reads
+use Rattle.query.proofs.find_path.Reads as find-path-reads
+
+-- src/lib.rt:196:5
+empty-requires : tie.Need-empty-requires
+empty-requires c κs = search needs
+
+-- src/lib.rt:197:21
+slice-aggregate-push-count : tie.Need-slice-aggregate-push-count
+slice-aggregate-push-count c = search needs
+
+-- src/lib.rt:197:34
+cast-push-count : tie.Need-cast-push-count
+cast-push-count c = search needs
+
+-- src/lib.rt:196:5
+push-count-requires : tie.Need-push-count-requires
+push-count-requires c κs = search needs
+
+-- src/lib.rt:196:5
+push-name-line-requires : tie.Need-push-name-line-requires
+push-name-line-requires c κs = search needs
+
+-- src/lib.rt:196:5
+push-hash-line-requires : tie.Need-push-hash-line-requires
+push-hash-line-requires c κs = search needs
+
+-- src/lib.rt:196:5
+push-counts-requires : tie.Need-push-counts-requires
+push-counts-requires c κs = search needs
+
+-- src/lib.rt:201:25
+find-path-requires : tie.Need-find-path-requires
+find-path-requires c κs = search needs
+
+-- src/lib.rt:196:5
+push-path-line-requires : tie.Need-push-path-line-requires
+push-path-line-requires c κs = search needs
+
+-- src/lib.rt:192:1
+returns : tie.Need-returns
+returns c = accepted-lines _ _ _ _ _ _ _ _ _ (c .before .before .before .before .before .before .before .before .empty .ensures .1) (c .before .before .before .before .before .push-count .ensures) (c .before .before .before .before .push-name-line .ensures) (c .before .before .before .push-hash-line .ensures) (c .before .before .push-counts .ensures) (c .before .find-path .ensures) (c .push-path-line .ensures)
+
+pub accepted-text-spec : {M : Type 1} → statement M
+accepted-text-spec =
+    tie.close
+    (tie.spec
+    empty-requires
+    slice-aggregate-push-count
+    cast-push-count
+    push-count-requires
+    push-name-line-requires
+    push-hash-line-requires
+    push-counts-requires
+    find-path-requires
+    push-path-line-requires
+    returns)

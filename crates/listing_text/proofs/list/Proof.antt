@@ -1,0 +1,93 @@
+use native.Mathlib.Omega.{arith}
+use Rattle.listing_text.specs.Bounds.{accepted-units}
+use Rattle.listing_text.specs.Lines.{listed-too-long, listed-accepted, listed-refused, listed-wanted}
+use borrow.Author.Needs.{needs}
+use Rattle.listing_text.proofs.list.Statement.{statement}
+use Rattle.listing_text.proofs.list.Tie as tie
+use Rattle.listing_text.proofs.list.Reads as reads
+use Rattle.listing_text.proofs.list.Lts as lts
+use Rattle.listing_text.proofs.Text.empty.Reads as empty-reads
+use Rattle.listing_text.proofs.accepted_text.Reads as accepted-text-reads
+use Rattle.listing_text.proofs.refused_text.Reads as refused-text-reads
+use Rattle.listing_text.proofs.too_long_text.Reads as too-long-text-reads
+use Rattle.reader.proofs.read_file.Reads as read-file-reads
+
+-- src/lib.rt:227:9
+too-long-text-requires : tie.Need-too-long-text-requires
+too-long-text-requires c κs = search needs
+
+-- src/lib.rt:227:9
+returns : tie.Need-returns
+returns c = listed-too-long _ _ _ (c .before .if1 .taken) (c .too-long-text .ensures)
+
+-- src/lib.rt:229:11
+read-file-requires : tie.Need-read-file-requires
+read-file-requires c κs = search needs
+
+-- src/lib.rt:230:27
+enum-known-a : tie.Need-enum-known-a
+enum-known-a c = search needs
+
+-- src/lib.rt:230:33
+accepted-text-requires : tie.Need-accepted-text-requires
+accepted-text-requires c κs = omega (arith, accepted-units _ _ _ _ _ (λ i. omega (arith, c .before .before .before .before .before .before .before .before .before .shared-slice-known .given i)) (c .before .before .before .before .before .read-file .ensures) (c .before .a .given .1))
+
+-- src/lib.rt:231:26
+enum-known-r : tie.Need-enum-known-r
+enum-known-r c = search needs
+
+-- src/lib.rt:231:32
+refused-text-requires : tie.Need-refused-text-requires
+refused-text-requires c κs = search needs
+
+-- src/lib.rt:232:31
+enum-told : tie.Need-enum-told
+enum-told c = search needs
+
+-- src/lib.rt:232:31
+empty-requires : tie.Need-empty-requires
+empty-requires c κs = search needs
+
+-- src/lib.rt:223:1
+same-length : tie.Need-same-length
+same-length c = search needs
+
+-- src/lib.rt:223:1
+returns-2 : tie.Need-returns-2
+returns-2 c = listed-accepted _ _ (c .before .before .before .before .before .before .before .before .if1 .left) _ _ (c .before .before .before .before .before .before .read-file .ensures) _ _ (c .before .before .a .given .1) (c .accepted-text .ensures)
+
+-- src/lib.rt:223:1
+same-length-2 : tie.Need-same-length-2
+same-length-2 c = search needs
+
+-- src/lib.rt:223:1
+returns-3 : tie.Need-returns-3
+returns-3 c = listed-refused _ _ (c .before .before .before .before .before .before .before .before .if1 .left) _ _ (c .before .before .before .before .before .before .read-file .ensures) _ _ (c .before .before .r .given .1) (c .refused-text .ensures)
+
+-- src/lib.rt:223:1
+same-length-3 : tie.Need-same-length-3
+same-length-3 c = search needs
+
+-- src/lib.rt:223:1
+returns-4 : tie.Need-returns-4
+returns-4 c = listed-wanted _ _ (c .before .before .before .before .before .before .before .if1 .left) _ _ (c .before .before .before .before .before .read-file .ensures) _ _ (c .before .enum-told .given .1) (record { sound = c .empty .ensures .0; text = c .empty .ensures .1 })
+
+pub list-spec : {M : Type 1} → statement M
+list-spec =
+    tie.close
+    (tie.spec
+    too-long-text-requires
+    returns
+    read-file-requires
+    enum-known-a
+    accepted-text-requires
+    enum-known-r
+    refused-text-requires
+    enum-told
+    empty-requires
+    same-length
+    returns-2
+    same-length-2
+    returns-3
+    same-length-3
+    returns-4)

@@ -1,0 +1,26 @@
+use native.Mathlib.Omega.{arith}
+use borrow.Author.Tests.{le-leb, lt-leb}
+use borrow.Author.Needs.{needs}
+use Rattle.listing_text.proofs.shown_unit.Statement.{statement}
+use Rattle.listing_text.proofs.shown_unit.Tie as tie
+use Rattle.listing_text.proofs.shown_unit.Reads as reads
+use Rattle.listing_text.proofs.shown_unit.Lts as lts
+
+-- src/lib.rt:29:9
+returns : tie.Need-returns
+returns c = rw (lt-leb 33 _ (c .if1 .taken))
+
+-- src/lib.rt:32:9
+returns-2 : tie.Need-returns-2
+returns-2 c = rw (le-leb 33 _ (c .before .if1 .left), lt-leb _ 126 (c .if2 .taken))
+
+-- src/lib.rt:34:5
+cast-result : tie.Need-cast-result
+cast-result c = search needs
+
+-- src/lib.rt:25:1
+returns-3 : tie.Need-returns-3
+returns-3 c = rw (le-leb 33 _ (c .before .if1 .left), le-leb _ 126 (c .if2 .left))
+
+pub shown-unit-spec : {M : Type 1} → statement M
+shown-unit-spec = tie.close (tie.spec returns returns-2 cast-result returns-3)

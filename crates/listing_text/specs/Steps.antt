@@ -1,0 +1,46 @@
+-- What is added digit by digit and unit by unit.
+use mathlib.Core.Path.{_≡_, refl, sym, ap, _∙_}
+use mathlib.Core.List.{List, [], _∷_, _++_}
+use Prim.Native.Nat.{ℕ, suc, _+_, _-_, _*_, _/_, _%_, _≤_, _<_}
+use native.Mathlib.Numerals.{add-one}
+use native.Mathlib.Omega.{arith}
+use Rattle.lists.specs.Table.{tabulate}
+use Rattle.little_endian.specs.Number.{le}
+use Rattle.catalogue.specs.Hex.{hexDigits, digitOf}
+use Rattle.listing_text.specs.Decimal.{decimal}
+use Rattle.listing_text.specs.DecimalLaws.{decimal-digit, decimal-more, hex-last, tabulate-last}
+use Rattle.listing_text.specs.Listing.{Sound, shownUnit, shownName}
+use Rattle.listing_text.specs.Growth.{Grown, grown-none, grown-then}
+use Rattle.listing_text.specs.declared.Text.{Text}
+
+-- a decimal number: its one digit, or the digits of its tenth and the last
+pub decimal-one : (t r : Text) (n : ℕ) → n < 10 → Grown t ((48 + n % 10) ∷ []) r → Grown t (decimal n) r
+decimal-one t r n l g =
+    let e : n % 10 ≡ n = omega arith in
+    rw (decimal-digit n l, ← e) g
+
+pub decimal-then : (t u r : Text) (n : ℕ) → 10 ≤ n → Grown t (decimal (n / 10)) u → Grown u ((48 + n % 10) ∷ []) r → Grown t (decimal n) r
+decimal-then t u r n l g h = rw (decimal-more n l) (grown-then t u r _ _ g h)
+
+-- digits 0-9 A-F: none, or one fewer and the last
+pub hex-none : (t : Text) (width x : ℕ) → Sound t → width ≡ 0 → Grown t (hexDigits width x) t
+unfolding hexDigits
+hex-none t width x s e = rw e (grown-none t s)
+
+pub hex-then : (t u r : Text) (width x d : ℕ) → (width ≡ 0 → ⊥) → d ≡ digitOf (x % 16) → Grown t (hexDigits (width - 1) (x / 16)) u → Grown u (d ∷ []) r → Grown t (hexDigits width x) r
+hex-then t u r width x d n e g h =
+    let w : width ≡ suc (width - 1) = omega arith in
+    rw (w, hex-last (width - 1) x, ← e) (grown-then t u r _ _ g h)
+
+-- the units of the name
+pub name-start : (t : Text) (p : List ℕ) → Sound t → Grown t (shownName p 0) t
+unfolding tabulate
+name-start t p s = grown-none t s
+
+pub name-next : (t u r : Text) (p : List ℕ) (k b : ℕ) → b ≡ shownUnit (le 2 p (16 + 2 * k)) → Grown t (shownName p k) u → Grown u (b ∷ []) r → Grown t (shownName p (k + 1)) r
+name-next t u r p k b e g h = rw (add-one, tabulate-last, ← e) (grown-then t u r _ _ g h)
+
+pub name-end : (t r : Text) (p : List ℕ) (k units : ℕ) → k ≤ units → units ≤ k → Grown t (shownName p k) r → Grown t (shownName p units) r
+name-end t r p k units l m g =
+    let e : k ≡ units = omega arith in
+    rw (← e) g

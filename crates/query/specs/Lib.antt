@@ -1,0 +1,5 @@
+pub mod Questions
+pub mod Search
+pub mod Parts
+pub mod QuestionLaws
+pub mod SearchLaws
