@@ -64,7 +64,7 @@ enum hs_reader_out {
 };
 
 /* In a working place: no entry. */
-#define HS_NONE UINT32_C(4294967295)
+#define HS_NONE 4294967295u
 
 uint32_t hs_read_prefix(const uint8_t *file, size_t length, uint32_t *predecessors, size_t places, uint64_t *out,
                         size_t out_length);
