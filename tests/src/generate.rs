@@ -1,7 +1,9 @@
 //! Seeded files: sound ones of every version, and aimed damage to them.
 
+pub mod bare;
 pub mod cuts;
 pub mod damage;
+pub mod shapes;
 mod strings;
 mod volumes;
 
@@ -58,17 +60,27 @@ pub fn sound(random: &mut Random, counts: Counts) -> Sample {
 }
 
 pub fn sound_of(random: &mut Random, layout: &Layout, counts: Counts) -> Sample {
-    let strings = strings::section(random, counts.metrics);
     let links = links(random, counts.trace);
+    Sample { bytes: around_links(random, layout, counts, &links), places: counts.trace }
+}
+
+/// A file with these links, sound in everything else.
+pub fn around_links(
+    random: &mut Random,
+    layout: &Layout,
+    counts: Counts,
+    links: &[u32],
+) -> Vec<u8> {
+    let strings = strings::section(random, counts.metrics);
     let contents = Contents {
         metrics: metrics_section(random, layout, &strings),
-        trace: trace_section(random, &links),
+        trace: trace_section(random, links),
         volumes: volumes::section(random, layout, counts.volumes),
         volume_count: counts.volumes as u32,
         stored_hash: stored_hash(random, layout, &strings),
         strings: strings.bytes,
     };
-    Sample { bytes: lay_out(random, layout, &contents), places: counts.trace }
+    lay_out(random, layout, &contents)
 }
 
 /// The bytes of the four sections, and what the head says besides them.

@@ -8,6 +8,18 @@ use native.Mathlib.Omega.{arith}
 use lib.ListN.{length, take, drop, drop-of-length-le}
 use lib.Seq.{paste, take-all}
 use Rattle.incremental.specs.Plan.{Answer}
+use Rattle.volumes.specs.declared.Reference.{Reference}
+use Rattle.query.specs.Questions.{placeOf, volumeValues, referenceValues}
+use Rattle.query.specs.Search.{reportNumber}
+use Rattle.query.specs.declared.questions.PlaceAnswer.{PlaceAnswer}
+use Rattle.query.specs.declared.questions.PlaceAnswer.the-variants as placeAnswer
+use Rattle.query.specs.declared.questions.VolumeFacts.{VolumeFacts}
+use Rattle.query.specs.declared.questions.VolumeAnswer.{VolumeAnswer}
+use Rattle.query.specs.declared.questions.VolumeAnswer.the-variants as volumeAnswer
+use Rattle.query.specs.declared.questions.ReferenceAnswer.{ReferenceAnswer}
+use Rattle.query.specs.declared.questions.ReferenceAnswer.the-variants as referenceAnswer
+use Rattle.query.specs.declared.search.PathAnswer.{PathAnswer}
+use Rattle.query.specs.declared.search.PathAnswer.the-variants as pathAnswer
 use Rattle.reader.specs.Verdict.{Acceptable, Values, Reads, valuesOf, answerValues, bufferAfter}
 use Rattle.reader.specs.declared.verdict.Verdict.{Verdict}
 use Rattle.catalogue.specs.declared.Fields.{Fields}
@@ -86,3 +98,55 @@ read-out answer m v code buffer out out′ r e q =
 pub verdict-out : (v w : Verdict) (code : ℕ) (out out′ : List ℕ) → v ≡ w → code ≡ valuesOf w .kind → out′ ≡ overlay out (verdictValues (valuesOf w))
     → (code ≡ valuesOf v .kind) × (out′ ≡ overlay out (verdictValues (valuesOf v)))
 verdict-out v w code out out′ e k q = rw e (k, q)
+
+-- ---- questions: 1 for yes, 0 for no, and the values, zeros where the answer is no
+
+pub record Answered (yes : ℕ) (values : List ℕ) (r : ℕ) (out out′ : List ℕ) : Type 0 where
+  pub number : r ≡ yes
+  pub output : out′ ≡ overlay out values
+
+-- offset in the file, length in bytes
+abbrev pub placeYes : PlaceAnswer → ℕ
+placeYes (placeAnswer.Shown w) = 1
+placeYes placeAnswer.NotShown = 0
+
+abbrev pub placeValues : PlaceAnswer → List ℕ
+placeValues a = placeOf a .at ∷ placeOf a .len ∷ []
+
+-- creation time, serial number, references, directories, path offset, path length in bytes
+abbrev pub volumeYes : VolumeAnswer → ℕ
+volumeYes (volumeAnswer.Shown f) = 1
+volumeYes volumeAnswer.NotShown = 0
+
+abbrev pub volumeList : VolumeFacts → List ℕ
+volumeList f = f .created ∷ f .serial ∷ f .references ∷ f .directories ∷ f .path .at ∷ f .path .len ∷ []
+
+-- entry index, sequence number
+abbrev pub referenceYes : ReferenceAnswer → ℕ
+referenceYes (referenceAnswer.Shown r) = 1
+referenceYes referenceAnswer.NotShown = 0
+
+abbrev pub referenceList : Reference → List ℕ
+referenceList r = r .index ∷ r .sequence ∷ []
+
+-- entry index, report: 0 none to make, 1 Vista only, 2 2008 only, 3 both
+abbrev pub pathYes : PathAnswer → ℕ
+pathYes (pathAnswer.Entry i r) = 1
+pathYes pathAnswer.NoPath = 0
+
+abbrev pub pathValues : PathAnswer → List ℕ
+pathValues (pathAnswer.Entry i r) = i ∷ reportNumber r ∷ []
+pathValues pathAnswer.NoPath = 0 ∷ 0 ∷ []
+
+-- the promise by the case that was found
+pub answered-place : (a b c : PlaceAnswer) (r : ℕ) (out out′ : List ℕ) → a ≡ c → a ≡ b → r ≡ placeYes b → out′ ≡ overlay out (placeValues b) → Answered (placeYes c) (placeValues c) r out out′
+answered-place a b c r out out′ e q n o = rw (sym e ∙ q) (record { number = n; output = o })
+
+pub answered-volume : (a b c : VolumeAnswer) (r : ℕ) (out out′ : List ℕ) → a ≡ c → a ≡ b → r ≡ volumeYes b → out′ ≡ overlay out (volumeList (volumeValues b)) → Answered (volumeYes c) (volumeList (volumeValues c)) r out out′
+answered-volume a b c r out out′ e q n o = rw (sym e ∙ q) (record { number = n; output = o })
+
+pub answered-reference : (a b c : ReferenceAnswer) (r : ℕ) (out out′ : List ℕ) → a ≡ c → a ≡ b → r ≡ referenceYes b → out′ ≡ overlay out (referenceList (referenceValues b)) → Answered (referenceYes c) (referenceList (referenceValues c)) r out out′
+answered-reference a b c r out out′ e q n o = rw (sym e ∙ q) (record { number = n; output = o })
+
+pub answered-path : (a b c : PathAnswer) (r : ℕ) (out out′ : List ℕ) → a ≡ c → a ≡ b → r ≡ pathYes b → out′ ≡ overlay out (pathValues b) → Answered (pathYes c) (pathValues c) r out out′
+answered-path a b c r out out′ e q n o = rw (sym e ∙ q) (record { number = n; output = o })

@@ -1,17 +1,28 @@
 // The library for C and Rust. Every function is total; an output takes as many values as fit, and the rest of it stays.
 ghost use mathlib.Core.Path.{_≡_};
+ghost use mathlib.Core.List.{[], _∷_};
 ghost use Rattle.path_hash.specs.Hash.{xp, vista, hash2008, units};
 ghost use Rattle.catalogue.specs.Line.{reading};
 ghost use Prim.Native.Nat.{ℕ};
 ghost use lib.ListN.{length};
 ghost use Rattle.reader.specs.Verdict.{valuesOf, zeros};
 ghost use Rattle.reader.specs.Checks.{prefixAnswer, fileAnswer};
-ghost use Rattle.hivesaddle.specs.Output.{overlay, lineValues, fieldsOf, LineWriting, verdictValues, ReadOut};
+ghost use Rattle.query.specs.Questions.{programPlace, entryPlace, volumeAsked, volumeValues, referenceAsked, referenceValues};
+ghost use Rattle.query.specs.Search.{pathFound, reportNumber};
+ghost use Rattle.hivesaddle.specs.Output.{Answered, placeYes, placeValues, volumeYes, volumeList, referenceYes, referenceList, pathYes, pathValues, overlay, lineValues, fieldsOf, LineWriting, verdictValues, ReadOut};
 use catalogue::Fields;
 use catalogue::ReadLine;
 use catalogue::WrittenLine;
+use query::PathAnswer;
+use query::Place;
+use query::PlaceAnswer;
+use query::ReferenceAnswer;
+use query::Report;
+use query::VolumeAnswer;
+use query::VolumeFacts;
 use reader::Acceptance;
 use reader::Verdict;
+use volumes::Reference;
 
 #[no_mangle]
 pub extern "C" fn hs_hash_xp(numbers: &[u32]) -> u32
@@ -203,4 +214,132 @@ pub extern "C" fn hs_read_file(file: &[u8], predecessors: &mut [u32], out: &mut 
 {
     let v = reader::read_file(file, predecessors);
     put_verdict(v, out)
+}
+
+fn put_two(out: &mut [u64], a: u64, b: u64)
+    ensures { λ _. ⌜ now (out .exit) ≡ overlay (now (out .entry)) (a ∷ b ∷ []) ⌝ }
+{
+    let values = [a, b];
+    put(out, &values);
+}
+
+fn put_place(answer: PlaceAnswer, out: &mut [u64]) -> u32
+    ensures { λ r. ⌜ Answered (placeYes answer) (placeValues answer) r (now (out .entry)) (now (out .exit)) ⌝ }
+{
+    match answer {
+        PlaceAnswer::Shown(w) => {
+            put_two(out, w.at as u64, w.len as u64);
+            1
+        }
+        PlaceAnswer::NotShown => {
+            put_two(out, 0, 0);
+            0
+        }
+    }
+}
+
+// Whether the program name can be shown: its offset in the file and its length in bytes.
+#[no_mangle]
+pub extern "C" fn hs_program_name(file: &[u8], out: &mut [u64]) -> u32
+    ensures { λ r. ⌜ Answered (placeYes (programPlace (now (file .entry)))) (placeValues (programPlace (now (file .entry)))) r (now (out .entry)) (now (out .exit)) ⌝ }
+{
+    put_place(query::program_place(file), out)
+}
+
+// Whether the name of metrics entry i can be shown: its offset in the file and its length in bytes.
+#[no_mangle]
+pub extern "C" fn hs_entry_name(file: &[u8], i: u64, out: &mut [u64]) -> u32
+    ensures { λ r. ⌜ Answered (placeYes (entryPlace (now (file .entry)) i)) (placeValues (entryPlace (now (file .entry)) i)) r (now (out .entry)) (now (out .exit)) ⌝ }
+{
+    put_place(query::entry_place(file, i as usize), out)
+}
+
+fn put_facts(out: &mut [u64], f: VolumeFacts)
+    ensures { λ _. ⌜ now (out .exit) ≡ overlay (now (out .entry)) (volumeList f) ⌝ }
+{
+    let path = f.path;
+    let values = [
+        f.created,
+        f.serial as u64,
+        f.references as u64,
+        f.directories as u64,
+        path.at as u64,
+        path.len as u64,
+    ];
+    put(out, &values);
+}
+
+fn no_facts() -> VolumeFacts
+    ensures { λ r. ⌜ r ≡ volumeValues VolumeAnswer.NotShown ⌝ }
+{
+    let path = Place { at: 0, len: 0 };
+    VolumeFacts {
+        created: 0,
+        serial: 0,
+        references: 0,
+        directories: 0,
+        path: path,
+    }
+}
+
+// Volume i: creation time, serial number, counts of references and directories, and the path's offset and length in bytes.
+#[no_mangle]
+pub extern "C" fn hs_volume(file: &[u8], i: u64, out: &mut [u64]) -> u32
+    ensures { λ r. ⌜ Answered (volumeYes (volumeAsked (now (file .entry)) i)) (volumeList (volumeValues (volumeAsked (now (file .entry)) i))) r (now (out .entry)) (now (out .exit)) ⌝ }
+{
+    match query::volume(file, i as usize) {
+        VolumeAnswer::Shown(f) => {
+            put_facts(out, f);
+            1
+        }
+        VolumeAnswer::NotShown => {
+            put_facts(out, no_facts());
+            0
+        }
+    }
+}
+
+// Reference k of volume i: entry index and sequence number.
+#[no_mangle]
+pub extern "C" fn hs_reference(file: &[u8], i: u64, k: u64, out: &mut [u64]) -> u32
+    ensures { λ r. ⌜ Answered (referenceYes (referenceAsked (now (file .entry)) i k)) (referenceList (referenceValues (referenceAsked (now (file .entry)) i k))) r (now (out .entry)) (now (out .exit)) ⌝ }
+{
+    match query::reference(file, i as usize, k as usize) {
+        ReferenceAnswer::Shown(r) => {
+            put_two(out, r.index, r.sequence as u64);
+            1
+        }
+        ReferenceAnswer::NotShown => {
+            put_two(out, 0, 0);
+            0
+        }
+    }
+}
+
+fn report_number(r: Report) -> u64
+    ensures { λ n. ⌜ n ≡ reportNumber r ⌝ }
+{
+    match r {
+        Report::Silent => 0,
+        Report::Vista => 1,
+        Report::Hash2008 => 2,
+        Report::Both => 3,
+    }
+}
+
+// The first metrics entry whose path hash is the stored one, and for version 23 which hash it was.
+#[no_mangle]
+pub extern "C" fn hs_find_path(file: &[u8], out: &mut [u64]) -> u32
+    ensures { λ r. ⌜ Answered (pathYes (pathFound (now (file .entry)))) (pathValues (pathFound (now (file .entry)))) r (now (out .entry)) (now (out .exit)) ⌝ }
+{
+    match query::find_path(file) {
+        PathAnswer::Entry { index, report } => {
+            put_two(out, index as u64, report_number(report));
+            1
+        }
+        PathAnswer::NoPath => {
+            put_two(out, 0, 0);
+            0
+        }
+    }
 }

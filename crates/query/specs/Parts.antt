@@ -1,5 +1,4 @@
 -- The questions and the search on an opening, and on the bytes of the sections that they look at: what the private functions give.
-use mathlib.Core.Path.{_≡_}
 use mathlib.Core.Bool.{Bool, true, false, _&&_, _||_}
 use mathlib.Core.List.{List}
 use Prim.Native.Nat.{ℕ, _*_, _/_}
@@ -32,8 +31,8 @@ use Rattle.query.specs.declared.search.Match.the-variants as match
 
 -- ---- where checks 1 to 6 pass
 
-abbrev pub entryOf : Opening → List ℕ → ℕ → PlaceAnswer
-entryOf o p i = pickPlace (entryShown o p i) (placeAnswer.Shown (namePlace o p i)) placeAnswer.NotShown
+abbrev pub entryIn : Opening → List ℕ → ℕ → PlaceAnswer
+entryIn o p i = pickPlace (entryShown o p i) (placeAnswer.Shown (namePlace o p i)) placeAnswer.NotShown
 
 abbrev pub volumeIn : Opening → List ℕ → ℕ → VolumeAnswer
 volumeIn o p i = pickVolume (volumeShown o p i) (volumeAnswer.Shown (volumeFacts o p i)) volumeAnswer.NotShown
@@ -96,6 +95,6 @@ abbrev pub reportedIn : Version → List ℕ → List ℕ → ℕ → Found → 
 reportedIn v metrics strings hash (At i) = pathAnswer.Entry i (reportOf v (numbersIn v metrics strings i) hash)
 reportedIn v metrics strings hash Nothing = pathAnswer.NoPath
 
-unfoldable pub pathIn : Version → List ℕ → List ℕ → ℕ → PathAnswer
-pathIn v metrics strings hash =
+unfoldable pub searched : Version → List ℕ → List ℕ → ℕ → PathAnswer
+searched v metrics strings hash =
     reportedIn v metrics strings hash (first (testIn v metrics strings hash) (entriesIn v metrics))

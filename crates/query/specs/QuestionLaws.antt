@@ -4,12 +4,11 @@ use mathlib.Core.Bool.{Bool, true, false, not, _&&_, _||_}
 use mathlib.Core.List.{List, []}
 use mathlib.Core.Logic.{_↔_}
 use Prim.Native.Nat.{ℕ, _+_, _-_, _*_, _≤_, _<_, min}
-use native.Mathlib.Nat.{le-trans, mul-le-mul-left, mul-le-mul-right}
+use native.Mathlib.Nat.{mul-le-mul-right}
 use native.Mathlib.Omega.{arith}
-use lib.Dec.{leb, ltb, eqb}
+use lib.Dec.{leb, eqb}
 use lib.ListN.{length, take, drop, length-take, length-drop}
-use lib.Seq.{take-take, drop-drop}
-use borrow.Author.Tests.{lt-ltb, le-ltb, le-leb, lt-leb, ltb-true, leb-true, eqb-true, eqb-false, ne-eqb, not-true, not-false}
+use borrow.Author.Tests.{lt-ltb, le-ltb, le-leb, lt-leb, ltb-true, leb-true, eqb-true, ne-eqb, not-true, not-false}
 use Rattle.lists.specs.Count.{pick, true-false}
 use Rattle.lists.specs.Parts.{part-part}
 use Rattle.lists.specs.First.{first, first-at}
@@ -20,7 +19,7 @@ use Rattle.layout.specs.Versions.{layoutOf, sizeLimit, layout-sound}
 use Rattle.layout.specs.declared.Version.{Version}
 use Rattle.layout.specs.declared.Layout.{Layout}
 use Rattle.incremental.specs.Decision.{Decision, accept, refuse, checkedOf}
-use Rattle.incremental.specs.Plan.{Plan, Answer, decided, wants, run}
+use Rattle.incremental.specs.Plan.{Plan, run}
 use Rattle.incremental.specs.declared.Refusal.{Refusal}
 use Rattle.incremental.specs.declared.Checked.{Checked}
 use Rattle.incremental.specs.declared.Checked.the-variants as checked
@@ -41,14 +40,13 @@ use Rattle.volumes.specs.VolumeLaws.{entry-path, entry-references}
 use Rattle.volumes.specs.declared.Volume.{Volume}
 use Rattle.volumes.specs.declared.Reference.{Reference}
 use Rattle.query.specs.Questions.{asked, bytesAt, placeOf, pickPlace, entryShown, namePlace, accepts, volumeShown, volumeFacts, volumeValues, referenceShown}
-use Rattle.query.specs.Parts.{entryOf, nameSound, nameIn, nameShown, sectionShown, volumeIn, referenceIn}
+use Rattle.query.specs.Parts.{entryIn, nameSound, nameIn, nameShown, sectionShown, volumeIn, referenceIn}
 use Rattle.query.specs.declared.questions.Place.{Place}
 use Rattle.query.specs.declared.questions.PlaceAnswer.{PlaceAnswer}
 use Rattle.query.specs.declared.questions.PlaceAnswer.the-variants as placeAnswer
 use Rattle.query.specs.declared.questions.VolumeFacts.{VolumeFacts}
 use Rattle.query.specs.declared.questions.VolumeAnswer.{VolumeAnswer}
 use Rattle.query.specs.declared.questions.VolumeAnswer.the-variants as volumeAnswer
-use Rattle.query.specs.declared.questions.ReferenceAnswer.{ReferenceAnswer}
 use Rattle.query.specs.declared.questions.ReferenceAnswer.the-variants as referenceAnswer
 
 -- What is asked of a file, by what a call for its checks gave: `r` is that answer, on which the code has matched.
@@ -75,6 +73,13 @@ pub ruleset asking = (open-met, start-asked, start-not-refused, start-not-wanted
 -- The bytes of a section, as many as there are
 pub part-there : (s : Section) (p : List ℕ) → length (part s p) ≡ min (s .len) (length p - s .at)
 part-there s p = simp (length-take, length-drop)
+
+pub part-low : (s : Section) (h : ℕ) {n : ℕ} (p : List ℕ) → s .end ≡ pick (eqb (s .len) 0) h (s .at + s .len) → s .end ≤ n → length (part s p) ≤ n
+part-low s h {n} p e l = go (eqb (s .len) 0) refl e
+  where
+    go : (z : Bool) → eqb (s .len) 0 ≡ z → s .end ≡ pick z h (s .at + s .len) → length (part s p) ≤ n
+    go true q e = let z : s .len ≡ 0 = eqb-true _ _ q in omega (arith, part-there s p)
+    go false q e = omega (arith, part-there s p)
 
 -- bytes that lie in the part of a section are the same bytes of the file
 pub part-bytes : (s : Section) (p : List ℕ) (at len : ℕ) → at + len ≤ s .len → take len (drop at (part s p)) ≡ take len (drop (s .at + at) p)
@@ -123,11 +128,14 @@ name-end v metrics strings i w e q =
 
 -- ---- a part of the file, where it is shown and where it is not
 
-pub place-part : (p : List ℕ) {b : List ℕ} {r a : PlaceAnswer} {w : Place} → r ≡ a → r ≡ placeAnswer.Shown w → b ≡ take (w .len) (drop (w .at) p) → b ≡ bytesAt (placeOf a) p
-place-part p e q h = rw (← e, q) h
+pub place-part : (p : List ℕ) {b : List ℕ} {a : PlaceAnswer} {w : Place} → a ≡ placeAnswer.Shown w → b ≡ take (w .len) (drop (w .at) p) → b ≡ bytesAt (placeOf a) p
+place-part p q h = rw q h
 
-pub place-none : (p : List ℕ) {r a : PlaceAnswer} → r ≡ a → r ≡ placeAnswer.NotShown → [] ≡ bytesAt (placeOf a) p
-place-none p e q = rw (← e, q)
+pub place-none : (p : List ℕ) {a : PlaceAnswer} → a ≡ placeAnswer.NotShown → [] ≡ bytesAt (placeOf a) p
+place-none p q = rw q
+
+pub place-of : (p : List ℕ) {b : List ℕ} {r a : PlaceAnswer} → b ≡ bytesAt (placeOf r) p → r ≡ a → b ≡ bytesAt (placeOf a) p
+place-of p h e = rw (← e) h
 
 pub path-part : (p : List ℕ) {b : List ℕ} {r a : VolumeAnswer} {v : VolumeFacts} → r ≡ a → r ≡ volumeAnswer.Shown v → b ≡ take (v .path .len) (drop (v .path .at) p) → b ≡ bytesAt (volumeValues a .path) p
 path-part p e q h = rw (← e, q) h
@@ -135,27 +143,27 @@ path-part p e q h = rw (← e, q) h
 pub path-none : (p : List ℕ) {r a : VolumeAnswer} → r ≡ a → r ≡ volumeAnswer.NotShown → [] ≡ bytesAt (volumeValues a .path) p
 path-none p e q = rw (← e, q)
 
-pub ruleset shown-parts = (place-part, place-none, path-part, path-none)
+pub ruleset shown-parts = (place-part, place-none, place-of, path-part, path-none)
 
 -- ---- metrics entry i, by the tests in their order
 
-pub entry-past : (o : Opening) (p : List ℕ) (i : ℕ) → o .head .metrics .count ≤ i → placeAnswer.NotShown ≡ entryOf o p i
+pub entry-past : (o : Opening) (p : List ℕ) (i : ℕ) → o .head .metrics .count ≤ i → placeAnswer.NotShown ≡ entryIn o p i
 unfolding entryShown
 entry-past o p i h = rw (le-ltb _ _ h)
 
-pub entry-cut : (o : Opening) (p : List ℕ) (i : ℕ) {metrics : List ℕ} {l : Layout} → metrics ≡ part (o .head .metrics) p → l ≡ layoutOf (o .version) → i < o .head .metrics .count → length metrics < (i + 1) * l .metric → placeAnswer.NotShown ≡ entryOf o p i
+pub entry-cut : (o : Opening) (p : List ℕ) (i : ℕ) {metrics : List ℕ} {l : Layout} → metrics ≡ part (o .head .metrics) p → l ≡ layoutOf (o .version) → i < o .head .metrics .count → length metrics < (i + 1) * l .metric → placeAnswer.NotShown ≡ entryIn o p i
 unfolding entryShown
 entry-cut o p i {metrics} em el h c =
     let d : length metrics < (i + 1) * layoutOf (o .version) .metric = rw (← el) c in
     rw (← em, lt-ltb _ _ h, lt-leb _ _ d)
 
-pub entry-hidden : (o : Opening) (p : List ℕ) (i : ℕ) {metrics strings : List ℕ} {l : Layout} {r : PlaceAnswer} → metrics ≡ part (o .head .metrics) p → strings ≡ part (o .head .strings) p → l ≡ layoutOf (o .version) → i < o .head .metrics .count → (i + 1) * l .metric ≤ length metrics → r ≡ nameShown (o .version) metrics strings i → r ≡ placeAnswer.NotShown → placeAnswer.NotShown ≡ entryOf o p i
+pub entry-hidden : (o : Opening) (p : List ℕ) (i : ℕ) {metrics strings : List ℕ} {l : Layout} {r : PlaceAnswer} → metrics ≡ part (o .head .metrics) p → strings ≡ part (o .head .strings) p → l ≡ layoutOf (o .version) → i < o .head .metrics .count → (i + 1) * l .metric ≤ length metrics → r ≡ nameShown (o .version) metrics strings i → r ≡ placeAnswer.NotShown → placeAnswer.NotShown ≡ entryIn o p i
 unfolding entryShown nameSound
 entry-hidden o p i {metrics} {strings} em es el h c e q =
     let d : (i + 1) * layoutOf (o .version) .metric ≤ length metrics = rw (← el) c in
     rw (← em, ← es, lt-ltb _ _ h, le-leb _ _ d, name-hidden (o .version) metrics strings i e q)
 
-pub entry-given : (o : Opening) (p : List ℕ) (i : ℕ) {metrics strings : List ℕ} {l : Layout} {r : PlaceAnswer} {w : Place} → metrics ≡ part (o .head .metrics) p → strings ≡ part (o .head .strings) p → l ≡ layoutOf (o .version) → i < o .head .metrics .count → (i + 1) * l .metric ≤ length metrics → r ≡ nameShown (o .version) metrics strings i → r ≡ placeAnswer.Shown w → placeAnswer.Shown (record { at = o .head .strings .at + w .at; len = w .len }) ≡ entryOf o p i
+pub entry-given : (o : Opening) (p : List ℕ) (i : ℕ) {metrics strings : List ℕ} {l : Layout} {r : PlaceAnswer} {w : Place} → metrics ≡ part (o .head .metrics) p → strings ≡ part (o .head .strings) p → l ≡ layoutOf (o .version) → i < o .head .metrics .count → (i + 1) * l .metric ≤ length metrics → r ≡ nameShown (o .version) metrics strings i → r ≡ placeAnswer.Shown w → placeAnswer.Shown (record { at = o .head .strings .at + w .at; len = w .len }) ≡ entryIn o p i
 unfolding entryShown nameSound
 entry-given o p i {metrics} {strings} {w = w} em es el h c e q =
     let d : (i + 1) * layoutOf (o .version) .metric ≤ length metrics = rw (← el) c in

@@ -1,31 +1,34 @@
 -- Laws on the path search: what each way through the code decides, that the search on the sections is the search on the file,
 -- and what a found path is.
 use mathlib.Core.Path.{_≡_, refl, sym, ap, _∙_}
-use mathlib.Core.Bool.{Bool, true, false, _&&_, _||_}
+use mathlib.Core.Bool.{Bool, true, false, _&&_}
 use mathlib.Core.List.{List}
 use Prim.Native.Nat.{ℕ, _+_, _-_, _*_, _/_, _≤_, _<_}
-use native.Mathlib.Nat.{le-div-iff-mul-le, div-lt-iff-lt-mul, add-mul, one-mul}
+use native.Mathlib.Nat.{le-trans, le-div-iff-mul-le, div-lt-iff-lt-mul, add-mul, one-mul}
 use native.Mathlib.Omega.{arith}
-use lib.Dec.{leb, ltb, eqb}
+use lib.Dec.{ltb}
 use lib.ListN.{length, take, drop}
 use borrow.Author.Tests.{lt-ltb, le-leb, lt-leb, ltb-true, ltb-false}
 use Rattle.lists.specs.Count.{true-false}
 use Rattle.lists.specs.First.{first, first-at, first-nothing, first-is-at, first-is-nothing}
 use Rattle.lists.specs.declared.Found.{Found}
 use Rattle.lists.specs.declared.Found.the-variants.{At, Nothing}
-use Rattle.layout.specs.Versions.{layoutOf, layout-sound}
+use Rattle.layout.specs.Versions.{layoutOf, sizeLimit, layout-sound}
 use Rattle.layout.specs.declared.Version.{Version}
 use Rattle.layout.specs.declared.Version.the-variants.{V17, V23, V26}
 use Rattle.layout.specs.declared.Layout.{Layout}
 use Rattle.path_hash.specs.Hash.{xp, vista, hash2008}
+use Rattle.incremental.specs.Decision.{accept}
+use Rattle.incremental.specs.Plan.{decided, run}
 use Rattle.head.specs.Fields.{part}
+use Rattle.head.specs.Checks.{openPlan}
 use Rattle.head.specs.Facts.{OpenFacts, open-shapes}
 use Rattle.head.specs.declared.checks.Opening.{Opening}
-use Rattle.names.specs.Names.{sound, nameAt, nameUnits}
+use Rattle.names.specs.Names.{sound}
 use Rattle.query.specs.Questions.{bytesAt, entryShown, namePlace}
-use Rattle.query.specs.Search.{numbersOf, storedHash, matches, reportOf, entryNumbers, firstMatch, reported}
-use Rattle.query.specs.Parts.{nameSound, nameIn, nameShown, pickMatch, oneHash, twoHashes, matchOf, numbersIn, matchIn, testIn, entriesIn, reportedIn, pathIn}
-use Rattle.query.specs.QuestionLaws.{both, NameShown, name-shown, name-hidden, name-inside, part-there, part-bytes}
+use Rattle.query.specs.Search.{numbersOf, storedHash, matches, reportOf, entryNumbers, firstMatch, reported, pathFound}
+use Rattle.query.specs.Parts.{nameSound, nameIn, nameShown, pickMatch, oneHash, twoHashes, matchOf, numbersIn, matchIn, testIn, entriesIn, reportedIn, searched}
+use Rattle.query.specs.QuestionLaws.{both, name-shown, name-hidden, name-inside, part-there, part-low, part-bytes}
 use Rattle.query.specs.declared.questions.Place.{Place}
 use Rattle.query.specs.declared.questions.PlaceAnswer.{PlaceAnswer}
 use Rattle.query.specs.declared.questions.PlaceAnswer.the-variants as placeAnswer
@@ -90,14 +93,14 @@ entry-differs v metrics strings hash i e q = go (nameSound v metrics strings i) 
     go false b h = refl
 
 -- the loop ends, for code that has the layout at hand
-pub search-hit : (v : Version) (metrics strings : List ℕ) (hash i : ℕ) {l : Layout} {x : Report} → l ≡ layoutOf v → first (testIn v metrics strings hash) (length metrics / l .metric) ≡ At i → x ≡ reportOf v (numbersIn v metrics strings i) hash → pathAnswer.Entry i x ≡ pathIn v metrics strings hash
-unfolding pathIn
+pub search-hit : (v : Version) (metrics strings : List ℕ) (hash i : ℕ) {l : Layout} {x : Report} → l ≡ layoutOf v → first (testIn v metrics strings hash) (length metrics / l .metric) ≡ At i → x ≡ reportOf v (numbersIn v metrics strings i) hash → pathAnswer.Entry i x ≡ searched v metrics strings hash
+unfolding searched
 search-hit v metrics strings hash i e h q =
     let g : first (testIn v metrics strings hash) (length metrics / layoutOf v .metric) ≡ At i = rw (← e) h in
     rw (g, q)
 
-pub search-none : (v : Version) (metrics strings : List ℕ) (hash : ℕ) {l : Layout} → l ≡ layoutOf v → first (testIn v metrics strings hash) (length metrics / l .metric) ≡ Nothing → pathAnswer.NoPath ≡ pathIn v metrics strings hash
-unfolding pathIn
+pub search-none : (v : Version) (metrics strings : List ℕ) (hash : ℕ) {l : Layout} → l ≡ layoutOf v → first (testIn v metrics strings hash) (length metrics / l .metric) ≡ Nothing → pathAnswer.NoPath ≡ searched v metrics strings hash
+unfolding searched
 search-none v metrics strings hash e h =
     let g : first (testIn v metrics strings hash) (length metrics / layoutOf v .metric) ≡ Nothing = rw (← e) h in
     rw g
@@ -122,11 +125,11 @@ pub entry-not-whole : (v : Version) (metrics : List ℕ) (i : ℕ) → entriesIn
 entry-not-whole v metrics i l = div-lt-iff-lt-mul (metric-some v refl) .0 (omega arith)
 
 -- there are no more of them than the count says
-pub entries-most : (v : Version) (metrics : List ℕ) (count : ℕ) {l : Layout} → l ≡ layoutOf v → length metrics ≤ count * layoutOf v .metric → length metrics / l .metric ≤ count
-entries-most v metrics count e h =
+entries-most : (v : Version) (metrics : List ℕ) (count : ℕ) → length metrics ≤ count * layoutOf v .metric → entriesIn v metrics ≤ count
+entries-most v metrics count h =
     let g : length metrics < (count + 1) * layoutOf v .metric = omega (arith, h, metric-some v refl, add-mul count 1 (layoutOf v .metric), one-mul (layoutOf v .metric)) in
     let d = div-lt-iff-lt-mul (metric-some v refl) .1 g in
-    rw e (omega arith)
+    omega arith
 
 -- the test of the definition, and the sections of an opening
 abbrev matchAt : Opening → List ℕ → ℕ → Bool
@@ -149,11 +152,11 @@ unfolding testIn
 test-sound v metrics strings hash i e = both _ _ e .0
 
 module _ (o : Opening) (p : List ℕ) (f : OpenFacts p o) where
-  pub metrics-most : length (metricsOf o p) ≤ o .head .metrics .count * layoutOf (o .version) .metric
+  metrics-most : length (metricsOf o p) ≤ o .head .metrics .count * layoutOf (o .version) .metric
   metrics-most = omega (arith, part-there (o .head .metrics) p, open-shapes p o f .metrics-len)
 
   entries-below : (i : ℕ) → i < entriesOn o p → i < o .head .metrics .count
-  entries-below i l = omega (arith, entries-most (o .version) (metricsOf o p) (o .head .metrics .count) refl metrics-most)
+  entries-below i l = omega (arith, entries-most (o .version) (metricsOf o p) (o .head .metrics .count) metrics-most)
 
   whole-entry : (i : ℕ) → i < entriesOn o p → matchAt o p i ≡ testOn o p i
   unfolding entryShown testIn nameSound
@@ -170,8 +173,8 @@ module _ (o : Opening) (p : List ℕ) (f : OpenFacts p o) where
   unfolding entryShown
   cut-entry i b l = rw (lt-ltb _ _ b, lt-leb _ _ (entry-not-whole (o .version) (metricsOf o p) i l))
 
-  pub path-law : pathIn (o .version) (metricsOf o p) (stringsOf o p) (storedHash p) ≡ reported o p (firstMatch o p)
-  unfolding pathIn firstMatch
+  pub path-law : searched (o .version) (metricsOf o p) (stringsOf o p) (storedHash p) ≡ reported o p (firstMatch o p)
+  unfolding searched firstMatch
   path-law = go (first (testOn o p) (entriesOn o p)) refl
     where
       none : first (testOn o p) (entriesOn o p) ≡ Nothing → (k : ℕ) → k < o .head .metrics .count → (b : Bool) → ltb k (entriesOn o p) ≡ b → matchAt o p k ≡ false
@@ -183,17 +186,62 @@ module _ (o : Opening) (p : List ℕ) (f : OpenFacts p o) where
           let q = first-at (testOn o p) (entriesOn o p) 0 i e in
           let l : i < entriesOn o p = omega (arith, q .1) in
           let d : first (matchAt o p) (o .head .metrics .count) ≡ At i =
-              first-is-at (matchAt o p) (o .head .metrics .count) i (entries-below i l) (whole-entry i l ∙ q .2) (λ k h. whole-entry k (omega arith) ∙ q .3 k (omega arith) h) in
+          first-is-at (matchAt o p) (o .head .metrics .count) i (entries-below i l) (whole-entry i l ∙ q .2) (λ k h. whole-entry k (omega arith) ∙ q .3 k (omega arith) h) in
           rw d
           (ap (λ (n : List ℕ). pathAnswer.Entry i (reportOf (o .version) (numbersOf n) (storedHash p)))
           (name-bytes o p i (test-sound (o .version) (metricsOf o p) (stringsOf o p) (storedHash p) i (q .2))))
       go Nothing e =
           let d : first (matchAt o p) (o .head .metrics .count) ≡ Nothing =
-              first-is-nothing (matchAt o p) (o .head .metrics .count) (λ k h. none e k h (ltb k (entriesOn o p)) refl) in
+          first-is-nothing (matchAt o p) (o .head .metrics .count) (λ k h. none e k h (ltb k (entriesOn o p)) refl) in
           rw d
 
 -- for the code, which has the sections from calls
-pub path-given : (o : Opening) (p : List ℕ) {metrics strings : List ℕ} {hash : ℕ} {r : PathAnswer} → OpenFacts p o → metrics ≡ part (o .head .metrics) p → strings ≡ part (o .head .strings) p → hash ≡ storedHash p → r ≡ pathIn (o .version) metrics strings hash → r ≡ reported o p (firstMatch o p)
+pub metrics-low : (o : Opening) (p : List ℕ) {metrics : List ℕ} → OpenFacts p o → metrics ≡ part (o .head .metrics) p → length metrics ≤ sizeLimit
+metrics-low o p f e = rw e (part-low (o .head .metrics) _ p (open-shapes p o f .metrics-end) (le-trans (f .metrics) (f .start .most)))
+
+pub path-given : (o : Opening) (p : List ℕ) {metrics strings : List ℕ} {hash : ℕ} {r : PathAnswer} → OpenFacts p o → metrics ≡ part (o .head .metrics) p → strings ≡ part (o .head .strings) p → hash ≡ storedHash p → r ≡ searched (o .version) metrics strings hash → r ≡ reported o p (firstMatch o p)
 path-given o p f em es eh e =
-    let g : _ ≡ pathIn (o .version) (metricsOf o p) (stringsOf o p) (storedHash p) = rw (em, es, eh) at e in
+    let g : _ ≡ searched (o .version) (metricsOf o p) (stringsOf o p) (storedHash p) = rw (em, es, eh) at e in
     g ∙ path-law o p f
+
+-- ---- WHAT A FOUND PATH IS
+
+-- the entry can be shown, its hash equals the stored one, and no earlier entry is so
+pub record PathFound (o : Opening) (p : List ℕ) (i : ℕ) (x : Report) : Type 0 where
+  pub below : i < o .head .metrics .count
+  pub shown : entryShown o p i ≡ true
+  pub equal : matches (o .version) (entryNumbers o p i) (storedHash p) ≡ true
+  pub report : x ≡ reportOf (o .version) (entryNumbers o p i) (storedHash p)
+  pub first : (k : ℕ) → k < i → entryShown o p k ≡ true → matches (o .version) (entryNumbers o p k) (storedHash p) ≡ false
+
+unequal : (a b : Bool) → (a && b) ≡ false → a ≡ true → b ≡ false
+unequal true b e q = e
+unequal false b e q = absurd (true-false (sym q))
+
+pub path-found-law : (o : Opening) (p : List ℕ) (i : ℕ) (x : Report) → run openPlan p ≡ decided (accept o) → pathFound p ≡ pathAnswer.Entry i x → PathFound o p i x
+unfolding firstMatch
+path-found-law o p i x a e = go (first (matchAt o p) (o .head .metrics .count)) refl (rw a at e)
+  where
+    go : (f : Found) → first (matchAt o p) (o .head .metrics .count) ≡ f → reported o p f ≡ pathAnswer.Entry i x → PathFound o p i x
+    go (At k) q h =
+        let j : k ≡ i = cc in
+        let r : reportOf (o .version) (entryNumbers o p k) (storedHash p) ≡ x = cc in
+        let s = first-at (matchAt o p) (o .head .metrics .count) 0 k q in
+        let b = both (entryShown o p k) _ (s .2) in
+        rw (← j)
+        (record {
+          below = omega (arith, s .1);
+          shown = b .0;
+          equal = b .1;
+          report = sym r;
+          first = λ m l. unequal _ _ (s .3 m (omega arith) l);
+        })
+    go Nothing q h = let z : _≡_ {A = ℕ} 0 1 = cc in absurd (omega arith)
+
+pub path-not-found-law : (o : Opening) (p : List ℕ) → run openPlan p ≡ decided (accept o) → pathFound p ≡ pathAnswer.NoPath → (k : ℕ) → k < o .head .metrics .count → entryShown o p k ≡ true → matches (o .version) (entryNumbers o p k) (storedHash p) ≡ false
+unfolding firstMatch
+path-not-found-law o p a e k l = go (first (matchAt o p) (o .head .metrics .count)) refl (rw a at e)
+  where
+    go : (f : Found) → first (matchAt o p) (o .head .metrics .count) ≡ f → reported o p f ≡ pathAnswer.NoPath → entryShown o p k ≡ true → matches (o .version) (entryNumbers o p k) (storedHash p) ≡ false
+    go (At i) q h = let z : _≡_ {A = ℕ} 0 1 = cc in absurd (omega arith)
+    go Nothing q h = unequal _ _ (first-nothing (matchAt o p) (o .head .metrics .count) q k l)

@@ -1,7 +1,7 @@
 ghost use mathlib.Core.Path.{_≡_};
 ghost use Rattle.head.specs.Facts.{OpenFacts};
 ghost use Rattle.query.specs.Questions.{programPlace, entryPlace, placeOf, bytesAt, volumeAsked, volumeValues, referenceAsked};
-ghost use Rattle.query.specs.Parts.{nameShown, entryOf, sectionShown, volumeIn, referenceIn};
+ghost use Rattle.query.specs.Parts.{nameShown, entryIn, sectionShown, volumeIn, referenceIn};
 use head::OpenAnswer;
 use head::Opening;
 use head::Section;
@@ -54,14 +54,21 @@ pub fn program_place(file: &[u8]) -> PlaceAnswer
     }
 }
 
-// The program name as the bytes of the file, and an empty part where there is none to show.
-pub fn program_name(file: &[u8]) -> &[u8]
-    ensures { λ r. ⌜ now r ≡ bytesAt (placeOf (programPlace (now (file .entry)))) (now (file .entry)) ⌝ }
+// The bytes of the file at a place, and an empty part where there is none to show.
+fn part_shown(file: &[u8], answer: PlaceAnswer) -> &[u8]
+    ensures { λ r. ⌜ now r ≡ bytesAt (placeOf answer) (now (file .entry)) ⌝ }
 {
-    match program_place(file) {
+    match answer {
         PlaceAnswer::Shown(w) => lists::part(file, w.at, w.len),
         PlaceAnswer::NotShown => &file[..0],
     }
+}
+
+// The program name as the bytes of the file.
+pub fn program_name(file: &[u8]) -> &[u8]
+    ensures { λ r. ⌜ now r ≡ bytesAt (placeOf (programPlace (now (file .entry)))) (now (file .entry)) ⌝ }
+{
+    part_shown(file, program_place(file))
 }
 
 // The name of an entry that lies whole in the metrics, as a place of the strings section.
@@ -81,9 +88,9 @@ pub fn name_shown(metrics: &[u8], strings: &[u8], version: Version, i: u32) -> P
 }
 
 // Metrics entry i, where checks 1 to 6 pass. The index is below a 32-bit count before it is cast.
-fn entry_of(file: &[u8], o: Opening, i: usize) -> PlaceAnswer
+fn entry_in(file: &[u8], o: Opening, i: usize) -> PlaceAnswer
     requires { ⌜ OpenFacts (now file) o ⌝ }
-    ensures { λ r. ⌜ r ≡ entryOf o (now (file .entry)) i ⌝ }
+    ensures { λ r. ⌜ r ≡ entryIn o (now (file .entry)) i ⌝ }
 {
     let version = o.version;
     let h = o.head;
@@ -112,20 +119,17 @@ pub fn entry_place(file: &[u8], i: usize) -> PlaceAnswer
     ensures { λ r. ⌜ r ≡ entryPlace (now (file .entry)) i ⌝ }
 {
     match head::read_open(file) {
-        OpenAnswer::Opened(o) => entry_of(file, o, i),
+        OpenAnswer::Opened(o) => entry_in(file, o, i),
         OpenAnswer::Refused(_) => PlaceAnswer::NotShown,
         OpenAnswer::Wanted(_) => PlaceAnswer::NotShown,
     }
 }
 
-// That name as the bytes of the file, and an empty part where there is none to show.
+// That name as the bytes of the file.
 pub fn entry_name(file: &[u8], i: usize) -> &[u8]
     ensures { λ r. ⌜ now r ≡ bytesAt (placeOf (entryPlace (now (file .entry)) i)) (now (file .entry)) ⌝ }
 {
-    match entry_place(file, i) {
-        PlaceAnswer::Shown(w) => lists::part(file, w.at, w.len),
-        PlaceAnswer::NotShown => &file[..0],
-    }
+    part_shown(file, entry_place(file, i))
 }
 
 // Whether volume i can be shown, on the bytes that are there of its section.

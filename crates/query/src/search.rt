@@ -1,10 +1,10 @@
 ghost use mathlib.Core.Path.{_≡_};
-ghost use Prim.Native.Nat.{_*_, _≤_};
+ghost use Prim.Native.Nat.{_≤_};
 ghost use lib.ListN.{length};
-ghost use Rattle.layout.specs.Versions.{layoutOf};
+ghost use Rattle.layout.specs.Versions.{sizeLimit};
 ghost use Rattle.head.specs.Facts.{OpenFacts};
 ghost use Rattle.query.specs.Search.{numbersOf, pathFound, reported, firstMatch};
-ghost use Rattle.query.specs.Parts.{oneHash, twoHashes, matchOf, matchIn, pathIn};
+ghost use Rattle.query.specs.Parts.{oneHash, twoHashes, matchOf, matchIn, searched};
 use crate::questions::PlaceAnswer;
 use head::OpenAnswer;
 use head::Opening;
@@ -84,10 +84,10 @@ fn entry_matches(metrics: &[u8], strings: &[u8], version: Version, i: u32, store
     }
 }
 
-// The search over the entries that lie whole in the metrics.
-fn search(metrics: &[u8], strings: &[u8], version: Version, count: u32, stored: u32) -> PathAnswer
-    requires { ⌜ length (now metrics) ≤ count * layoutOf version .metric ⌝ }
-    ensures { λ r. ⌜ r ≡ pathIn version (now (metrics .entry)) (now (strings .entry)) stored ⌝ }
+// The search over the entries that lie whole in the metrics: the others can't be shown.
+fn search(metrics: &[u8], strings: &[u8], version: Version, stored: u32) -> PathAnswer
+    requires { ⌜ length (now metrics) ≤ sizeLimit ⌝ }
+    ensures { λ r. ⌜ r ≡ searched version (now (metrics .entry)) (now (strings .entry)) stored ⌝ }
 {
     let layout = Layout::of(version);
     let entries = metrics.len() / layout.metric;
@@ -105,7 +105,7 @@ fn search(metrics: &[u8], strings: &[u8], version: Version, count: u32, stored: 
 }
 
 // The search, where checks 1 to 6 pass.
-fn search_in(file: &[u8], o: Opening) -> PathAnswer
+fn path_in(file: &[u8], o: Opening) -> PathAnswer
     requires { ⌜ OpenFacts (now file) o ⌝ }
     ensures { λ r. ⌜ r ≡ reported o (now (file .entry)) (firstMatch o (now (file .entry))) ⌝ }
 {
@@ -116,7 +116,7 @@ fn search_in(file: &[u8], o: Opening) -> PathAnswer
     let metrics = head::part_of(file, entries);
     let strings = head::part_of(file, text);
     let stored = little_endian::u32_at(file, 76);
-    search(metrics, strings, version, entries.count, stored)
+    search(metrics, strings, version, stored)
 }
 
 // The first metrics entry that can be shown and whose path hash equals the stored one.
@@ -124,7 +124,7 @@ pub fn find_path(file: &[u8]) -> PathAnswer
     ensures { λ r. ⌜ r ≡ pathFound (now (file .entry)) ⌝ }
 {
     match head::read_open(file) {
-        OpenAnswer::Opened(o) => search_in(file, o),
+        OpenAnswer::Opened(o) => path_in(file, o),
         OpenAnswer::Refused(_) => PathAnswer::NoPath,
         OpenAnswer::Wanted(_) => PathAnswer::NoPath,
     }

@@ -31,14 +31,14 @@ use Rattle.reader.specs.Checks.{headEnd, recordOf, volumesReach, namesRe
 
 -- ---- no required length exceeds the greater of sixteen and S
 
-names-reach-low : (p : List ℕ) (o : Opening) → OpenFacts p o → namesReach o ≤ declaredSize p
+pub names-reach-low : (p : List ℕ) (o : Opening) → OpenFacts p o → namesReach o ≤ declaredSize p
 names-reach-low p o f = go (ℕ-discrete (o .head .metrics .count) 0)
   where
     go : Dec (o .head .metrics .count ≡ 0) → namesReach o ≤ declaredSize p
     go (yes z) = rw (eq-eqb _ _ z) (f .start .least)
     go (no z) = rw (ne-eqb _ _ z) (omega (arith, f .metrics, f .strings))
 
-volumes-reach-low : (p : List ℕ) (o : Opening) → OpenFacts p o → volumesReach o ≤ declaredSize p
+pub volumes-reach-low : (p : List ℕ) (o : Opening) → OpenFacts p o → volumesReach o ≤ declaredSize p
 volumes-reach-low p o f = go (ℕ-discrete (o .head .volumes .count) 0)
   where
     go : Dec (o .head .volumes .count ≡ 0) → volumesReach o ≤ declaredSize p
@@ -78,7 +78,7 @@ decided-read m p h d =
 
 -- ---- a verdict is known by its values
 
-same-kind : (v w : Verdict) → valuesOf v ≡ valuesOf w → v ≡ w
+pub same-kind : (v w : Verdict) → valuesOf v ≡ valuesOf w → v ≡ w
 same-kind (Accepted a) (Accepted b) e = ap Accepted (ap (λ (x : Values). x .fields) e)
 same-kind (Accepted a) (Refused r) e = let z : _≡_ {A = ℕ} 0 1 = ap (λ (x : Values). x .kind) e in absurd (omega arith)
 same-kind (Accepted a) (Wanted k) e = let z : _≡_ {A = ℕ} 0 2 = ap (λ (x : Values). x .kind) e in absurd (omega arith)

@@ -2,3 +2,5 @@ pub mod Verdict
 pub mod Checks
 pub mod Stages
 pub mod Early
+pub mod AllowedLaws
+pub mod Allowed

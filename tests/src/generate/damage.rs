@@ -262,7 +262,7 @@ fn link_ring(random: &mut Random, file: &mut [u8]) {
     }
 }
 
-fn volume_start(file: &[u8], i: u64) -> usize {
+pub fn volume_start(file: &[u8], i: u64) -> usize {
     (section(file, VOLUMES).start + i * known_layout(file).volume_entry) as usize
 }
 
@@ -337,14 +337,14 @@ fn directories_outside(random: &mut Random, file: &mut [u8], i: u64) {
     }
 }
 
-struct Directory {
-    start: usize,
+pub struct Directory {
+    pub start: usize,
     /// Where its last unit stands, which should be zero.
-    last_unit: usize,
+    pub last_unit: usize,
 }
 
 /// The directories of a volume, as far as they lie in the section.
-fn directory_ends(file: &[u8], i: u64) -> Vec<Directory> {
+pub fn directory_ends(file: &[u8], i: u64) -> Vec<Directory> {
     let section = section(file, VOLUMES);
     let volume = volumes::volume(file, i);
     let mut list = Vec::new();

@@ -19,7 +19,7 @@ pub fn run(run: &Run, tally: &mut Tally) {
     example(tally);
     lengths(&mut random, tally);
     places(&mut random, tally);
-    for _ in 0..300 * run.scale {
+    for _ in 0..520 * run.scale {
         written(&any(&mut random).bytes, tally);
         written(&cut_or_longer(&mut random).bytes, tally);
         written(&damaged(&mut random).bytes, tally);

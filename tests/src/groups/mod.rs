@@ -5,6 +5,8 @@ use crate::tally::Tally;
 
 mod catalogue;
 mod hashes;
+#[cfg(feature = "readers")]
+mod links;
 pub mod listing;
 #[cfg(feature = "readers")]
 mod prefixes;
@@ -16,6 +18,8 @@ mod query_points;
 mod reader_points;
 #[cfg(feature = "readers")]
 mod readers;
+#[cfg(feature = "readers")]
+mod volumes;
 
 /// What a run is asked for.
 pub struct Run {
@@ -41,6 +45,10 @@ pub const GROUPS: &[Group] = &[
     ("readers", readers::run),
     #[cfg(feature = "readers")]
     ("prefixes", prefixes::run),
+    #[cfg(feature = "readers")]
+    ("links", links::run),
+    #[cfg(feature = "readers")]
+    ("volumes", volumes::run),
     #[cfg(feature = "queries")]
     ("queries", queries::run),
     ("listing", listing::run),

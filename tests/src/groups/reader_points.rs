@@ -1,12 +1,14 @@
 //! Points on either edge, with answers taken from the papers by hand. The
 //! library and the reference both have to give them.
 
-use crate::calls::{numbers_of, Places, RawReader, PART_READER, READER_OUT, WHOLE_READER};
+use crate::beside::{Reader, PART, WHOLE};
+use crate::calls::{numbers_of, Places, PART_READER, READER_OUT, WHOLE_READER};
+use crate::generate::bare::{bare, bare_record, one_volume, with_links, HEADS};
 use crate::generate::{set_16, set_32};
 use crate::random::Random;
 use crate::reference::checks::Refusal;
 use crate::reference::layout::END;
-use crate::reference::readers::{part_reader, whole_reader, Answer, Record, Verdict};
+use crate::reference::readers::{Answer, Record, Verdict};
 use crate::tally::Tally;
 use std::ptr::{null, null_mut};
 
@@ -30,15 +32,6 @@ fn refused(number: u64, index: u64) -> Verdict {
     Verdict::Refused(Refusal { number, index })
 }
 
-/// A reader of the library and that of the reference.
-struct Reader {
-    library: RawReader,
-    reference: fn(&[u8], usize) -> Answer,
-}
-
-const PART: Reader = Reader { library: PART_READER, reference: part_reader };
-const WHOLE: Reader = Reader { library: WHOLE_READER, reference: whole_reader };
-
 /// A verdict on a file without links: every place is filled.
 fn check(tally: &mut Tally, name: &str, reader: Reader, bytes: &[u8], verdict: Verdict) {
     let answer = Answer { verdict, buffer: vec![END; 8] };
@@ -59,36 +52,6 @@ fn part(tally: &mut Tally, name: &str, bytes: &[u8], verdict: Verdict) {
 
 fn whole(tally: &mut Tally, name: &str, bytes: &[u8], verdict: Verdict) {
     check(tally, name, WHOLE, bytes, verdict);
-}
-
-/// H of each version, as the paper has it.
-const HEADS: [(u32, u32); 3] = [(17, 148), (23, 156), (26, 212)];
-
-/// A head without a name or a section, and so many bytes behind it.
-fn bare(version: u32, more: u32) -> Vec<u8> {
-    let head_end = HEADS.iter().find(|head| head.0 == version).expect("one of three").1;
-    let size = head_end + more;
-    let mut file = vec![0; size as usize];
-    set_32(&mut file, 0, version);
-    file[4..8].copy_from_slice(b"SCCA");
-    set_32(&mut file, 12, size);
-    file
-}
-
-/// What is accepted of a bare file.
-fn bare_record(file: &[u8]) -> Record {
-    Record {
-        version: file[0] as u64,
-        declared_size: file.len() as u64,
-        name_units: 0,
-        stored_hash: 0,
-        run_time: 0,
-        run_count: 0,
-        metrics_count: 0,
-        trace_count: 0,
-        volume_count: 0,
-        chain_count: 0,
-    }
 }
 
 fn first_bytes(tally: &mut Tally) {
@@ -321,17 +284,6 @@ fn two_names(tally: &mut Tally) {
     part(tally, "10 at both entries", &file, refused(10, 0));
 }
 
-/// Trace entries at 148 of a version 17 file, and nothing else.
-fn with_links(links: &[u32]) -> Vec<u8> {
-    let mut file = bare(17, 12 * links.len() as u32);
-    set_32(&mut file, 92, 148);
-    set_32(&mut file, 96, links.len() as u32);
-    for (entry, &link) in links.iter().enumerate() {
-        set_32(&mut file, 148 + 12 * entry, link);
-    }
-    file
-}
-
 fn trace_links(tally: &mut Tally) {
     let faults: [(&[u32], u64, u64); 10] = [
         (&[0], 13, 0),
@@ -391,21 +343,7 @@ fn order_of_answers(tally: &mut Tally) {
     whole(tally, "a ring, and no strings", &file[..180], refused(16, 0));
 }
 
-/// One volume at 148 of a version 17 file, with data behind its entry.
-fn one_volume(fields: [u32; 6], data: &[u8]) -> Vec<u8> {
-    let mut file = bare(17, 40 + data.len() as u32);
-    set_32(&mut file, 108, 148);
-    set_32(&mut file, 112, 1);
-    set_32(&mut file, 116, 40 + data.len() as u32);
-    for (place, number) in [0, 4, 20, 24, 28, 32].into_iter().zip(fields) {
-        set_32(&mut file, 148 + place, number);
-    }
-    file[188..].copy_from_slice(data);
-    file
-}
-
-/// Path offset and units; references offset and size; directories offset and
-/// count. The section is 40 bytes and the data.
+/// The section is 40 bytes and the data.
 fn volumes(tally: &mut Tally) {
     const FAR: u32 = u32::MAX;
     let sound: [([u32; 6], &[u8]); 8] = [

@@ -1,7 +1,8 @@
 //! The part reader and the whole reader beside the reference.
 
 use super::Run;
-use crate::calls::{numbers_of, Places, RawReader, PART_READER, READER_OUT, WHOLE_READER};
+use crate::beside::both;
+use crate::calls::{numbers_of, READER_OUT};
 use crate::generate::cuts::cuts;
 use crate::generate::damage::{damage, edits, AIMS};
 use crate::generate::{any, rich, sound, Counts, Sample};
@@ -154,28 +155,9 @@ impl Readers<'_> {
     /// Both readers on the first bytes of the sample. The bytes behind them
     /// are there, for a reader that would look at them.
     fn prefix(&mut self, sample: &Sample, length: usize, places: usize) {
-        let prefix = &sample.bytes[..length];
-        let part = part_reader(prefix, places);
-        let whole = whole_reader(prefix, places);
-        self.seen.answer(&part);
-        self.seen.answer(&whole);
-        self.reader("part reader", PART_READER, &part, prefix);
-        self.reader("whole reader", WHOLE_READER, &whole, prefix);
-    }
-
-    fn reader(&mut self, name: &str, reader: RawReader, answer: &Answer, prefix: &[u8]) {
-        let places = answer.buffer.len();
-        let out_length = match self.random.one_in(16) {
-            true => self.random.below(READER_OUT + 4),
-            false => READER_OUT,
-        };
-        let lent = Places::new(&mut self.random, out_length, places);
-        let expected = lent.expected(answer);
-        let given = lent.call(reader, prefix);
-        let input = || format!("{places} places, {}", hex(prefix));
-        self.tally.same(name, &(expected.code, expected.out), &(given.code, given.out), input);
-        let what = "working buffer";
-        self.tally.same(what, &expected.buffer, &given.buffer, || format!("{name}, {}", input()));
+        let answers = both(&mut self.random, self.tally, &sample.bytes[..length], places);
+        self.seen.answer(&answers.part);
+        self.seen.answer(&answers.whole);
     }
 
     /// Once for each sample: its bytes are as they were, and the safe calls

@@ -63,7 +63,8 @@ fn no_acceptance(verdict: Verdict, places: usize) -> Answer {
     Answer { verdict, buffer: vec![END; places] }
 }
 
-fn record(file: &[u8]) -> Record {
+/// What an accepted file says of itself.
+pub fn record(file: &[u8]) -> Record {
     Record {
         version: number_32(file, 0),
         declared_size: declared_size(file),

@@ -43,7 +43,7 @@ pub fn fault(file: &[u8], i: u64) -> Option<u64> {
         .or_else(|| directories_fault(file, &volume))
 }
 
-fn path_fault(file: &[u8], volume: &Volume) -> Option<u64> {
+pub fn path_fault(file: &[u8], volume: &Volume) -> Option<u64> {
     if volume.path_units == 0 {
         return None;
     }
@@ -51,7 +51,7 @@ fn path_fault(file: &[u8], volume: &Volume) -> Option<u64> {
     path.is_none().then_some(14)
 }
 
-fn references_fault(file: &[u8], volume: &Volume) -> Option<u64> {
+pub fn references_fault(file: &[u8], volume: &Volume) -> Option<u64> {
     let size = volume.references_size;
     if size == 0 {
         return None;
@@ -66,7 +66,7 @@ fn references_fault(file: &[u8], volume: &Volume) -> Option<u64> {
     (8 + 8 * n > size).then_some(14)
 }
 
-fn directories_fault(file: &[u8], volume: &Volume) -> Option<u64> {
+pub fn directories_fault(file: &[u8], volume: &Volume) -> Option<u64> {
     let section = section(file, VOLUMES);
     let mut at = volume.directories_offset;
     for _ in 0..volume.directories {

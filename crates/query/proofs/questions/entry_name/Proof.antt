@@ -2,47 +2,15 @@ use Rattle.query.specs.QuestionLaws.{shown-parts}
 use borrow.Author.Needs.{needs}
 use Rattle.query.proofs.questions.entry_name.Statement.{statement}
 use Rattle.query.proofs.questions.entry_name.Tie as tie
-use Rattle.query.proofs.questions.entry_name.Reads as reads
-use Rattle.query.proofs.questions.entry_name.Lts as lts
-use Rattle.lists.proofs.part.Reads as part-reads
-use Rattle.query.proofs.questions.entry_place.Reads as entry-place-reads
 
--- src/questions.rt:125:11
 entry-place-requires : tie.Need-entry-place-requires
 entry-place-requires c κs = search needs
 
--- src/questions.rt:126:28
-enum-known-w : tie.Need-enum-known-w
-enum-known-w c = search needs
+part-shown-requires : tie.Need-part-shown-requires
+part-shown-requires c κs = search needs
 
--- src/questions.rt:126:34
-part-requires : tie.Need-part-requires
-part-requires c κs = search needs
-
--- src/questions.rt:127:34
-enum-told : tie.Need-enum-told
-enum-told c = search needs
-
--- src/questions.rt:127:34
-slice-aggregate-result : tie.Need-slice-aggregate-result
-slice-aggregate-result c = search needs
-
--- src/questions.rt:122:1
 returns : tie.Need-returns
 returns c = search shown-parts
 
--- src/questions.rt:122:1
-returns-2 : tie.Need-returns-2
-returns-2 c = search shown-parts
-
 pub entry-name-spec : {M : Type 1} → statement M
-entry-name-spec =
-    tie.close
-    (tie.spec
-    entry-place-requires
-    enum-known-w
-    part-requires
-    enum-told
-    slice-aggregate-result
-    returns
-    returns-2)
+entry-name-spec = tie.close (tie.spec entry-place-requires part-shown-requires returns)

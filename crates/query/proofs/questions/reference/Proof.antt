@@ -2,40 +2,28 @@ use Rattle.query.specs.QuestionLaws.{asking}
 use borrow.Author.Needs.{needs}
 use Rattle.query.proofs.questions.reference.Statement.{statement}
 use Rattle.query.proofs.questions.reference.Tie as tie
-use Rattle.query.proofs.questions.reference.Reads as reads
-use Rattle.query.proofs.questions.reference.Lts as lts
-use Rattle.head.proofs.read_open.Reads as read-open-reads
-use Rattle.query.proofs.questions.reference_in.Reads as reference-in-reads
 
--- src/questions.rt:221:11
 read-open-requires : tie.Need-read-open-requires
 read-open-requires c κs = search needs
 
--- src/questions.rt:222:28
 enum-known-o : tie.Need-enum-known-o
 enum-known-o c = search needs
 
--- src/questions.rt:222:34
 reference-in-requires : tie.Need-reference-in-requires
 reference-in-requires c κs = search needs
 
--- src/questions.rt:223:35
 enum-told : tie.Need-enum-told
 enum-told c = search needs
 
--- src/questions.rt:224:34
 enum-told-2 : tie.Need-enum-told-2
 enum-told-2 c = search needs
 
--- src/questions.rt:218:1
 returns : tie.Need-returns
 returns c = search asking
 
--- src/questions.rt:218:1
 returns-2 : tie.Need-returns-2
 returns-2 c = search asking
 
--- src/questions.rt:218:1
 returns-3 : tie.Need-returns-3
 returns-3 c = search asking
 

@@ -3,54 +3,37 @@ use Rattle.query.specs.QuestionLaws.{volumes-asked, section-met}
 use borrow.Author.Needs.{needs}
 use Rattle.query.proofs.questions.reference_in.Statement.{statement}
 use Rattle.query.proofs.questions.reference_in.Tie as tie
-use Rattle.query.proofs.questions.reference_in.Reads as reads
-use Rattle.query.proofs.questions.reference_in.Lts as lts
-use Rattle.head.proofs.part_of.Reads as part-of-reads
-use Rattle.query.proofs.questions.section_shown.Reads as section-shown-reads
-use Rattle.volumes.proofs.reference_at.Reads as reference-at-reads
-use Rattle.volumes.proofs.volume_at.Reads as volume-at-reads
 
--- src/questions.rt:207:9
 part-of-requires : tie.Need-part-of-requires
 part-of-requires c κs = search needs
 
--- src/questions.rt:208:9
 section-shown-requires : tie.Need-section-shown-requires
 section-shown-requires c κs = search needs
 
--- src/questions.rt:209:9
 returns : tie.Need-returns
 returns c = search volumes-asked
 
--- src/questions.rt:211:50
 cast-volume-at : tie.Need-cast-volume-at
 cast-volume-at c = omega (arith, section-met _ _ _ _ (c .before .section-shown .ensures) (c .if1 .left) .below, c .before .before .before .before .before .before .good .1 .0)
 
--- src/questions.rt:211:9
 volume-at-requires : tie.Need-volume-at-requires
 volume-at-requires c κs = search needs
 
--- src/questions.rt:212:8
 cast-if2 : tie.Need-cast-if2
 cast-if2 c = search needs
 
--- src/questions.rt:213:9
 returns-2 : tie.Need-returns-2
 returns-2 c = search volumes-asked
 
--- src/questions.rt:215:68
 cast-reference-at : tie.Need-cast-reference-at
 cast-reference-at c = omega (arith, section-met _ _ _ _ (c .before .before .before .before .section-shown .ensures) (c .before .before .before .if1 .left) .below, c .before .before .before .before .before .before .before .before .before .good .1 .0)
 
--- src/questions.rt:215:78
 cast-reference-at-2 : tie.Need-cast-reference-at-2
 cast-reference-at-2 c = search needs
 
--- src/questions.rt:215:28
 reference-at-requires : tie.Need-reference-at-requires
 reference-at-requires c κs = search needs
 
--- src/questions.rt:201:1
 returns-3 : tie.Need-returns-3
 returns-3 c = search volumes-asked
 

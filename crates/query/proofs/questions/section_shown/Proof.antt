@@ -6,60 +6,43 @@ use Rattle.query.specs.QuestionLaws.{sections}
 use borrow.Author.Needs.{needs}
 use Rattle.query.proofs.questions.section_shown.Statement.{statement}
 use Rattle.query.proofs.questions.section_shown.Tie as tie
-use Rattle.query.proofs.questions.section_shown.Reads as reads
-use Rattle.query.proofs.questions.section_shown.Lts as lts
-use Rattle.layout.proofs.Layout.of.Reads as of-reads
-use Rattle.volumes.proofs.check_volume.Reads as check-volume-reads
 
--- src/questions.rt:135:9
 of-requires : tie.Need-of-requires
 of-requires c κs = search needs
 
--- src/questions.rt:136:16
 cast-if1 : tie.Need-cast-if1
 cast-if1 c = search needs
 
--- src/questions.rt:136:16
 mul-if1 : tie.Need-mul-if1
 mul-if1 c = omega (arith, size-low (c .before .before .before .before .args .version) (c .before .before .before .before .args .s .count) (ap (λ (l : Layout). l .volume) (c .before .before .of .ensures)) (search needs))
 
--- src/questions.rt:137:9
 returns : tie.Need-returns
 returns c = search sections
 
--- src/questions.rt:139:8
 cast-if2 : tie.Need-cast-if2
 cast-if2 c = search needs
 
--- src/questions.rt:140:9
 returns-2 : tie.Need-returns-2
 returns-2 c = search sections
 
--- src/questions.rt:143:9
 returns-3 : tie.Need-returns-3
 returns-3 c = search sections
 
--- src/questions.rt:145:51
 cast-check-volume : tie.Need-cast-check-volume
 cast-check-volume c = search needs
 
--- src/questions.rt:145:11
 check-volume-requires : tie.Need-check-volume-requires
 check-volume-requires c κs = search needs
 
--- src/questions.rt:146:28
 enum-told : tie.Need-enum-told
 enum-told c = search needs
 
--- src/questions.rt:147:32
 enum-told-2 : tie.Need-enum-told-2
 enum-told-2 c = search needs
 
--- src/questions.rt:132:1
 returns-4 : tie.Need-returns-4
 returns-4 c = search sections
 
--- src/questions.rt:132:1
 returns-5 : tie.Need-returns-5
 returns-5 c = search sections
 

@@ -5,33 +5,22 @@ use Rattle.query.specs.QuestionLaws.{volumes-asked, section-met, path-lo
 use borrow.Author.Needs.{needs}
 use Rattle.query.proofs.questions.volume_in.Statement.{statement}
 use Rattle.query.proofs.questions.volume_in.Tie as tie
-use Rattle.query.proofs.questions.volume_in.Reads as reads
-use Rattle.query.proofs.questions.volume_in.Lts as lts
-use Rattle.head.proofs.part_of.Reads as part-of-reads
-use Rattle.query.proofs.questions.section_shown.Reads as section-shown-reads
-use Rattle.volumes.proofs.volume_at.Reads as volume-at-reads
 
--- src/questions.rt:159:9
 part-of-requires : tie.Need-part-of-requires
 part-of-requires c κs = search needs
 
--- src/questions.rt:160:9
 section-shown-requires : tie.Need-section-shown-requires
 section-shown-requires c κs = search needs
 
--- src/questions.rt:161:9
 returns : tie.Need-returns
 returns c = search volumes-asked
 
--- src/questions.rt:163:50
 cast-volume-at : tie.Need-cast-volume-at
 cast-volume-at c = omega (arith, section-met _ _ _ _ (c .before .section-shown .ensures) (c .if1 .left) .below, c .before .before .before .before .before .before .good .1 .0)
 
--- src/questions.rt:163:9
 volume-at-requires : tie.Need-volume-at-requires
 volume-at-requires c κs = search needs
 
--- src/questions.rt:170:17
 add-t12 : tie.Need-add-t12
 add-t12 c =
     let o = c .before .before .before .before .before .before .before .before .before .args .o in
@@ -39,7 +28,6 @@ add-t12 c =
     let h : o .head .volumes .at + v .path + 2 * v .units ≤ sizeLimit = search (path-low, section-met) in
     omega arith
 
--- src/questions.rt:171:18
 mul-t13 : tie.Need-mul-t13
 mul-t13 c =
     let o = c .before .before .before .before .before .before .before .before .before .before .args .o in
@@ -47,7 +35,6 @@ mul-t13 c =
     let h : o .head .volumes .at + v .path + 2 * v .units ≤ sizeLimit = search (path-low, section-met) in
     omega arith
 
--- src/questions.rt:152:1
 returns-2 : tie.Need-returns-2
 returns-2 c = search volumes-asked
 

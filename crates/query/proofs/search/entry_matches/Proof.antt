@@ -1,5 +1,3 @@
-use Prim.Native.Nat.{_+_, _≤_}
-use lib.ListN.{length}
 use native.Mathlib.Omega.{arith}
 use mathlib.Core.Path.{refl}
 use Rattle.query.specs.QuestionLaws.{name-end}
@@ -7,54 +5,40 @@ use Rattle.query.specs.SearchLaws.{match-hidden, match-given}
 use borrow.Author.Needs.{needs}
 use Rattle.query.proofs.search.entry_matches.Statement.{statement}
 use Rattle.query.proofs.search.entry_matches.Tie as tie
-use Rattle.query.proofs.search.entry_matches.Reads as reads
-use Rattle.query.proofs.search.entry_matches.Lts as lts
-use Rattle.query.proofs.questions.name_shown.Reads as name-shown-reads
-use Rattle.query.proofs.search.name_matches.Reads as name-matches-reads
 
--- src/search.rt:77:11
 name-shown-requires : tie.Need-name-shown-requires
 name-shown-requires c κs = search needs
 
--- src/search.rt:78:28
 enum-known-w : tie.Need-enum-known-w
 enum-known-w c = search needs
 
--- src/search.rt:80:23
 add-end : tie.Need-add-end
 add-end c =
     let w = c .before .before .w .given .0 .0 in
     let h = name-end _ _ _ _ w (c .before .before .before .before .name-shown .ensures) (c .before .before .w .given .1) in
     omega arith
 
--- src/search.rt:81:26
 sub-name-matches : tie.Need-sub-name-matches
 sub-name-matches c = search needs
 
--- src/search.rt:81:26
 part-name-matches-start : tie.Need-part-name-matches-start
 part-name-matches-start c = search needs
 
--- src/search.rt:81:26
 part-name-matches-end : tie.Need-part-name-matches-end
 part-name-matches-end c =
     let w = c .before .before .w .given .0 .0 in
     let h = name-end _ _ _ _ w (c .before .before .before .before .name-shown .ensures) (c .before .before .w .given .1) in
     omega arith
 
--- src/search.rt:81:13
 name-matches-requires : tie.Need-name-matches-requires
 name-matches-requires c κs = search needs
 
--- src/search.rt:83:34
 enum-told : tie.Need-enum-told
 enum-told c = search needs
 
--- src/search.rt:74:1
 returns : tie.Need-returns
 returns c = match-given _ _ _ _ _ _ (c .before .before .before .before .before .before .name-shown .ensures) (c .before .before .before .before .w .given .1) refl (c .name-matches .ensures)
 
--- src/search.rt:74:1
 returns-2 : tie.Need-returns-2
 returns-2 c = search match-hidden
 

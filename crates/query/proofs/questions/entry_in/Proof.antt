@@ -4,59 +4,42 @@ use native.Mathlib.Omega.{arith}
 use Rattle.names.specs.NameLaws.{entry-low, layout-of-sound}
 use Rattle.query.specs.QuestionLaws.{entries, name-low}
 use borrow.Author.Needs.{needs}
-use Rattle.query.proofs.questions.entry_of.Statement.{statement}
-use Rattle.query.proofs.questions.entry_of.Tie as tie
-use Rattle.query.proofs.questions.entry_of.Reads as reads
-use Rattle.query.proofs.questions.entry_of.Lts as lts
-use Rattle.head.proofs.part_of.Reads as part-of-reads
-use Rattle.layout.proofs.Layout.of.Reads as of-reads
-use Rattle.query.proofs.questions.name_shown.Reads as name-shown-reads
+use Rattle.query.proofs.questions.entry_in.Statement.{statement}
+use Rattle.query.proofs.questions.entry_in.Tie as tie
 
--- src/questions.rt:91:8
 cast-if1 : tie.Need-cast-if1
 cast-if1 c = search needs
 
--- src/questions.rt:92:9
 returns : tie.Need-returns
 returns c = search entries
 
--- src/questions.rt:94:9
 part-of-requires : tie.Need-part-of-requires
 part-of-requires c κs = search needs
 
--- src/questions.rt:95:9
 of-requires : tie.Need-of-requires
 of-requires c κs = search needs
 
--- src/questions.rt:96:25
 add-if2 : tie.Need-add-if2
 add-if2 c = search needs
 
--- src/questions.rt:96:24
 mul-if2 : tie.Need-mul-if2
 mul-if2 c = omega (arith, entry-low (c .before .of .result) (c .before .before .before .before .before .before .before .before .args .i + 1) (layout-of-sound (c .before .before .before .before .before .before .before .before .args .o .version) (c .before .of .ensures)) (omega arith))
 
--- src/questions.rt:97:9
 returns-2 : tie.Need-returns-2
 returns-2 c = search entries
 
--- src/questions.rt:100:9
 part-of-requires-2 : tie.Need-part-of-requires-2
 part-of-requires-2 c κs = search needs
 
--- src/questions.rt:101:49
 cast-name-shown : tie.Need-cast-name-shown
 cast-name-shown c = search needs
 
--- src/questions.rt:101:11
 name-shown-requires : tie.Need-name-shown-requires
 name-shown-requires c κs = search needs
 
--- src/questions.rt:102:28
 enum-known-w : tie.Need-enum-known-w
 enum-known-w c = search needs
 
--- src/questions.rt:103:17
 add-t19 : tie.Need-add-t19
 add-t19 c =
     let o = c .before .before .before .before .before .before .before .before .before .before .before .before .before .before .before .before .before .args .o in
@@ -64,20 +47,17 @@ add-t19 c =
     let h : o .head .strings .at + w .at ≤ sizeLimit = search name-low in
     omega arith
 
--- src/questions.rt:106:34
 enum-told : tie.Need-enum-told
 enum-told c = search needs
 
--- src/questions.rt:84:1
 returns-3 : tie.Need-returns-3
 returns-3 c = search entries
 
--- src/questions.rt:84:1
 returns-4 : tie.Need-returns-4
 returns-4 c = search entries
 
-pub entry-of-spec : {M : Type 1} → statement M
-entry-of-spec =
+pub entry-in-spec : {M : Type 1} → statement M
+entry-in-spec =
     tie.close
     (tie.spec
     cast-if1

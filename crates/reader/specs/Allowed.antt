@@ -1,0 +1,191 @@
+-- DEMAND 2: a file is accepted exactly when document 01's layout allows it, and then every field is the one that layout gives.
+use mathlib.Core.Path.{_≡_, refl, sym, _∙_, ap}
+use mathlib.Core.List.{List}
+use mathlib.Core.Logic.{_⊎_, inl, inr}
+use Prim.Native.Nat.{ℕ, _+_, _*_, _≤_, _<_}
+use native.Mathlib.Omega.{arith}
+use borrow.Author.Tests.{eq-eqb}
+use lib.Dec.{eqb}
+use lib.ListN.{length}
+use Rattle.lists.specs.Count.{pick}
+use Rattle.little_endian.specs.Number.{le}
+use Rattle.layout.specs.Versions.{versionOf, layoutOf, sizeLimit, layout-sound}
+use Rattle.layout.specs.declared.KnownVersion.the-variants.{Known}
+use Rattle.incremental.specs.Decision.{accept}
+use Rattle.incremental.specs.Plan.{Answer}
+use Rattle.head.specs.Fields.{declaredSize, headOf, part}
+use Rattle.head.specs.Facts.{NameEnds, Inside, Apart, Within, OpenFacts, Shapes, head-shapes, signature-law, outside-law, shares-law}
+use Rattle.head.specs.declared.fields.Section.{Section}
+use Rattle.head.specs.declared.fields.Head.{Head}
+use Rattle.head.specs.declared.checks.Opening.{Opening}
+use Rattle.names.specs.Names.{nameAt, nameUnits}
+use Rattle.names.specs.NameLaws.{SoundName}
+use Rattle.trace.specs.Links.{end, nexts, after, Cyclic, chains, predecessors}
+use Rattle.volumes.specs.Volumes.{volumeChecks}
+use Rattle.reader.specs.declared.verdict.Acceptance.{Acceptance}
+use Rattle.reader.specs.declared.verdict.Verdict.{Verdict}
+use Rattle.reader.specs.declared.verdict.Verdict.the-variants.{Accepted}
+use Rattle.reader.specs.Verdict.{Acceptable, valuesOf, answerValues, bufferAfter}
+use Rattle.reader.specs.Checks.{recordOf, prefixAnswer, fileAnswer, ReadsFile}
+use Rattle.reader.specs.Early.{same-kind}
+use Rattle.reader.specs.AllowedLaws.{head-take, name-ends, RestFacts, read-facts, read-complete, whole-accepted, whole-accepts, accepted-answer}
+
+-- the next indexes of the trace section
+abbrev pub nextsIn : Opening → List ℕ → List ℕ
+nextsIn o p = nexts (part (o .head .trace) p) (o .head .trace .count)
+
+-- what the layout allows of the bytes `p`: the version, the name's length and the sections are those of `o`
+pub record Allowed (p : List ℕ) (o : Opening) : Type 0 where
+  -- 1: the version is 17, 23 or 26
+  pub version : versionOf (le 4 p 0) ≡ Known (o .version)
+  -- 2: the signature is 53 43 43 41
+  pub signature : le 4 p 4 ≡ 0x41434353
+  -- 3: S is neither below H nor above 16,777,215
+  pub least : layoutOf (o .version) .head ≤ declaredSize p
+  pub most : declaredSize p ≤ sizeLimit
+  -- 16, 17: the file is as long as it says
+  pub complete : length p ≡ declaredSize p
+  -- 4: the name ends within its 30 units
+  pub name : NameEnds p (o .units)
+  -- 5: no section of nonzero length starts before H or ends after S
+  pub sections : o .head ≡ headOf (o .version) p
+  pub inside : Inside (o .version) (o .head)
+  -- 6: no two sections of nonzero length share a byte
+  pub apart : Apart (o .head)
+  -- 8: the volume entries fit their section
+  pub entries : o .head .volumes .count * layoutOf (o .version) .volume ≤ o .head .volumes .len
+  -- 9, 10: every name fits the strings section, has no zero unit inside and one directly after it
+  pub names : (i : ℕ) → i < o .head .metrics .count
+      → SoundName (part (o .head .strings) p) (nameAt (o .version) (part (o .head .metrics) p) i) (nameUnits (o .version) (part (o .head .metrics) p) i)
+  -- 11: every next index is 4,294,967,295 or an entry
+  pub links : (i : ℕ) → i < o .head .trace .count → (after (nextsIn o p) i ≡ end) ⊎ (after (nextsIn o p) i < o .head .trace .count)
+  -- 12: no entry is named as next by two entries
+  pub unshared : (i k j : ℕ) → i < o .head .trace .count → k < o .head .trace .count → j < o .head .trace .count
+      → after (nextsIn o p) i ≡ j → after (nextsIn o p) k ≡ j → i ≡ k
+  -- 13: following next from an entry never comes back to it
+  pub acyclic : (i : ℕ) → i < o .head .trace .count → Cyclic (nextsIn o p) i → ⊥
+  -- 14, 15: every volume is sound
+  pub volumes : (i : ℕ) → i < o .head .volumes .count → volumeChecks (part (o .head .volumes) p) (o .version) i ≡ accept tt
+
+-- the acceptance record and the table that the layout gives
+abbrev pub givenRecord : Opening → List ℕ → Acceptance
+givenRecord o p = recordOf o p (chains (nextsIn o p))
+
+abbrev pub givenTable : Opening → List ℕ → ℕ → List ℕ
+givenTable o p m = predecessors (nextsIn o p) m
+
+-- what the whole reader's verdict says of the layout
+pub record AcceptedExactly (p buffer : List ℕ) (v : Verdict) (after : List ℕ) : Type 0 where
+  -- what is accepted is allowed, has a working place for each trace entry, and every field and place is the one that the layout gives
+  pub sound : (a : Acceptance) → v ≡ Accepted a
+      → (o : Opening) × Allowed p o × (o .head .trace .count ≤ length buffer) × (a ≡ givenRecord o p) × (after ≡ givenTable o p (length buffer))
+  -- what is allowed is accepted, with a working place for each trace entry
+  pub complete : (o : Opening) → Allowed p o → o .head .trace .count ≤ length buffer → (v ≡ Accepted (givenRecord o p)) × (after ≡ givenTable o p (length buffer))
+
+-- ---- the proof
+
+-- a section that is within S ends by S, for an empty one ends at H
+within-end : (h size : ℕ) (s : Section) → h ≤ size → s .end ≡ pick (eqb (s .len) 0) h (s .at + s .len) → Within h size s → s .end ≤ size
+within-end h size s l e (inl z) =
+    let q : s .end ≡ h = e ∙ rw (eq-eqb _ _ z) in
+    omega arith
+within-end h size s l e (inr w) = w .1
+
+-- checks 1 to 6 accept what is allowed
+opens : (p : List ℕ) (o : Opening) → Allowed p o → OpenFacts p o
+unfolding headOf
+opens p o a =
+    let h = layoutOf (o .version) .head in
+    let b = layout-sound (o .version) .fixed in
+    let g : Shapes (layoutOf (o .version)) (o .head) = rw (a .sections) (head-shapes (o .version) p) in
+    let size : o .head .size ≡ declaredSize p = ap (λ (x : Head). x .size) (a .sections) in
+    let l : h ≤ o .head .size = rw size (a .least) in
+    record {
+      start =
+          record {
+            least = a .least;
+            most = a .most;
+            known = a .version;
+            ended = name-ends p (o .units) .1 (a .name);
+            named = omega (arith, b, a .least, a .complete);
+            signed = signature-law p .1 (a .signature);
+          };
+      whole = omega (arith, a .least, a .complete);
+      fields = a .sections ∙ sym (head-take (o .version) p);
+      inside = outside-law (o .version) (o .head) .1 (a .inside);
+      apart = shares-law (o .head) .1 (a .apart);
+      metrics = rw (← size) (within-end h _ (o .head .metrics) l (g .metrics-end) (a .inside .metrics));
+      trace = rw (← size) (within-end h _ (o .head .trace) l (g .trace-end) (a .inside .trace));
+      strings = rw (← size) (within-end h _ (o .head .strings) l (g .strings-end) (a .inside .strings));
+      volumes = rw (← size) (within-end h _ (o .head .volumes) l (g .volumes-end) (a .inside .volumes));
+    }
+
+-- and so do checks 7 to 15
+passes : (m : ℕ) (p : List ℕ) (o : Opening) → Allowed p o → o .head .trace .count ≤ m
+    → RestFacts m p o (record { fields = givenRecord o p; table = givenTable o p m })
+passes m p o a l =
+    record {
+      places = l;
+      entries = a .entries;
+      names = a .names;
+      free = record { links = a .links; unshared = a .unshared; acyclic = a .acyclic };
+      volumes = a .volumes;
+      fields = refl;
+      table = refl;
+    }
+
+-- what all of them accept is allowed
+allowed : (m : ℕ) (p : List ℕ) (o : Opening) (x : Acceptable) → length p ≡ declaredSize p → OpenFacts p o → RestFacts m p o x → Allowed p o
+allowed m p o x c f r =
+    record {
+      version = f .start .known;
+      signature = signature-law p .0 (f .start .signed);
+      least = f .start .least;
+      most = f .start .most;
+      complete = c;
+      name = name-ends p (o .units) .0 (f .start .ended);
+      sections = f .fields ∙ head-take (o .version) p;
+      inside = outside-law (o .version) (o .head) .0 (f .inside);
+      apart = shares-law (o .head) .0 (f .apart);
+      entries = r .entries;
+      names = r .names;
+      links = r .free .links;
+      unshared = r .free .unshared;
+      acyclic = r .free .acyclic;
+      volumes = r .volumes;
+    }
+
+-- the declared size of an acceptance
+sizes : (o : Opening) (p : List ℕ) (n : ℕ) → recordOf o p n .size ≡ declaredSize p
+unfolding recordOf
+sizes o p n = refl
+
+-- DEMAND 2
+pub demand-2 : (p buffer : List ℕ) (v : Verdict) (after : List ℕ) → ReadsFile p buffer v after → AcceptedExactly p buffer v after
+demand-2 p buffer v after r = record { sound = is-allowed; complete = is-accepted }
+  where
+    is-allowed : (a : Acceptance) → v ≡ Accepted a
+        → (o : Opening) × Allowed p o × (o .head .trace .count ≤ length buffer) × (a ≡ givenRecord o p) × (after ≡ givenTable o p (length buffer))
+    is-allowed a e =
+        let m = length buffer in
+        let y = accepted-answer (fileAnswer p m) a (ap valuesOf (sym e) ∙ r .verdict) in
+        let x = y .0 in
+        let w = whole-accepted (length p) (prefixAnswer p m) x (y .1) in
+        let t = read-facts m p .holds x (w .0) in
+        let o = t .0 in
+        let g = t .2 in
+        let size : x .fields .size ≡ declaredSize p = ap (λ (b : Acceptance). b .size) (g .fields) ∙ sizes o p _ in (
+          o,
+          allowed m p o x (sym (w .1) ∙ size) (t .1) g,
+          g .places,
+          y .2 ∙ g .fields,
+          r .buffer ∙ ap (λ (z : Answer Acceptable). bufferAfter z m) (y .1) ∙ g .table,
+        )
+
+    is-accepted : (o : Opening) → Allowed p o → o .head .trace .count ≤ length buffer → (v ≡ Accepted (givenRecord o p)) × (after ≡ givenTable o p (length buffer))
+    is-accepted o a l =
+        let m = length buffer in
+        let x : Acceptable = record { fields = givenRecord o p; table = givenTable o p m } in
+        let e = read-complete m p o x (opens p o a) (omega (arith, a .complete)) (passes m p o a l) in
+        let w = whole-accepts (length p) (prefixAnswer p m) x e (sizes o p _ ∙ sym (a .complete)) in
+        (same-kind v (Accepted (givenRecord o p)) (r .verdict ∙ ap answerValues w), r .buffer ∙ ap (λ (z : Answer Acceptable). bufferAfter z m) w)

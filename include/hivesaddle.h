@@ -1,0 +1,171 @@
+/* Hivesaddle: a reader of Windows Prefetch (SCCA) files, versions 17, 23 and 26, uncompressed.
+ *
+ * Link with libhivesaddle.a. It needs memcpy and memset and nothing else: it allocates nothing, keeps nothing between
+ * calls, and does no input or output. Calls with different lists may run at the same time.
+ *
+ * Every function takes any bytes, any index and any length, and comes to an end.
+ *
+ * A list is a pointer and then its length in elements. A list of length 0 may have any pointer, a null pointer too; any
+ * other must point to that many elements, aligned as their type is. Lists that a call writes must not overlap others of
+ * the same call. A list marked const is never changed, and no pointer is kept.
+ *
+ * out takes the numbers listed with each function, in that order, as many as fit: a shorter out gets the first of them,
+ * and what lies behind the last is left alone. Numbers in a file are little-endian; in out they are the machine's own.
+ *
+ * A text is UTF-16 units as they stand in the file, low byte first. A part of the file is handed back as an offset from
+ * its first byte and a length in bytes, and is never copied.
+ */
+#ifndef HIVESADDLE_H
+#define HIVESADDLE_H
+
+#include <stddef.h>
+#include <stdint.h>
+
+#ifdef __cplusplus
+extern "C" {
+#endif
+
+/* ---- The readers ----
+ *
+ * hs_read_prefix looks at the first bytes of a file, as many as there are so far. What it accepts or refuses stands,
+ * whatever bytes follow. A request is for the length that the prefix must have before more can be said; it always exceeds
+ * the length lent.
+ *
+ * hs_read_file looks at a complete file, and never asks for more.
+ *
+ * predecessors needs one place for each trace entry, else the file is refused with 7. After an acceptance place j holds
+ * the entry that names j as next, and HS_NONE where none does and behind the last entry. After anything else every place
+ * holds HS_NONE. All of it is written in every call, whatever it held.
+ */
+
+/* What both give back. */
+enum hs_verdict {
+    HS_ACCEPTED = 0, /* the record is in out, from HS_VERSION on */
+    HS_REFUSED = 1,  /* out has HS_NUMBER and HS_INDEX */
+    HS_WANTED = 2    /* out has HS_BYTES_WANTED; hs_read_prefix only */
+};
+
+/* Places in out. All that the verdict does not fill are 0. */
+enum hs_reader_out {
+    HS_NUMBER = 0,       /* of the refusal, see below */
+    HS_INDEX = 1,        /* section, entry or volume at fault, or 0 */
+    HS_BYTES_WANTED = 2, /* length that the prefix must have */
+    HS_VERSION = 3,
+    HS_DECLARED_SIZE = 4,
+    HS_NAME_UNITS = 5, /* units of the program name before its first zero */
+    HS_STORED_HASH = 6,
+    HS_RUN_TIME = 7, /* latest, a FILETIME as it stands */
+    HS_RUN_COUNT = 8,
+    HS_METRICS_COUNT = 9,
+    HS_TRACE_COUNT = 10,
+    HS_VOLUME_COUNT = 11,
+    HS_CHAIN_COUNT = 12, /* trace entries that no entry names as next */
+    HS_READER_OUT = 13   /* length of an out that holds them all */
+};
+
+/* In a working place: no entry. */
+#define HS_NONE 4294967295u
+
+uint32_t hs_read_prefix(const uint8_t *file, size_t length, uint32_t *predecessors, size_t places, uint64_t *out,
+                        size_t out_length);
+uint32_t hs_read_file(const uint8_t *file, size_t length, uint32_t *predecessors, size_t places, uint64_t *out,
+                      size_t out_length);
+
+/* Refusals, in the order of the checks. A check is decided once the prefix reaches the length in the middle column, and
+ * the first that is not passed gives the answer. S is the declared size, H the end of the head's last field: 148, 156 and
+ * 212 for versions 17, 23 and 26. Sections are numbered 1 metrics, 2 trace, 3 strings, 4 volumes.
+ *
+ *  no.  decided at      refused exactly when                                                 index
+ *   1   4               version not 17, 23 or 26                                             0
+ *   2   8               signature is not "SCCA"                                              0
+ *   3   16              S below H or above 16,777,215                                        0
+ *   4   76              none of the 30 units of the program name is zero                     0
+ *   5   H               a section that is not empty starts before H or ends after S          first such section
+ *   6   H               two sections share a byte                                            smallest that shares one with
+ *                                                                                            a lower section
+ *   7   H               fewer places than trace entries                                      0
+ *   8   H               more volume entries than the volumes section can hold                0
+ *   9   metrics end     a name, with its zero unit, runs past the strings section            first such metrics entry
+ *  10   metrics and     a name has a zero unit inside, or no zero unit right behind it       first such metrics entry
+ *       strings end
+ *  11   trace end       a next index is neither 4,294,967,295 nor that of an entry           first such trace entry
+ *  12   trace end       an entry is named as next by two or more                             smallest entry so named
+ *  13   trace end       following next from an entry comes back to it                        smallest such entry
+ *  14   volumes end     a path, references or a directory run past the volumes section       the volume
+ *  15   volumes end     a directory does not end in a zero unit                              the volume
+ *  16                   hs_read_file only: the file is shorter than S or than a check needs  0
+ *  17                   hs_read_file only: the file is longer than S                         0
+ *  18                   hs_catalogue_read only: not a catalogue line
+ *  19                   hs_catalogue_write only: fields that form no line, or a place below 25 bytes
+ *
+ * 14 and 15 are found volume by volume, the first fault of the first volume that has one. The end of an empty section
+ * counts as H; strings without metrics entries and a volumes section without volumes are not waited for.
+ */
+
+/* ---- Questions about one entry ----
+ *
+ * Each gives 1 for a yes and 0 for a no; after a no every number in out is 0. They work on a prefix too, as far as what is
+ * asked for has come, and need no working buffer.
+ */
+
+/* The bytes of the program name before its first zero unit. No where checks 1 to 4 do not pass on these bytes.
+ * out: offset, length. */
+uint32_t hs_program_name(const uint8_t *file, size_t length, uint64_t *out, size_t out_length);
+
+/* The name of metrics entry i, without its zero unit. Yes exactly when checks 1 to 6 pass, i is below the count, the entry
+ * and the name with its zero lie in these bytes and in their sections, and the name passes check 10.
+ * out: offset, length. */
+uint32_t hs_entry_name(const uint8_t *file, size_t length, uint64_t i, uint64_t *out, size_t out_length);
+
+/* Volume i. Yes exactly when checks 1 to 6 and 8 pass, i is below the count, the whole volumes section is lent and volume
+ * i itself passes 14 and 15. The path is the units before its first zero unit, or all of them.
+ * out: creation time (a FILETIME), serial number, file references, directories, path offset, path length. */
+uint32_t hs_volume(const uint8_t *file, size_t length, uint64_t i, uint64_t *out, size_t out_length);
+
+/* File reference k of volume i. Yes exactly when volume i can be shown and k is below its number of references.
+ * out: entry index (48 bits), sequence number (16 bits). */
+uint32_t hs_reference(const uint8_t *file, size_t length, uint64_t i, uint64_t k, uint64_t *out, size_t out_length);
+
+/* Which of its hashes a version 23 file was matched by. */
+enum hs_report {
+    HS_REPORT_NONE = 0, /* versions 17 and 26 have one hash each */
+    HS_REPORT_VISTA = 1,
+    HS_REPORT_2008 = 2,
+    HS_REPORT_BOTH = 3
+};
+
+/* The first metrics entry, among those that can be shown, whose name has the stored hash: XP for version 17, Vista or 2008
+ * for 23, 2008 for 26. No where there is none, or where checks 1 to 6 do not pass.
+ * out: entry, report. */
+uint32_t hs_find_path(const uint8_t *file, size_t length, uint64_t *out, size_t out_length);
+
+/* ---- Path hashes ----
+ *
+ * Over a list of numbers, or over the 16-bit units of a text given as bytes; there a last odd byte is ignored.
+ */
+uint32_t hs_hash_xp(const uint32_t *numbers, size_t count);
+uint32_t hs_hash_vista(const uint32_t *numbers, size_t count);
+uint32_t hs_hash_2008(const uint32_t *numbers, size_t count);
+uint32_t hs_hash_xp_units(const uint8_t *text, size_t length);
+uint32_t hs_hash_vista_units(const uint8_t *text, size_t length);
+uint32_t hs_hash_2008_units(const uint8_t *text, size_t length);
+
+/* ---- Catalogue lines ----
+ *
+ * 24 digits 0-9 A-F and a line feed: size 6, stored hash 8, run count 8, version 2, most significant digit first.
+ */
+#define HS_CATALOGUE_LINE_LENGTH 25
+
+/* 0, or 18 with zeros in out where the bytes are no such line.
+ * out: size, stored hash, run count, version. */
+uint32_t hs_catalogue_read(const uint8_t *line, size_t length, uint64_t *out, size_t out_length);
+
+/* 0 with the line in the first 25 bytes of output, the rest left alone; or 19 with nothing written. */
+uint32_t hs_catalogue_write(uint32_t size, uint32_t stored_hash, uint32_t run_count, uint32_t version, uint8_t *output,
+                            size_t length);
+
+#ifdef __cplusplus
+}
+#endif
+
+#endif

@@ -1,0 +1,48 @@
+//! bench hashes
+//!
+//! The path hashes over the C boundary beside a plain Rust loop.
+//!
+//! bench readers
+//!
+//! The whole reader on files as Windows lays them out, from 1 KB to 16 MB,
+//! beside the reader of `plain`.
+//!
+//! bench trace
+//!
+//! The whole reader on files that are nearly all trace section: chains and a
+//! ring, in and out of order, beside the reader of `plain`.
+//!
+//! bench overlap
+//!
+//! The whole reader on files whose entries all name the same bytes. The rules
+//! allow that, and then the work grows with the square of the file's size.
+//!
+//! The two run turn and turn about on the same input, and medians are shown.
+
+mod hashes;
+#[cfg(feature = "readers")]
+mod overlap;
+#[cfg(feature = "readers")]
+mod readers;
+mod timing;
+#[cfg(feature = "readers")]
+mod trace;
+
+use std::process::ExitCode;
+
+fn main() -> ExitCode {
+    match std::env::args().nth(1).as_deref() {
+        Some("hashes") => hashes::run(),
+        #[cfg(feature = "readers")]
+        Some("readers") => readers::run(),
+        #[cfg(feature = "readers")]
+        Some("trace") => trace::run(),
+        #[cfg(feature = "readers")]
+        Some("overlap") => overlap::run(),
+        _ => {
+            eprintln!("bench hashes | readers | trace | overlap");
+            return ExitCode::from(2);
+        }
+    }
+    ExitCode::SUCCESS
+}

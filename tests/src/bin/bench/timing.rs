@@ -1,0 +1,63 @@
+//! Two ways to do the same, timed turn and turn about. The time is that of
+//! the processor spent on this thread, so that other work on the machine
+//! counts only by what it takes of the caches.
+
+/// Medians in nanoseconds, for one call.
+pub struct Times {
+    pub library: f64,
+    pub plain: f64,
+}
+
+impl Times {
+    pub fn ratio(&self) -> f64 {
+        self.library / self.plain
+    }
+}
+
+/// So many turns for each, of so many calls.
+pub fn side_by_side(
+    turns: usize,
+    calls: usize,
+    mut library: impl FnMut(),
+    mut plain: impl FnMut(),
+) -> Times {
+    let (mut of_library, mut of_plain) = (Vec::new(), Vec::new());
+    for _ in 0..turns {
+        of_library.push(nanoseconds(calls, &mut library));
+        of_plain.push(nanoseconds(calls, &mut plain));
+    }
+    Times { library: median(of_library), plain: median(of_plain) }
+}
+
+fn nanoseconds(calls: usize, call: &mut impl FnMut()) -> f64 {
+    let start = processor_time();
+    for _ in 0..calls {
+        call();
+    }
+    (processor_time() - start) as f64 / calls as f64
+}
+
+fn median(mut list: Vec<f64>) -> f64 {
+    list.sort_by(f64::total_cmp);
+    list[list.len() / 2]
+}
+
+#[repr(C)]
+struct Timespec {
+    seconds: i64,
+    nanoseconds: i64,
+}
+
+/// CLOCK_THREAD_CPUTIME_ID of Linux.
+const THREAD_TIME: i32 = 3;
+
+extern "C" {
+    fn clock_gettime(clock: i32, time: *mut Timespec) -> i32;
+}
+
+fn processor_time() -> i64 {
+    let mut time = Timespec { seconds: 0, nanoseconds: 0 };
+    let failed = unsafe { clock_gettime(THREAD_TIME, &mut time) };
+    assert_eq!(failed, 0, "the clock can't be read");
+    1_000_000_000 * time.seconds + time.nanoseconds
+}

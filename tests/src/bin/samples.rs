@@ -1,0 +1,88 @@
+//! samples FOLDER
+//!
+//! Writes the sample files of the examples, the same bytes every time: a small
+//! sound file, one of about 150 KB, and copies of that one, each with a fault.
+
+use compare::generate::damage::volume_start;
+use compare::generate::{set_16, set_32};
+use compare::reference::checks::{entry_start, name_of_entry};
+use compare::reference::head::{known_layout, section, STRINGS, TRACE};
+use compare::reference::layout::TRACE_ENTRY;
+use compare::typical::{self, Amounts, TYPICAL};
+use std::io;
+use std::path::Path;
+use std::process::ExitCode;
+
+const SMALL: Amounts = Amounts { files: 6, trace: 40, directories: 5 };
+const VERSION: u32 = 23;
+
+fn main() -> ExitCode {
+    let Some(folder) = std::env::args().nth(1) else {
+        eprintln!("samples FOLDER");
+        return ExitCode::from(2);
+    };
+    match write_all(Path::new(&folder)) {
+        Ok(()) => ExitCode::SUCCESS,
+        Err(error) => {
+            eprintln!("samples: {folder}: {error}");
+            ExitCode::FAILURE
+        }
+    }
+}
+
+fn write_all(folder: &Path) -> io::Result<()> {
+    std::fs::create_dir_all(folder)?;
+    std::fs::write(folder.join("small.pf"), typical::file(VERSION, &SMALL))?;
+    let good = typical::file(VERSION, &TYPICAL);
+    std::fs::write(folder.join("good.pf"), &good)?;
+    std::fs::write(folder.join("cut.pf"), &good[..100_000])?;
+    let faults: [(&str, fn(&mut [u8])); 6] = [
+        ("version.pf", wrong_version),
+        ("size.pf", wrong_size),
+        ("names.pf", name_outside),
+        ("strings.pf", zero_in_a_name),
+        ("ring.pf", ring),
+        ("volume.pf", path_outside),
+    ];
+    for (name, damage) in faults {
+        let mut file = good.clone();
+        damage(&mut file);
+        std::fs::write(folder.join(name), file)?;
+    }
+    Ok(())
+}
+
+fn wrong_version(file: &mut [u8]) {
+    set_32(file, 0, 24);
+}
+
+/// One bit of the declared size: past the limit.
+fn wrong_size(file: &mut [u8]) {
+    file[15] |= 1;
+}
+
+/// The name of metrics entry 100 begins where the strings end.
+fn name_outside(file: &mut [u8]) {
+    let field = entry_start(file, 100) as usize + known_layout(file).name_offset;
+    let strings = section(file, STRINGS).length as u32;
+    set_32(file, field, strings);
+}
+
+/// The fifth unit of the name of metrics entry 200.
+fn zero_in_a_name(file: &mut [u8]) {
+    let name = section(file, STRINGS).start + name_of_entry(file, 200).offset;
+    set_16(file, name as usize + 8, 0);
+}
+
+/// The last trace entry names the first of its chain.
+fn ring(file: &mut [u8]) {
+    let last = section(file, TRACE).end() - TRACE_ENTRY;
+    let first = TYPICAL.trace * (TYPICAL.files - 1) / TYPICAL.files;
+    set_32(file, last as usize, first as u32);
+}
+
+/// More units in the path of volume 1 than the section has.
+fn path_outside(file: &mut [u8]) {
+    let field = volume_start(file, 1) + 4;
+    set_32(file, field, 65_536);
+}

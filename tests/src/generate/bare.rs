@@ -1,0 +1,68 @@
+//! Files with a bare head and at most one section, for answers worked out by
+//! hand.
+
+use super::set_32;
+use crate::reference::readers::Record;
+
+/// H of each version, as the paper has it.
+pub const HEADS: [(u32, u32); 3] = [(17, 148), (23, 156), (26, 212)];
+
+/// A head without a name or a section, and so many bytes behind it.
+pub fn bare(version: u32, more: u32) -> Vec<u8> {
+    let head_end = HEADS.iter().find(|head| head.0 == version).expect("one of three").1;
+    let size = head_end + more;
+    let mut file = vec![0; size as usize];
+    set_32(&mut file, 0, version);
+    file[4..8].copy_from_slice(b"SCCA");
+    set_32(&mut file, 12, size);
+    file
+}
+
+/// What is accepted of a bare file.
+pub fn bare_record(file: &[u8]) -> Record {
+    Record {
+        version: file[0] as u64,
+        declared_size: file.len() as u64,
+        name_units: 0,
+        stored_hash: 0,
+        run_time: 0,
+        run_count: 0,
+        metrics_count: 0,
+        trace_count: 0,
+        volume_count: 0,
+        chain_count: 0,
+    }
+}
+
+/// Trace entries at 148 of a version 17 file, and nothing else.
+pub fn with_links(links: &[u32]) -> Vec<u8> {
+    let mut file = bare(17, 12 * links.len() as u32);
+    set_32(&mut file, 92, 148);
+    set_32(&mut file, 96, links.len() as u32);
+    for (entry, &link) in links.iter().enumerate() {
+        set_32(&mut file, 148 + 12 * entry, link);
+    }
+    file
+}
+
+/// One volume at 148 of a version 17 file, with data behind its entry.
+pub fn one_volume(fields: [u32; 6], data: &[u8]) -> Vec<u8> {
+    one_volume_of(17, fields, data)
+}
+
+/// One volume right behind the head, with data behind its entry. Path offset
+/// and units; references offset and size; directories offset and count.
+pub fn one_volume_of(version: u32, fields: [u32; 6], data: &[u8]) -> Vec<u8> {
+    let entry = if version == 17 { 40 } else { 104 };
+    let size = entry + data.len() as u32;
+    let mut file = bare(version, size);
+    let start = file.len() - size as usize;
+    set_32(&mut file, 108, start as u32);
+    set_32(&mut file, 112, 1);
+    set_32(&mut file, 116, size);
+    for (place, number) in [0, 4, 20, 24, 28, 32].into_iter().zip(fields) {
+        set_32(&mut file, start + place, number);
+    }
+    file[start + entry as usize..].copy_from_slice(data);
+    file
+}

@@ -1,0 +1,252 @@
+//! Files as Windows lays them out: metrics, trace, strings, volumes. Each
+//! file named in the metrics array has one chain of trace entries.
+
+use crate::generate::set_32;
+use crate::reference::hashes;
+use crate::reference::layout::{layout_of, Layout, END, TRACE_ENTRY};
+
+/// How much a file has to say.
+#[derive(Clone, Copy)]
+pub struct Amounts {
+    pub files: usize,
+    pub trace: usize,
+    pub directories: usize,
+}
+
+/// About 150 KB.
+pub const TYPICAL: Amounts = Amounts { files: 270, trace: 7_300, directories: 70 };
+
+/// Bytes of a version 23 file with the typical amounts, roughly.
+const TYPICAL_BYTES: usize = 150_000;
+
+impl Amounts {
+    /// In the typical proportions, for a file of about so many bytes.
+    pub fn for_bytes(bytes: usize) -> Amounts {
+        let share = |amount: usize| (amount * bytes / TYPICAL_BYTES).max(1);
+        Amounts {
+            files: share(TYPICAL.files),
+            trace: share(TYPICAL.trace),
+            directories: share(TYPICAL.directories),
+        }
+    }
+}
+
+pub const PROGRAM: &str = "CHAMBER.EXE";
+/// The metrics entry of the program itself.
+const PROGRAM_ENTRY: usize = 2;
+
+const FOLDERS: [&str; 8] = [
+    r"WINDOWS\SYSTEM32",
+    r"WINDOWS\SYSTEM32\DRIVERS",
+    r"WINDOWS\WINSXS\X86_MICROSOFT.WINDOWS.COMMON-CONTROLS_6595B64144CCF1DF_6.0.7600.16385",
+    r"WINDOWS\GLOBALIZATION\SORTING",
+    r"PROGRAM FILES\COMMON FILES\MICROSOFT SHARED\OFFICE14",
+    r"PROGRAM FILES\CHAMBER\PLUGINS",
+    r"USERS\CREW\APPDATA\ROAMING\CHAMBER\CURVES",
+    r"USERS\CREW\DOCUMENTS\MEASUREMENTS\COLD CHAMBER",
+];
+
+const STEMS: [&str; 8] =
+    ["NTDLL", "KERNEL32", "APISETSCHEMA", "LOCALE", "COMCTL32", "OLEAUT32", "FANCURVE", "READINGS"];
+
+/// A sound file. The stored hash is that of the program's path, by units.
+pub fn file(version: u32, amounts: &Amounts) -> Vec<u8> {
+    let layout = layout_of(version).expect("one of the three versions");
+    let names: Vec<String> = (0..amounts.files).map(name).collect();
+    let mut file = vec![0; first_section(version)];
+    set_head(&mut file, layout, &names);
+    let metrics = metrics(layout, &names, amounts.trace);
+    add_section(&mut file, &metrics, 84);
+    set_32(&mut file, 88, names.len() as u32);
+    add_section(&mut file, &trace(amounts), 92);
+    set_32(&mut file, 96, amounts.trace as u32);
+    let strings: Vec<u8> = names.iter().flat_map(|name| ended(name)).collect();
+    add_section(&mut file, &strings, 100);
+    set_32(&mut file, 104, strings.len() as u32);
+    let volumes = volumes(layout, amounts);
+    add_section(&mut file, &volumes, 108);
+    set_32(&mut file, 112, VOLUMES as u32);
+    set_32(&mut file, 116, volumes.len() as u32);
+    let size = file.len() as u32;
+    set_32(&mut file, 12, size);
+    file
+}
+
+/// Where Windows puts the metrics array.
+fn first_section(version: u32) -> usize {
+    match version {
+        17 => 152,
+        23 => 240,
+        _ => 304,
+    }
+}
+
+fn set_head(file: &mut [u8], layout: &Layout, names: &[String]) {
+    set_32(file, 0, layout.version);
+    file[4..8].copy_from_slice(b"SCCA");
+    set_32(file, 8, 17);
+    file[16..16 + 2 * PROGRAM.len()].copy_from_slice(&units(PROGRAM));
+    let path = names.get(PROGRAM_ENTRY).unwrap_or(&names[0]);
+    set_32(file, 76, stored_hash(layout.version, path));
+    let run_time = 133_761_942_000_000_000u64;
+    file[layout.run_time..layout.run_time + 8].copy_from_slice(&run_time.to_le_bytes());
+    set_32(file, layout.run_count, 42);
+}
+
+fn stored_hash(version: u32, path: &str) -> u32 {
+    let numbers = hashes::units(&units(path));
+    match version {
+        17 => hashes::xp(&numbers),
+        23 => hashes::vista(&numbers),
+        _ => hashes::of_2008(&numbers),
+    }
+}
+
+/// Sections start at a multiple of eight.
+fn add_section(file: &mut Vec<u8>, section: &[u8], offset_field: usize) {
+    file.resize(file.len().next_multiple_of(8), 0);
+    let start = file.len() as u32;
+    set_32(file, offset_field, start);
+    file.extend(section);
+}
+
+fn units(text: &str) -> Vec<u8> {
+    text.encode_utf16().flat_map(u16::to_le_bytes).collect()
+}
+
+/// With a zero unit behind it.
+fn ended(text: &str) -> Vec<u8> {
+    let mut bytes = units(text);
+    bytes.extend([0, 0]);
+    bytes
+}
+
+/// No two are the same.
+fn name(i: usize) -> String {
+    if i == PROGRAM_ENTRY {
+        return format!(r"{}\PROGRAM FILES\CHAMBER\{PROGRAM}", device(0));
+    }
+    let (folder, stem) = (FOLDERS[i * 7 % 8], STEMS[i * 5 % 8]);
+    let volume = usize::from(i % 9 == 8);
+    let ending = ["DLL", "NLS", "DLL", "DAT"][i % 4];
+    format!(r"{}\{folder}\{stem}{i:03}.{ending}", device(volume))
+}
+
+fn metrics(layout: &Layout, names: &[String], trace: usize) -> Vec<u8> {
+    let mut section = Vec::new();
+    let mut name_offset = 0;
+    for (i, name) in names.iter().enumerate() {
+        let mut entry = vec![0; layout.metrics_entry as usize];
+        let chain = chain(names.len(), trace, i);
+        let name_units = name.encode_utf16().count();
+        set_32(&mut entry, 0, chain.start as u32);
+        set_32(&mut entry, 4, chain.len() as u32);
+        set_32(&mut entry, layout.name_offset, name_offset as u32);
+        set_32(&mut entry, layout.name_length, name_units as u32);
+        let flags = layout.name_length + 4;
+        set_32(&mut entry, flags, 0x0200);
+        section.extend(entry);
+        name_offset += 2 * name_units + 2;
+    }
+    section
+}
+
+/// The trace entries of file i: as many for each, as far as that goes.
+fn chain(files: usize, trace: usize, i: usize) -> std::ops::Range<usize> {
+    trace * i / files..trace * (i + 1) / files
+}
+
+fn trace(amounts: &Amounts) -> Vec<u8> {
+    let mut section = vec![0; amounts.trace * TRACE_ENTRY as usize];
+    for i in 0..amounts.files {
+        let chain = chain(amounts.files, amounts.trace, i);
+        for entry in chain.clone() {
+            let at = entry * TRACE_ENTRY as usize;
+            let next = if entry + 1 < chain.end { entry as u32 + 1 } else { END };
+            set_32(&mut section, at, next);
+            set_32(&mut section, at + 4, 8 * (entry - chain.start) as u32);
+            set_32(&mut section, at + 8, 0x0001_0102);
+        }
+    }
+    section
+}
+
+const VOLUMES: usize = 2;
+
+fn device(volume: usize) -> String {
+    format!(r"\DEVICE\HARDDISKVOLUME{}", volume + 1)
+}
+
+/// The entries; then for each volume its path, references and directories.
+fn volumes(layout: &Layout, amounts: &Amounts) -> Vec<u8> {
+    let entry = layout.volume_entry as usize;
+    let mut section = vec![0; VOLUMES * entry];
+    for volume in 0..VOLUMES {
+        let at = volume * entry;
+        let creation_time = 129_000_000_000_000_000u64 + volume as u64;
+        section[at + 8..at + 16].copy_from_slice(&creation_time.to_le_bytes());
+        set_32(&mut section, at + 16, 0x5C0A_70E1 + volume as u32);
+        add_path(&mut section, at, volume);
+        // The first volume has most of what there is.
+        let share = if volume == 0 { 8 } else { 1 };
+        add_references(&mut section, at, (amounts.files + amounts.directories) * share / 9);
+        add_directories(&mut section, at, volume, (amounts.directories * share).div_ceil(9));
+    }
+    section
+}
+
+fn add_path(section: &mut Vec<u8>, at: usize, volume: usize) {
+    let path = device(volume);
+    let offset = section.len() as u32;
+    set_32(section, at, offset);
+    set_32(section, at + 4, path.len() as u32);
+    section.extend(ended(&path));
+}
+
+fn add_references(section: &mut Vec<u8>, at: usize, count: usize) {
+    section.resize(section.len().next_multiple_of(8), 0);
+    let offset = section.len() as u32;
+    set_32(section, at + 20, offset);
+    set_32(section, at + 24, 8 + 8 * count as u32);
+    section.extend(3u32.to_le_bytes());
+    section.extend((count as u32).to_le_bytes());
+    for k in 0..count as u64 {
+        let sequence_number = 1 + k % 3;
+        section.extend((sequence_number << 48 | (40 + 3 * k)).to_le_bytes());
+    }
+}
+
+fn add_directories(section: &mut Vec<u8>, at: usize, volume: usize, count: usize) {
+    let offset = section.len() as u32;
+    set_32(section, at + 28, offset);
+    set_32(section, at + 32, count as u32);
+    for k in 0..count {
+        let directory = format!(r"{}\{}\{k:03}", device(volume), FOLDERS[k * 3 % 8]);
+        section.extend((directory.encode_utf16().count() as u16).to_le_bytes());
+        section.extend(ended(&directory));
+    }
+}
+
+#[cfg(test)]
+mod points {
+    use super::*;
+    use crate::reference::readers::{whole_reader, Verdict};
+
+    #[test]
+    fn accepted_in_every_version_and_size() {
+        for version in [17, 23, 26] {
+            for bytes in [1_000, 4_000, 20_000] {
+                let amounts = Amounts::for_bytes(bytes);
+                let file = file(version, &amounts);
+                let verdict = whole_reader(&file, amounts.trace).verdict;
+                assert!(matches!(verdict, Verdict::Accepted(_)), "{version} {bytes} {verdict:?}");
+            }
+        }
+    }
+
+    #[test]
+    fn typical_is_about_150_kilobytes() {
+        let length = file(23, &TYPICAL).len();
+        assert!(length.abs_diff(TYPICAL_BYTES) < 5_000, "{length}");
+    }
+}
