@@ -4,7 +4,7 @@ ghost use lib.ListN.{length};
 use libc::STDIN_FILENO;
 use libc::STDOUT_FILENO;
 
-// Reads until the buffer is full or the input ends. `io::read_full` would take a buffer of its own.
+// Reads until the buffer is full or the input ends. `io::read_full` and `io::write_all` have a buffer of 4,096 bytes each.
 fn read_input(file: &mut [u8]) -> usize
     ensures { λ r. ⌜ r ≤ length (now (file .exit)) ⌝ }
 {
@@ -20,6 +20,19 @@ fn read_input(file: &mut [u8]) -> usize
     n
 }
 
+// Writes until all is written or a write takes nothing.
+fn write_output(text: &[u8]) {
+    let mut n = 0;
+    while n < text.len() {
+        let rest = &text[n..];
+        let more = io::count(libc::write(STDOUT_FILENO, rest), rest);
+        if more == 0 {
+            return;
+        }
+        n += more;
+    }
+}
+
 fn main() {
     let mut file = [0u8; 49152];
     let mut predecessors = [0u32; 4096];
@@ -27,5 +40,5 @@ fn main() {
     let text = listing_text::list(&file[..n], &mut predecessors);
     let bytes = text.bytes;
     let len = text.len;
-    io::write_all(STDOUT_FILENO, &bytes[..len]);
+    write_output(&bytes[..len]);
 }

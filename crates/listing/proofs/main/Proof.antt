@@ -26,11 +26,11 @@ list-requires c κs = search needs
 array-share-prefix-bytes : tie.Need-array-share-prefix-bytes
 array-share-prefix-bytes c = search needs
 
-slice-aggregate-write-all : tie.Need-slice-aggregate-write-all
-slice-aggregate-write-all c = let s = c .before .before .before .list .ensures .sound in sym (length-take-le _ _ (omega (arith, s .fits, s .size)))
+slice-aggregate-write-output : tie.Need-slice-aggregate-write-output
+slice-aggregate-write-output c = let s = c .before .before .before .list .ensures .sound in sym (length-take-le _ _ (omega (arith, s .fits, s .size)))
 
-write-all-requires : tie.Need-write-all-requires
-write-all-requires c κs = search needs
+write-output-requires : tie.Need-write-output-requires
+write-output-requires c κs = search needs
 
 returns : tie.Need-returns
 returns c = search needs
@@ -46,6 +46,6 @@ main-spec =
     slice-aggregate-list-2
     list-requires
     array-share-prefix-bytes
-    slice-aggregate-write-all
-    write-all-requires
+    slice-aggregate-write-output
+    write-output-requires
     returns)
