@@ -17,7 +17,8 @@ use Rattle.reader.specs.declared.verdict.Verdict.{Verdict}
 use Rattle.reader.specs.declared.verdict.Verdict.the-variants.{Accepted, Refused, Wanted}
 use Rattle.query.specs.Search.{pathFound}
 use Rattle.query.specs.declared.search.PathAnswer.{PathAnswer}
-use Rattle.listing_text.specs.Decimal.{decimal, pickList}
+use Rattle.lists.specs.Count.{pickList}
+use Rattle.listing_text.specs.Decimal.{decimal}
 use Rattle.listing_text.specs.Listing.{line, version·word, name·word, hash·word, runs·word, files·word, chains·word, volumes·word, path·word, refused·word, too-long, shownName, pathText, acceptedText, refusedText, answerText, fileLimit, listing, room, textOf, Listed}
 use Rattle.listing_text.specs.Growth.{Grown, Shows, grown-then, shows}
 use Rattle.listing_text.specs.declared.Text.{Text}
