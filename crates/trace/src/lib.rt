@@ -1,5 +1,6 @@
 // Checks 11 to 13 on the next indexes of a trace section, the table of predecessors and the chain count.
 ghost use mathlib.Core.Path.{_≡_};
+ghost use mathlib.Core.Bool.{true};
 ghost use mathlib.Core.Logic.{_⊎_};
 ghost use Prim.Native.Nat.{_*_, _<_};
 ghost use lib.ListN.{length};
@@ -7,6 +8,7 @@ ghost use Rattle.lists.specs.First.{foundBelow};
 ghost use Rattle.little_endian.specs.Number.{le};
 ghost use Rattle.trace.specs.Links.{end, nexts, filled, predecessors, LinkAnswer};
 ghost use Rattle.trace.specs.Accepted.{Distinct};
+ghost use Rattle.trace.specs.Forward.{Forward};
 ghost use Rattle.trace.specs.Answers.{firstCyclic, cycleChecks, entryChecks, Ready, Blank, Cleared, Clean, Stored, Passed, Answered};
 use incremental::Refusal;
 use lists::Found;
@@ -160,6 +162,31 @@ fn check_cycles(section: &[u8], entries: u32, ends: usize, buffer: &mut [u32]) -
     Links::Chains(ends)
 }
 
+// Whether every next index is above its own. Where it is, as in the files that Windows writes, no entry is on a cycle.
+fn leads_on(section: &[u8], entries: u32) -> bool
+    ensures { λ r. ⌜ (r ≡ true → Forward (nexts (now (section .entry)) entries)) ⌝ }
+{
+    let mut i = 0;
+    while i < entries {
+        if next_at(section, i) <= i {
+            return false;
+        }
+        i += 1;
+    }
+    true
+}
+
+// Check 13. Links that only lead on need no walk, and the table stands as it is.
+fn check_order(section: &[u8], entries: u32, ends: usize, buffer: &mut [u32]) -> Links
+    requires { ⌜ Clean (nexts (now section) entries) ends (now buffer) ⌝ }
+    ensures { λ r. ⌜ Answered (cycleChecks (nexts (now (section .entry)) entries)) (nexts (now (section .entry)) entries) (length (now (buffer .entry))) r (now (buffer .exit)) ⌝ }
+{
+    if leads_on(section, entries) {
+        return Links::Chains(ends);
+    }
+    check_cycles(section, entries, ends, buffer)
+}
+
 // Checks 11 to 13 with a filled buffer.
 fn check_entries(section: &[u8], entries: u32, buffer: &mut [u32]) -> Links
     requires { ⌜ Blank (nexts (now section) entries) (now buffer) ⌝ }
@@ -181,7 +208,7 @@ fn check_entries(section: &[u8], entries: u32, buffer: &mut [u32]) -> Links
                 index: i,
             })
         }
-        Pass::Clear(ends) => check_cycles(section, entries, ends, buffer),
+        Pass::Clear(ends) => check_order(section, entries, ends, buffer),
     }
 }
 

@@ -29,8 +29,8 @@ fill-requires-2 c κs = search needs
 enum-known-pass-3 : tie.Need-enum-known-pass-3
 enum-known-pass-3 c = search needs
 
-check-cycles-requires : tie.Need-check-cycles-requires
-check-cycles-requires c κs = let a = c .before .before .before .before .before .before .before .before .before .before in
+check-order-requires : tie.Need-check-order-requires
+check-order-requires c κs = let a = c .before .before .before .before .before .before .before .before .before .before in
     let s = nexts (a .args .section .now) (a .args .entries) in
     let r = c .before .before .before .before .before .before .store-predecessors in
     let q = c .before .before .pass3 .given in
@@ -78,7 +78,7 @@ returns-3 c = let a = c .before .before .before .before .before .before .before 
     let m = length (a .args .buffer .now) in
     let r = c .before .before .before .before .before .before .before .before .before .store-predecessors in
     let q = c .before .before .before .before .before .pass3 .given in
-    let x = c .before .before .check-cycles in
+    let x = c .before .before .check-order in
     let b = x .last .1 .1 .1 .0 in
     let w = passed-clear (firstAstray s) (firstShared s) (ends s) (q .0 .0) (sym (r .ensures .found) ∙ q .1) in
     answer-nothing 11 m (firstAstray s) (firstAstray s) (sharedChecks s) s b (x .result) refl (w .0)
@@ -94,7 +94,7 @@ check-entries-spec =
     enum-known-pass-2
     fill-requires-2
     enum-known-pass-3
-    check-cycles-requires
+    check-order-requires
     same-length
     returns
     same-length-2
