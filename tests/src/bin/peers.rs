@@ -95,8 +95,23 @@ impl Places {
 
 type Damage = (&'static str, fn(&mut Vec<u8>, &Places));
 
-const DAMAGE: [Damage; 33] = [
+const DAMAGE: [Damage; 35] = [
     ("00-none", |_, _| ()),
+    // Sound, but not as Windows lays a file out.
+    ("00-gap-behind-head", |file, at| {
+        file.splice(at.metrics as usize..at.metrics as usize, [0; 8]);
+        for field in [12, 84, 92, 100, 108] {
+            let moved = number_32(file, field) as u32 + 8;
+            set_32(file, field, moved);
+        }
+    }),
+    ("00-trace-before-metrics", |file, at| {
+        let (metrics, trace) = (at.metrics as usize, at.trace);
+        let trace_end = at.next(SMALL.trace);
+        file[metrics..trace_end].rotate_left(trace - metrics);
+        set_32(file, 92, at.metrics);
+        set_32(file, 84, (metrics + trace_end - trace) as u32);
+    }),
     ("01-version-24", |file, _| set_32(file, 0, 24)),
     ("01-version-30", |file, _| set_32(file, 0, 30)),
     ("02-signature", |file, _| file[5] ^= 1),
