@@ -209,8 +209,8 @@ static uint64_t number(const uint8_t *bytes, int width) {
     return number;
 }
 
-static void differ(enum call call, const char *what, uint32_t given, uint32_t expected) {
-    fprintf(stderr, "difference: %s: %s: library %u, judge %u\n", names[call], what, given, expected);
+static void differ(enum call call, const char *what) {
+    fprintf(stderr, "difference: %s: %s\n", names[call], what);
     for (size_t j = 0; j < lists[OUT].bytes / 8; j++)
         fprintf(stderr, "  out %zu: library %lu, judge %lu\n", j, ((uint64_t *)lists[OUT].start)[j],
                 ((uint64_t *)lists[JUDGE_OUT].start)[j]);
@@ -218,7 +218,7 @@ static void differ(enum call call, const char *what, uint32_t given, uint32_t ex
 }
 
 static void same_list(enum call call, const char *what, int one, int other) {
-    if (memcmp(around(&lists[one]), around(&lists[other]), lists[one].bytes + MARGIN)) differ(call, what, 0, 0);
+    if (memcmp(around(&lists[one]), around(&lists[other]), lists[one].bytes + MARGIN)) differ(call, what);
 }
 
 static void one_call(enum call call, const struct input *in, uint64_t i, uint64_t k) {
@@ -296,12 +296,15 @@ static void one_call(enum call call, const struct input *in, uint64_t i, uint64_
         break;
     default: abort();
     }
-    if (given != expected) differ(call, "answer", given, expected);
+    if (given != expected) {
+        fprintf(stderr, "library %u, judge %u\n", given, expected);
+        differ(call, "answer");
+    }
     same_list(call, "out", OUT, JUDGE_OUT);
     same_list(call, "working places", TABLE, JUDGE_TABLE);
     same_list(call, "line", LINE, JUDGE_LINE);
-    if (n && memcmp(lists[FILE_LIST].start, in->bytes, n)) differ(call, "file was changed", 0, 0);
-    if (count_32 && memcmp(lists[NUMBERS].start, in->bytes, 4 * count_32)) differ(call, "numbers were changed", 0, 0);
+    if (n && memcmp(lists[FILE_LIST].start, in->bytes, n)) differ(call, "the file was changed");
+    if (count_32 && memcmp(lists[NUMBERS].start, in->bytes, 4 * count_32)) differ(call, "the numbers were changed");
     count(call, given, out, o);
 }
 

@@ -50,7 +50,13 @@ fn numbers_of(verdict: &Verdict) -> (u32, [u64; 13]) {
     }
 }
 
-unsafe fn give(answer: &Answer, table: *mut u32, places: usize, out: *mut u64, length: usize) -> u32 {
+unsafe fn give(
+    answer: &Answer,
+    table: *mut u32,
+    places: usize,
+    out: *mut u64,
+    length: usize,
+) -> u32 {
     assert_eq!(answer.buffer.len(), places);
     let (code, numbers) = numbers_of(&answer.verdict);
     write(table, places, &answer.buffer);

@@ -27,7 +27,8 @@ struct Seeds {
 impl Seeds {
     /// The choices as harness.c takes them, then the bytes.
     fn add(&mut self, call: u8, places: u8, i: u64, k: u64, bytes: &[u8]) -> io::Result<()> {
-        let mut input = vec![call, self.count as u8 % 32, 13 + self.count as u8 % 4, places, 0, 0, 0, 0];
+        let mut input =
+            vec![call, self.count as u8 % 32, 13 + self.count as u8 % 4, places, 0, 0, 0, 0];
         input.extend(i.to_le_bytes());
         input.extend(k.to_le_bytes());
         input.extend((self.count as u32).to_le_bytes());
@@ -47,7 +48,8 @@ impl Seeds {
                 self.add(ALL, EXACT, 0, 0, &sample.bytes[..cut])?;
             }
             for number in AIMS {
-                let mut sample: Sample = sound_of(random, layout, Counts { metrics: 3, trace: 5, volumes: 2 });
+                let mut sample: Sample =
+                    sound_of(random, layout, Counts { metrics: 3, trace: 5, volumes: 2 });
                 damage(random, &mut sample, number);
                 let places = if number == 7 { FEWER } else { EXACT };
                 self.add(ALL, places, 1, 1, &sample.bytes)?;
