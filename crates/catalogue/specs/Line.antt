@@ -6,7 +6,7 @@ use Prim.Native.Nat.{ℕ, _≤_, _<_, _^_}
 use lib.Dec.{leb, eqb}
 use lib.ListN.{length, getD, drop}
 use borrow.Author.Tests.{eq-eqb, ne-eqb, eqb-true, not-false, le-leb, lt-leb}
-use Rattle.lists.specs.Count.{some, some-yes, some-no, some-false, true-false}
+use Rattle.lists.specs.Count.{pick, pickList, some, some-yes, some-no, some-false, true-false}
 use Rattle.layout.specs.Versions.{versionOf, layoutOf, sizeLimit}
 use Rattle.layout.specs.declared.Version.{Version}
 use Rattle.layout.specs.declared.KnownVersion.{KnownVersion}
@@ -74,22 +74,14 @@ readAnswer readLine.Refused = record { number = 18; fields = zeros }
 unfoldable pub canWrite : Fields → ℕ → Bool
 canWrite f room = leb 25 room && canForm f
 
-abbrev pub pickℕ : Bool → ℕ → ℕ → ℕ
-pickℕ true a b = a
-pickℕ false a b = b
-
 -- what each case of `WrittenLine` says
 abbrev pub writtenNumber : WrittenLine → ℕ
 writtenNumber writtenLine.Written = 0
 writtenNumber writtenLine.Refused = 19
 
-abbrev pub pickList : Bool → List ℕ → List ℕ → List ℕ
-pickList true a b = a
-pickList false a b = b
-
 -- writing: 0, and the first 25 bytes of the output are the line; or 19, and the output is as it was
 pub record Writing (f : Fields) (before : List ℕ) (r : WrittenLine) (after : List ℕ) : Type 0 where
-  pub number : writtenNumber r ≡ pickℕ (canWrite f (length before)) 0 19
+  pub number : writtenNumber r ≡ pick (canWrite f (length before)) 0 19
   pub output : after ≡ pickList (canWrite f (length before)) (lineOf f ++ drop 25 before) before
 
 -- ---- laws of the frame

@@ -3,10 +3,7 @@ use mathlib.Core.Bool.{Bool, true, false}
 use mathlib.Core.List.{List, [], _∷_, _++_}
 use Prim.Native.Nat.{ℕ, zero, suc, _+_, _/_, _%_}
 use lib.Dec.{ltb}
-
-abbrev pub pickList : Bool → List ℕ → List ℕ → List ℕ
-pickList true a b = a
-pickList false a b = b
+use Rattle.lists.specs.Count.{pickList}
 
 -- the digits of a number; `turns` is above their number
 unfoldable pub decimalIn : ℕ → ℕ → List ℕ

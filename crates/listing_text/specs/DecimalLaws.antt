@@ -9,7 +9,8 @@ use mathlib.Core.Bool.{Bool, true, false}
 use lib.Dec.{ltb}
 use Rattle.catalogue.specs.Hex.{hexDigits, digitOf}
 use Rattle.lists.specs.Table.{tabulate}
-use Rattle.listing_text.specs.Decimal.{decimal, decimalIn, pickList}
+use Rattle.lists.specs.Count.{pickList}
+use Rattle.listing_text.specs.Decimal.{decimal, decimalIn}
 
 -- more turns than there are digits change nothing
 turns-enough : (a b n : ℕ) → n < a → n < b → decimalIn a n ≡ decimalIn b n

@@ -5,7 +5,7 @@ use mathlib.Core.List.{List, [], _∷_, _++_}
 use Prim.Native.Nat.{ℕ, _+_, _-_, _*_, _≤_}
 use lib.Dec.{leb, ltb}
 use lib.ListN.{length, take, drop, replicate}
-use Rattle.lists.specs.Count.{pick}
+use Rattle.lists.specs.Count.{pickList, pick}
 use Rattle.lists.specs.Table.{tabulate}
 use Rattle.little_endian.specs.Number.{le}
 use Rattle.catalogue.specs.Hex.{hexDigits}
@@ -19,7 +19,7 @@ use Rattle.query.specs.declared.search.Report.{Report}
 use Rattle.query.specs.declared.search.Report.the-variants as report
 use Rattle.query.specs.declared.search.PathAnswer.{PathAnswer}
 use Rattle.query.specs.declared.search.PathAnswer.the-variants as pathAnswer
-use Rattle.listing_text.specs.Decimal.{decimal, pickList}
+use Rattle.listing_text.specs.Decimal.{decimal}
 use Rattle.listing_text.specs.declared.Text.{Text}
 
 -- the words, in ASCII

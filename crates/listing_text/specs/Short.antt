@@ -28,7 +28,8 @@ use Rattle.query.specs.Search.{storedHash, reportOf, entryNumbers, firstMatch, 
 use Rattle.query.specs.declared.search.Report.{Report}
 use Rattle.query.specs.declared.search.Report.the-variants as report
 use Rattle.query.specs.declared.search.PathAnswer.the-variants as pathAnswer
-use Rattle.listing_text.specs.Decimal.{decimal, pickList}
+use Rattle.lists.specs.Count.{pickList}
+use Rattle.listing_text.specs.Decimal.{decimal}
 use Rattle.listing_text.specs.DecimalLaws.{decimal-digit, decimal-more}
 use Rattle.listing_text.specs.Listing.{line, too-long, reportWord, pathText, acceptedText, refusedText, answerText, fileLimit, listing, room, textOf, Listed}
 use Rattle.listing_text.specs.declared.Text.{Text}

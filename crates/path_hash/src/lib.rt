@@ -4,6 +4,9 @@ ghost use Prim.Native.Nat.{_+_, _*_, _≤_, _<_};
 ghost use lib.ListN.{length, drop, getD};
 ghost use Rattle.path_hash.specs.Hash.{step, plain, vista, xp, xpEnd, eight, eightAt, hash2008, units};
 
+// Where Vista and 2008 start.
+const START: u32 = 314159;
+
 // The plain step.
 fn next(h: u32, c: u32) -> u32
     ensures { λ r. ⌜ r ≡ step h c ⌝ }
@@ -53,7 +56,7 @@ fn plain_from(from: u32, cs: &[u32]) -> u32
 pub fn vista_hash(cs: &[u32]) -> u32
     ensures { λ r. ⌜ r ≡ vista (now (cs .entry)) ⌝ }
 {
-    plain_from(314159, cs)
+    plain_from(START, cs)
 }
 
 pub fn xp_hash(cs: &[u32]) -> u32
@@ -83,7 +86,7 @@ fn eight_at(h: u32, cs: &[u32], i: usize) -> u32
 pub fn hash_2008(cs: &[u32]) -> u32
     ensures { λ r. ⌜ r ≡ hash2008 (now (cs .entry)) ⌝ }
 {
-    let mut h = 314159;
+    let mut h = START;
     let mut i = 0;
     while 8 < cs.len() - i {
         h = eight_at(h, cs, i);
@@ -132,28 +135,37 @@ fn eight_units(h: u32, s: &[u8], i: usize) -> u32
     eight_step(h, c0, c1, c2, c3, c4, c5, c6, c7)
 }
 
-// The hashes of a text's 16-bit units, given as bytes, the low one first. An odd last byte is ignored.
-pub fn vista_hash_units(text: &[u8]) -> u32
-    ensures { λ r. ⌜ r ≡ vista (units (now (text .entry))) ⌝ }
-{
-    plain_units(314159, text, 0)
-}
-
-pub fn xp_hash_units(text: &[u8]) -> u32
-    ensures { λ r. ⌜ r ≡ xp (units (now (text .entry))) ⌝ }
-{
-    signed_end(plain_units(0, text, 0))
-}
-
-pub fn hash_2008_units(text: &[u8]) -> u32
-    ensures { λ r. ⌜ r ≡ hash2008 (units (now (text .entry))) ⌝ }
+// The plain step at each unit of a text, eight at a time while more than eight remain: one multiplication of the hash serves
+// eight units.
+fn hash_units(from: u32, text: &[u8]) -> u32
+    ensures { λ r. ⌜ r ≡ plain from (units (now (text .entry))) ⌝ }
 {
     let n = text.len() / 2;
-    let mut h = 314159;
+    let mut h = from;
     let mut i = 0;
     while 8 < n - i {
         h = eight_units(h, text, i);
         i += 8;
     }
     plain_units(h, text, i)
+}
+
+// The hashes of a text's 16-bit units, given as bytes, the low one first. An odd last byte is ignored.
+pub fn vista_hash_units(text: &[u8]) -> u32
+    ensures { λ r. ⌜ r ≡ vista (units (now (text .entry))) ⌝ }
+{
+    hash_units(START, text)
+}
+
+pub fn xp_hash_units(text: &[u8]) -> u32
+    ensures { λ r. ⌜ r ≡ xp (units (now (text .entry))) ⌝ }
+{
+    signed_end(hash_units(0, text))
+}
+
+// Vista and 2008 are equal on every list (`vista-2008`).
+pub fn hash_2008_units(text: &[u8]) -> u32
+    ensures { λ r. ⌜ r ≡ hash2008 (units (now (text .entry))) ⌝ }
+{
+    hash_units(START, text)
 }

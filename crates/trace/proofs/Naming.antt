@@ -2,8 +2,9 @@
 use mathlib.Core.Path.{_≡_, refl, sym, ap, _∙_}
 use mathlib.Core.Bool.{Bool, true, false}
 use mathlib.Core.List.{List}
-use Prim.Native.Nat.{ℕ, suc, _≤_, _<_, min}
-use native.Mathlib.Nat.{le-refl}
+use mathlib.Core.Logic.{⊎-elim}
+use Prim.Native.Nat.{ℕ, suc, _+_, _≤_, _<_, min}
+use native.Mathlib.Nat.{le-refl, eq-or-lt-of-le}
 use native.Mathlib.Decide.{ℕ-discrete, decLt}
 use native.Mathlib.Omega.{arith}
 use lib.Dec.{eqb, ltb}
@@ -57,6 +58,10 @@ least-none s n =
       below = λ k h. le-ltb 1 (namers s 0 k) (omega (arith, count-zero (λ m. eqb (after s m) k)));
       here = λ h. absurd (omega arith);
     }
+
+-- no entry before i is astray, nor is i
+pub none-more : (p : ℕ → Bool) (i : ℕ) → ((k : ℕ) → k < i → p k ≡ false) → p i ≡ false → (k : ℕ) → k < i + 1 → p k ≡ false
+none-more p i f e k l = ⊎-elim (λ (z : k ≡ i). ap p z ∙ e) (λ (z : k < i). f k z) (eq-or-lt-of-le {n = k} {m = i} (omega arith))
 
 -- entry i is passed; v is what the table held for the entry that it names
 module _ (s : List ℕ) (i n r v : ℕ) (small : n ≤ end) (l : i ≤ end) (q : Least (sharedBy s i) n r) where

@@ -12,7 +12,7 @@ use lib.ListN.{length, getD}
 use Rattle.lists.specs.Count.{count, pick, count-same}
 use Rattle.incremental.specs.Decision.{accept}
 use Rattle.trace.specs.Links.{end, after, namers, chains, predecessor, predecessors, linkChecks}
-use Rattle.trace.specs.Accepted.{accepted}
+use Rattle.trace.specs.Accepted.{Sound, accepted}
 use Rattle.trace.specs.Predecessors.{Named, none, one, named, at-predecessors}
 
 -- how many entries have the end as next
@@ -69,17 +69,19 @@ ends-or-on s n (suc i) l h = go (ends-or-on s n i l (λ k q. h k (omega arith)))
         (λ q. rw (ne-eqb (after s i) end (λ z. omega arith), lt-ltb (after s i) n q) (omega arith))
         o
 
--- there are as many chains as entries that end one
-pub chains-ends : (s : List ℕ) (n : ℕ) → length s ≤ end → linkChecks s ≡ accept n → chains s ≡ ends s
+-- there are as many chains as entries that end one, where checks 11 and 12 pass
+pub chains-are-ends : (s : List ℕ) → length s ≤ end → Sound s → ((j : ℕ) → j < length s → namers s (length s) j ≤ 1) → chains s ≡ ends s
 unfolding chains namers
-chains-ends s n l e =
-    let a = accepted s n e in
+chains-are-ends s l sound once =
     omega (
       arith,
-      zeros-and-ones (namers s (length s)) (length s) (a .once),
+      zeros-and-ones (namers s (length s)) (length s) once,
       all-named s (length s) (length s),
-      ends-or-on s (length s) (length s) l (a .sound),
+      ends-or-on s (length s) (length s) l sound,
     )
+
+pub chains-ends : (s : List ℕ) (n : ℕ) → length s ≤ end → linkChecks s ≡ accept n → chains s ≡ ends s
+chains-ends s n l e = let a = accepted s n e in chains-are-ends s l (a .sound) (a .once)
 
 -- the chain count from the table: its places below the number of entries that hold the end
 pub chains-table : (s : List ℕ) (m : ℕ) → length s ≤ end → length s ≤ m → count (λ k. eqb (getD (predecessors s m) k 0) end) (length s) ≡ chains s

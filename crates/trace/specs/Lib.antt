@@ -4,6 +4,7 @@ pub mod Cycles
 pub mod Accepted
 pub mod Predecessors
 pub mod Chains
+pub mod Forward
 pub mod OneChain
 pub mod Points
 pub mod Answers

@@ -1,15 +1,15 @@
 // Checks 11 to 13 on the next indexes of a trace section, the table of predecessors and the chain count.
 ghost use mathlib.Core.Path.{_≡_};
+ghost use mathlib.Core.Bool.{true};
 ghost use mathlib.Core.Logic.{_⊎_};
-ghost use Prim.Native.Nat.{_*_, _≤_, _<_};
-ghost use lib.Dec.{eqb};
-ghost use lib.ListN.{length, getD};
+ghost use Prim.Native.Nat.{_*_, _<_};
+ghost use lib.ListN.{length};
 ghost use Rattle.lists.specs.First.{foundBelow};
-ghost use Rattle.lists.specs.Count.{count};
 ghost use Rattle.little_endian.specs.Number.{le};
-ghost use Rattle.trace.specs.Links.{end, nexts, filled, LinkAnswer};
+ghost use Rattle.trace.specs.Links.{end, nexts, filled, predecessors, LinkAnswer};
 ghost use Rattle.trace.specs.Accepted.{Distinct};
-ghost use Rattle.trace.specs.Answers.{firstAstray, firstCyclic, cycleChecks, sharedChecks, Ready, Cleared, Stored, Tabled, Answered};
+ghost use Rattle.trace.specs.Forward.{Forward};
+ghost use Rattle.trace.specs.Answers.{firstCyclic, cycleChecks, entryChecks, Ready, Blank, Cleared, Clean, Stored, Passed, Answered};
 use incremental::Refusal;
 use lists::Found;
 
@@ -19,6 +19,14 @@ const END: u32 = 4294967295;
 pub enum Links {
     Chains(usize),
     Refused(Refusal),
+}
+
+// What the pass for checks 11 and 12 finds: the first entry astray, the smallest entry that two entries name, or the number of
+// entries that end a chain.
+enum Pass {
+    Astray(usize),
+    Shared(usize),
+    Clear(usize),
 }
 
 // The next index of entry i.
@@ -50,23 +58,6 @@ pub fn fill(buffer: &mut [u32])
     }
 }
 
-// Check 11: the first entry whose next index is neither END nor an entry.
-fn first_astray(section: &[u8], entries: u32) -> Found
-    ensures { λ r. ⌜ r ≡ firstAstray (nexts (now (section .entry)) entries) ⌝ }
-{
-    let mut i = 0;
-    while i < entries {
-        let next = next_at(section, i);
-        if next != END {
-            if entries <= next {
-                return Found::At(i as usize);
-            }
-        }
-        i += 1;
-    }
-    Found::Nothing
-}
-
 // Entry i names `next`, whose place comes to hold i, or ends a chain. `least` is the smallest entry that was named twice so far.
 fn store_predecessor(buffer: &mut [u32], i: u32, next: u32, least: u32) -> u32
     requires { ⌜ (next ≡ end) ⊎ (next < length (now buffer)) ⌝ }
@@ -84,28 +75,40 @@ fn store_predecessor(buffer: &mut [u32], i: u32, next: u32, least: u32) -> u32
     if next < least { next } else { least }
 }
 
-// Check 12: the smallest entry that two entries name. A filled buffer becomes the table of predecessors.
-fn store_predecessors(section: &[u8], entries: u32, buffer: &mut [u32]) -> Found
-    requires { ⌜ Cleared (nexts (now section) entries) (now buffer) ⌝ }
-    ensures { λ r. ⌜ Tabled (nexts (now (section .entry)) entries) (length (now (buffer .entry))) r (now (buffer .exit)) ⌝ }
+// Checks 11 and 12: the first entry astray, or else the smallest entry that two entries name, or else the number of entries that
+// end a chain. A filled buffer becomes the table of predecessors where no entry is astray.
+fn store_predecessors(section: &[u8], entries: u32, buffer: &mut [u32]) -> Pass
+    requires { ⌜ Blank (nexts (now section) entries) (now buffer) ⌝ }
+    ensures { λ r. ⌜ Passed (nexts (now (section .entry)) entries) (length (now (buffer .entry))) r (now (buffer .exit)) ⌝ }
 {
     let mut least = entries;
+    let mut ends: usize = 0;
     let mut i = 0;
     while i < entries {
         let next = next_at(section, i);
+        if next == END {
+            ends += 1;
+        } else {
+            if entries <= next {
+                return Pass::Astray(i as usize);
+            }
+        }
         least = store_predecessor(buffer, i, next, least);
         i += 1;
     }
-    found_below(entries, least)
+    if least < entries {
+        return Pass::Shared(least as usize);
+    }
+    Pass::Clear(ends)
 }
 
 // The table of predecessors, whatever the buffer held.
-fn build_table(section: &[u8], entries: u32, buffer: &mut [u32]) -> Found
+fn build_table(section: &[u8], entries: u32, buffer: &mut [u32])
     requires { ⌜ Ready (nexts (now section) entries) (now buffer) ⌝ }
-    ensures { λ r. ⌜ Tabled (nexts (now (section .entry)) entries) (length (now (buffer .entry))) r (now (buffer .exit)) ⌝ }
+    ensures { λ _. ⌜ now (buffer .exit) ≡ predecessors (nexts (now (section .entry)) entries) (length (now (buffer .entry))) ⌝ }
 {
     fill(buffer);
-    store_predecessors(section, entries, buffer)
+    store_predecessors(section, entries, buffer);
 }
 
 // Check 13: the smallest entry on a cycle. Each entry is walked over once: its place then holds the walk's first entry. A walk
@@ -142,25 +145,9 @@ fn find_cycle(section: &[u8], entries: u32, buffer: &mut [u32]) -> Found
     first_cyclic(section, entries, buffer)
 }
 
-// The chain count: the entries without a predecessor.
-fn chain_count(entries: u32, table: &[u32]) -> usize
-    requires { ⌜ entries ≤ length (now table) ⌝ }
-    ensures { λ r. ⌜ r ≡ count (λ k. eqb (getD (now (table .entry)) k 0) end) entries ⌝ }
-{
-    let mut chains: usize = 0;
-    let mut i = 0;
-    while i < entries {
-        if table[i as usize] == END {
-            chains += 1;
-        }
-        i += 1;
-    }
-    chains
-}
-
-// Check 13, and the table of predecessors built again where it passes.
-fn check_cycles(section: &[u8], entries: u32, buffer: &mut [u32]) -> Links
-    requires { ⌜ Ready (nexts (now section) entries) (now buffer) × Distinct (nexts (now section) entries) ⌝ }
+// Check 13, and the table of predecessors built again where it passes. `ends` is the number of entries that end a chain.
+fn check_cycles(section: &[u8], entries: u32, ends: usize, buffer: &mut [u32]) -> Links
+    requires { ⌜ Clean (nexts (now section) entries) ends (now buffer) ⌝ }
     ensures { λ r. ⌜ Answered (cycleChecks (nexts (now (section .entry)) entries)) (nexts (now (section .entry)) entries) (length (now (buffer .entry))) r (now (buffer .exit)) ⌝ }
 {
     let found = find_cycle(section, entries, buffer);
@@ -172,23 +159,57 @@ fn check_cycles(section: &[u8], entries: u32, buffer: &mut [u32]) -> Links
         });
     }
     build_table(section, entries, buffer);
-    Links::Chains(chain_count(entries, buffer))
+    Links::Chains(ends)
 }
 
-// Checks 12 and 13.
-fn check_shared(section: &[u8], entries: u32, buffer: &mut [u32]) -> Links
-    requires { ⌜ Ready (nexts (now section) entries) (now buffer) ⌝ }
-    ensures { λ r. ⌜ Answered (sharedChecks (nexts (now (section .entry)) entries)) (nexts (now (section .entry)) entries) (length (now (buffer .entry))) r (now (buffer .exit)) ⌝ }
+// Whether every next index is above its own. Where it is, as in the files that Windows writes, no entry is on a cycle.
+fn leads_on(section: &[u8], entries: u32) -> bool
+    ensures { λ r. ⌜ (r ≡ true → Forward (nexts (now (section .entry)) entries)) ⌝ }
 {
-    let found = build_table(section, entries, buffer);
-    if let Found::At(i) = found {
-        fill(buffer);
-        return Links::Refused(Refusal {
-            number: 12,
-            index: i,
-        });
+    let mut i = 0;
+    while i < entries {
+        if next_at(section, i) <= i {
+            return false;
+        }
+        i += 1;
     }
-    check_cycles(section, entries, buffer)
+    true
+}
+
+// Check 13. Links that only lead on need no walk, and the table stands as it is.
+fn check_order(section: &[u8], entries: u32, ends: usize, buffer: &mut [u32]) -> Links
+    requires { ⌜ Clean (nexts (now section) entries) ends (now buffer) ⌝ }
+    ensures { λ r. ⌜ Answered (cycleChecks (nexts (now (section .entry)) entries)) (nexts (now (section .entry)) entries) (length (now (buffer .entry))) r (now (buffer .exit)) ⌝ }
+{
+    if leads_on(section, entries) {
+        return Links::Chains(ends);
+    }
+    check_cycles(section, entries, ends, buffer)
+}
+
+// Checks 11 to 13 with a filled buffer.
+fn check_entries(section: &[u8], entries: u32, buffer: &mut [u32]) -> Links
+    requires { ⌜ Blank (nexts (now section) entries) (now buffer) ⌝ }
+    ensures { λ r. ⌜ Answered (entryChecks (nexts (now (section .entry)) entries)) (nexts (now (section .entry)) entries) (length (now (buffer .entry))) r (now (buffer .exit)) ⌝ }
+{
+    let pass = store_predecessors(section, entries, buffer);
+    match pass {
+        Pass::Astray(i) => {
+            fill(buffer);
+            Links::Refused(Refusal {
+                number: 11,
+                index: i,
+            })
+        }
+        Pass::Shared(i) => {
+            fill(buffer);
+            Links::Refused(Refusal {
+                number: 12,
+                index: i,
+            })
+        }
+        Pass::Clear(ends) => check_order(section, entries, ends, buffer),
+    }
 }
 
 // Check 7, then checks 11 to 13 on the section's first `entries` entries. Where all pass, the buffer becomes the table of
@@ -203,13 +224,6 @@ pub fn check_links(section: &[u8], entries: u32, predecessors: &mut [u32]) -> Li
             index: 0,
         });
     }
-    let found = first_astray(section, entries);
-    if let Found::At(i) = found {
-        fill(predecessors);
-        return Links::Refused(Refusal {
-            number: 11,
-            index: i,
-        });
-    }
-    check_shared(section, entries, predecessors)
+    fill(predecessors);
+    check_entries(section, entries, predecessors)
 }

@@ -19,6 +19,7 @@ pub fn run(run: &Run, tally: &mut Tally) {
     example(tally);
     lengths(&mut random, tally);
     places(&mut random, tally);
+    found_paths(&mut random, tally);
     for _ in 0..520 * run.scale {
         written(&any(&mut random).bytes, tally);
         written(&cut_or_longer(&mut random).bytes, tally);
@@ -70,6 +71,23 @@ fn places(random: &mut Random, tally: &mut Tally) {
             set_32(&mut file, 96, count);
             written(&file, tally);
         }
+    }
+}
+
+/// Files of each version whose path is found.
+fn found_paths(random: &mut Random, tally: &mut Tally) {
+    for layout in &LAYOUTS {
+        let mut found = 0;
+        for _ in 0..200 {
+            let counts = Counts { metrics: 4, trace: 5, volumes: 2 };
+            let file = sound_of(random, layout, counts).bytes;
+            if listing(&file).ends_with("path none\n") {
+                continue;
+            }
+            found += 1;
+            written(&file, tally);
+        }
+        tally.holds("a found path", found > 0, || layout.version.to_string());
     }
 }
 

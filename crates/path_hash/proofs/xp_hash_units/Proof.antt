@@ -5,12 +5,12 @@ use Rattle.path_hash.proofs.xp_hash_units.Statement.{statement}
 use Rattle.path_hash.proofs.xp_hash_units.Tie as tie
 use Rattle.path_hash.proofs.xp_hash_units.Reads as reads
 use Rattle.path_hash.proofs.xp_hash_units.Lts as lts
-use Rattle.path_hash.proofs.plain_units.Reads as plain-units-reads
+use Rattle.path_hash.proofs.hash_units.Reads as hash-units-reads
 use Rattle.path_hash.proofs.signed_end.Reads as signed-end-reads
 
 -- src/lib.rt:154:16
-plain-units-requires : tie.Need-plain-units-requires
-plain-units-requires c κs = search needs
+hash-units-requires : tie.Need-hash-units-requires
+hash-units-requires c κs = search needs
 
 -- src/lib.rt:154:5
 signed-end-requires : tie.Need-signed-end-requires
@@ -18,7 +18,7 @@ signed-end-requires c κs = search needs
 
 -- src/lib.rt:151:1
 returns : tie.Need-returns
-returns c = c .signed-end .ensures ∙ ap xpEnd (c .before .plain-units .ensures)
+returns c = c .signed-end .ensures ∙ ap xpEnd (c .before .hash-units .ensures)
 
 pub xp-hash-units-spec : {M : Type 1} → statement M
-xp-hash-units-spec = tie.close (tie.spec plain-units-requires signed-end-requires returns)
+xp-hash-units-spec = tie.close (tie.spec hash-units-requires signed-end-requires returns)

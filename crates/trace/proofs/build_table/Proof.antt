@@ -1,8 +1,8 @@
 use mathlib.Core.Path.{_≡_, sym, _∙_, ap}
 use native.Mathlib.Omega.{arith}
 use lib.ListN.{length}
-use borrow.Author.Needs.{needs}
 use Rattle.trace.specs.Links.{nexts, filled, predecessors}
+use borrow.Author.Needs.{needs}
 use Rattle.trace.proofs.build_table.Statement.{statement}
 use Rattle.trace.proofs.build_table.Tie as tie
 
@@ -13,20 +13,15 @@ store-predecessors-requires : tie.Need-store-predecessors-requires
 store-predecessors-requires c κs = let f = c .before .before .before .fill in
     let a = c .before .before .before .before .before .before .before in
     let e : length (f .last .0) ≡ length (a .args .buffer .now) = f .kept .0 in
-    record {
-      ready = record { room = omega (arith, e, a .pre .room); sound = a .pre .sound };
-      clear = f .ensures ∙ ap filled (sym e);
-    }
+    record { room = omega (arith, e, a .pre .room); clear = f .ensures ∙ ap filled (sym e) }
 
 same-length : tie.Need-same-length
 same-length c = search needs
 
 returns : tie.Need-returns
-returns c = let f = c .before .before .before .before .before .before .fill in
-    let a = c .before .before .before .before .before .before .before .before .before .before in
+returns c = let a = c .before .before .before .before .before .before .before .before .before .before in
     let s = nexts (a .args .section .now) (a .args .entries) in
-    let q = c .before .before .store-predecessors .ensures in
-    record { found = q .found; holds = q .holds ∙ ap (predecessors s) (f .kept .0) }
+    c .before .before .store-predecessors .ensures .holds (a .pre .sound) ∙ ap (predecessors s) (c .before .before .before .before .before .before .fill .kept .0)
 
 pub build-table-spec : {M : Type 1} → statement M
 build-table-spec =

@@ -1,42 +1,103 @@
-use mathlib.Core.Logic.{inl, inr, ⊎-elim}
+use mathlib.Core.Logic.{_⊎_, inl, inr, ⊎-elim}
 use mathlib.Core.Path.{_≡_, sym, _∙_, ap}
 use mathlib.Core.List.{List}
-use Prim.Native.Nat.{ℕ, _-_, _≤_, _<_}
+use mathlib.Core.Bool.{true, false}
+use Prim.Native.Nat.{ℕ, _+_, _-_, _≤_, _<_}
 use native.Mathlib.Omega.{arith}
 use native.Mathlib.Numerals.{add-one}
+use lib.Dec.{eqb}
 use lib.ListN.{length, getD}
 use borrow.Author.Tests.{lt-ltb}
 use borrow.Author.Needs.{needs}
-use Rattle.lists.specs.First.{first, Least, least-first}
+use Rattle.lists.specs.First.{Least, first-is-at, first-is-nothing}
+use Rattle.lists.specs.Count.{true-false, count-zero}
 use Rattle.lists.specs.Table.{length-tabulate, getD-tabulate}
-use Rattle.trace.specs.Links.{end, nexts, after, shared, predecessors}
+use Rattle.trace.specs.declared.Pass.the-variants.{Clear}
+use Rattle.trace.specs.Links.{end, nexts, after, astray, namers, shared, predecessors}
 use Rattle.trace.specs.Steps.{length-nexts, after-nexts}
-use Rattle.trace.proofs.Naming.{sharedBy, place, table, table-none, table-end, table-more, least-none, least-end, least-more}
+use Rattle.trace.specs.Accepted.{astray-yes, astray-below, astray-end}
+use Rattle.trace.specs.Answers.{firstAstray, firstShared}
+use Rattle.trace.specs.Predecessors.{namers-same, namers-other}
+use Rattle.trace.proofs.Naming.{sharedBy, place, table, table-none, table-end, table-more, least-none, least-end, least-more, none-more}
 use Rattle.trace.proofs.store_predecessors.Statement.{statement}
 use Rattle.trace.proofs.store_predecessors.Tie as tie
 
 abbrev Inv-loop : tie.InvT-loop
-Inv-loop section entries buffer₀ least₀ i₀ buffer least i = (i ≤ entries) × (buffer ≡ table (nexts section entries) (length buffer₀) i) × Least (sharedBy (nexts section entries) i) entries least
+Inv-loop section entries buffer₀ least₀ ends₀ i₀ buffer least ends i =
+    (i ≤ entries)
+    × (buffer ≡ table (nexts section entries) (length buffer₀) i)
+    × Least (sharedBy (nexts section entries) i) entries least
+    × (ends ≤ i)
+    × (ends ≡ namers (nexts section entries) i end)
+    × ((k : ℕ) → k < i → astray (nexts section entries) k ≡ false)
 
 abbrev μ-loop : tie.MeasureT-loop
-μ-loop section entries buffer₀ least₀ i₀ buffer least i = entries - i
+μ-loop section entries buffer₀ least₀ ends₀ i₀ buffer least ends i = entries - i
 
 loop-holds : tie.Need-loop-holds Inv-loop μ-loop
+unfolding namers
 loop-holds c = let a = c .before .before in
-    let s = nexts (a .args .section .now) (a .args .entries) in
-    (omega arith, a .pre .clear ∙ table-none s (length (a .args .buffer .now)), least-none s (a .args .entries))
+    let s = nexts (a .args .section .now) (a .args .entries) in (
+      omega arith,
+      a .pre .clear ∙ table-none s (length (a .args .buffer .now)),
+      least-none s (a .args .entries),
+      omega arith,
+      sym (count-zero (λ k. eqb (after s k) end)),
+      (λ k l. absurd (omega arith)),
+    )
 
 next-at-requires : tie.Need-next-at-requires Inv-loop μ-loop
 next-at-requires c κs = search needs
 
-store-predecessor-requires : tie.Need-store-predecessor-requires Inv-loop μ-loop
-store-predecessor-requires c κs = let b = c .before .before .before in
+add-ends : tie.Need-add-ends Inv-loop μ-loop
+add-ends c = search needs
+
+cast-t10 : tie.Need-cast-t10 Inv-loop μ-loop
+cast-t10 c = search needs
+
+same-length : tie.Need-same-length Inv-loop μ-loop
+same-length c = ap length (c .before .before .before .before .loop .inv .1) ∙ length-tabulate _ _
+
+returns : tie.Need-returns Inv-loop μ-loop
+returns c = let b = c .before .before .before .before in
     let a = b .before .before .before in
+    let v = b .loop .inv in
+    let i = b .loop .i in
     let s = nexts (a .args .section .now) (a .args .entries) in
     let n = length-nexts (a .args .section .now) (a .args .entries) in
-    let e : c .before .next-at .result ≡ after s (b .loop .i) = c .before .next-at .ensures ∙ sym (after-nexts (a .args .section .now) (a .args .entries) (b .loop .i) (omega arith)) in
+    let e : after s i ≡ c .before .before .next-at .result = after-nexts (a .args .section .now) (a .args .entries) i (omega arith) ∙ sym (c .before .before .next-at .ensures) in
+    let h : astray s i ≡ true = astray-yes s i (λ z. c .before .if1 .left (sym e ∙ z)) (omega (arith, n, e)) in
+    let f : firstAstray s ≡ _ = first-is-at (astray s) (length s) i (omega (arith, n)) h (v .5) in
+    record {
+      found = rw f;
+      holds = λ z. absurd (⊎-elim (λ y. true-false (sym h ∙ astray-end s i y)) (λ y. true-false (sym h ∙ astray-below s i y)) (z i (omega (arith, n))));
+    }
+
+-- entry i ends a chain, and is counted, or names an entry
+stepped : (c : tie.Joined1 Inv-loop μ-loop) → let b = c .before .before .before in
+    let a = b .before .before .before .args in
+    let s = nexts (a .section .now) (a .entries) in
+    (c .before .next-at .result ≡ after s (b .loop .i))
+    × (((after s (b .loop .i) ≡ end) × (c .if1 .ends ≡ b .loop .ends + 1)) ⊎ ((after s (b .loop .i) < length s) × (c .if1 .ends ≡ b .loop .ends)))
+stepped c = let b = c .before .before .before in
+    let a = b .before .before .before .args in
+    let s = nexts (a .section .now) (a .entries) in
+    let n = length-nexts (a .section .now) (a .entries) in
+    let l : b .loop .i < a .entries = c .before .before .loop-test .taken in
+    let e : after s (b .loop .i) ≡ c .before .next-at .result = after-nexts (a .section .now) (a .entries) (b .loop .i) l ∙ sym (c .before .next-at .ensures) in (
+      sym e,
+      ⊎-elim
+          (λ w. inl (e ∙ w .0 .taken, w .1))
+          (λ w. inr (omega (arith, n, e, w .1 .left), w .2))
+          (c .if1 .came),
+    )
+
+store-predecessor-requires : tie.Need-store-predecessor-requires Inv-loop μ-loop
+store-predecessor-requires c κs = let b = c .before .before .before .before in
+    let a = b .before .before .before in
+    let w = stepped (c .before) in
     let l : length (b .loop .buffer) ≡ length (a .args .buffer .now) = ap length (b .loop .inv .1) ∙ length-tabulate _ _ in
-    ⊎-elim (λ z. inl (e ∙ z)) (λ z. inr (omega (arith, e, z, l, a .pre .ready .room))) (a .pre .ready .sound (b .loop .i) (omega arith))
+    ⊎-elim (λ z. inl (w .0 ∙ z .0)) (λ z. inr (omega (arith, w .0, z .0, l, a .pre .room))) (w .1)
 
 add-i : tie.Need-add-i Inv-loop μ-loop
 add-i c = search needs
@@ -45,7 +106,7 @@ loop-less : tie.Need-loop-less Inv-loop μ-loop
 loop-less c = search needs
 
 loop-again : tie.Need-loop-again Inv-loop μ-loop
-loop-again c = let b = c .before .before .before .before .before .before in
+loop-again c = let b = c .before .before .before .before .before .before .before in
     let a = b .before .before .before in
     let v = b .loop .inv in
     let i = b .loop .i in
@@ -53,41 +114,69 @@ loop-again c = let b = c .before .before .before .before .before .before in
     let s = nexts (a .args .section .now) (a .args .entries) in
     let n = length-nexts (a .args .section .now) (a .args .entries) in
     let d = c .before .before .store-predecessor .ensures in
-    let e : c .before .before .before .before .next-at .result ≡ after s i = c .before .before .before .before .next-at .ensures ∙ sym (after-nexts (a .args .section .now) (a .args .entries) i (omega arith)) in
+    let w = stepped (c .before .before .before .before) in
     let small : length s ≤ end = omega (arith, n, a .fits .entries) in
+    let at-most : i ≤ end = omega (arith, a .fits .entries) in
     ⊎-elim
-    (λ (z : after s i ≡ end). let q = d .ends (e ∙ z) in (
+    (λ (z : (after s i ≡ end) × (c .before .before .before .before .if1 .ends ≡ b .loop .ends + 1)). let q = d .ends (w .0 ∙ z .0) in (
       omega arith,
-      rw add-one (q .1 ∙ v .1 ∙ table-end s m i small z),
-      rw add-one (rw (q .0) (least-end s i (a .args .entries) (b .loop .least) 0 (omega arith) (omega arith) (v .2) z)),
+      rw add-one (q .1 ∙ v .1 ∙ table-end s m i small (z .0)),
+      rw add-one (rw (q .0) (least-end s i (a .args .entries) (b .loop .least) 0 (omega arith) at-most (v .2) (z .0))),
+      omega (arith, z .1),
+      rw add-one (omega (arith, z .1, v .4, namers-same s i end (z .0))),
+      none-more (astray s) i (v .5) (astray-end s i (z .0)),
     ))
-    (λ (z : after s i < length s). let q = d .names (λ y. omega (arith, e, y)) in (
+    (λ (z : (after s i < length s) × (c .before .before .before .before .if1 .ends ≡ b .loop .ends)). let q = d .names (λ y. omega (arith, w .0, y, z .0)) in (
       omega arith,
-      rw add-one (q .1 ∙ rw (v .1, e) (table-more s m i z)),
+      rw add-one (q .1 ∙ rw (v .1, w .0) (table-more s m i (z .0))),
       rw add-one
-          (rw (q .0, e)
-          (least-more s i (a .args .entries) (b .loop .least) (getD (b .loop .buffer) (after s i) 0) (omega arith) (omega arith) (v .2) (omega (arith, n))
-          (ap (λ (l : List ℕ). getD l (after s i) 0) (v .1) ∙ getD-tabulate m (place s i) (after s i) 0 (omega (arith, a .pre .ready .room)) ∙ rw (lt-ltb (after s i) (length s) z)))),
+          (rw (q .0, w .0)
+          (least-more s i (a .args .entries) (b .loop .least) (getD (b .loop .buffer) (after s i) 0) (omega arith) at-most (v .2) (omega (arith, n, z .0))
+          (ap (λ (l : List ℕ). getD l (after s i) 0) (v .1)
+          ∙ getD-tabulate m (place s i) (after s i) 0 (omega (arith, a .pre .room, z .0))
+          ∙ rw (lt-ltb (after s i) (length s) (z .0))))),
+      omega (arith, z .1),
+      rw add-one (omega (arith, z .1, v .4, namers-other s i end (λ y. omega (arith, z .0, y)))),
+      none-more (astray s) i (v .5) (astray-below s i (z .0)),
     ))
-    (a .pre .ready .sound i (omega arith))
+    (w .1)
 
-found-below-requires : tie.Need-found-below-requires Inv-loop μ-loop
-found-below-requires c κs = search needs
+cast-t14 : tie.Need-cast-t14 Inv-loop μ-loop
+cast-t14 c = search needs
 
-same-length : tie.Need-same-length Inv-loop μ-loop
-same-length c = ap length (c .before .before .loop .inv .1) ∙ length-tabulate _ _
+same-length-2 : tie.Need-same-length-2 Inv-loop μ-loop
+same-length-2 c = ap length (c .before .before .loop .inv .1) ∙ length-tabulate _ _
 
-returns : tie.Need-returns Inv-loop μ-loop
+returns-2 : tie.Need-returns-2 Inv-loop μ-loop
 unfolding predecessors
-returns c = let b = c .before .before in
+returns-2 c = let b = c .before .before in
     let a = b .before .before .before in
     let v = b .loop .inv in
     let s = nexts (a .args .section .now) (a .args .entries) in
     let n = length-nexts (a .args .section .now) (a .args .entries) in
     let e : b .loop .i ≡ length s = omega arith in
+    let l : Least (shared s) (a .args .entries) (b .loop .least) = rw e at (v .2) in
+    let f : firstAstray s ≡ _ = first-is-nothing (astray s) (length s) (λ k h. v .5 k (omega arith)) in
+    let g : firstShared s ≡ _ = first-is-at (shared s) (length s) (b .loop .least) (omega arith) (l .here (omega arith)) (l .below) in
+    record { found = rw (f, g); holds = λ _. v .1 ∙ ap (table s (length (a .args .buffer .now))) e }
+
+same-length-3 : tie.Need-same-length-3 Inv-loop μ-loop
+same-length-3 c = ap length (c .before .before .loop .inv .1) ∙ length-tabulate _ _
+
+returns-3 : tie.Need-returns-3 Inv-loop μ-loop
+unfolding predecessors
+returns-3 c = let b = c .before .before in
+    let a = b .before .before .before in
+    let v = b .loop .inv in
+    let s = nexts (a .args .section .now) (a .args .entries) in
+    let n = length-nexts (a .args .section .now) (a .args .entries) in
+    let e : b .loop .i ≡ length s = omega arith in
+    let l : Least (shared s) (a .args .entries) (b .loop .least) = rw e at (v .2) in
+    let f : firstAstray s ≡ _ = first-is-nothing (astray s) (length s) (λ k h. v .5 k (omega arith)) in
+    let g : firstShared s ≡ _ = first-is-nothing (shared s) (length s) (λ k h. l .below k (omega (arith, l .most))) in
     record {
-      found = c .found-below .ensures ∙ least-first (shared s) (a .args .entries) (b .loop .least) (rw e at (v .2)) ∙ ap (first (shared s)) (sym n);
-      holds = v .1 ∙ ap (table s (length (a .args .buffer .now))) e;
+      found = rw (f, g) (ap Clear (v .4 ∙ ap (λ (k : ℕ). namers s k end) e));
+      holds = λ _. v .1 ∙ ap (table s (length (a .args .buffer .now))) e;
     }
 
 pub store-predecessors-spec : {M : Type 1} → statement M
@@ -98,10 +187,16 @@ store-predecessors-spec =
     μ-loop
     loop-holds
     next-at-requires
+    add-ends
+    cast-t10
+    same-length
+    returns
     store-predecessor-requires
     add-i
     loop-less
     loop-again
-    found-below-requires
-    same-length
-    returns)
+    cast-t14
+    same-length-2
+    returns-2
+    same-length-3
+    returns-3)

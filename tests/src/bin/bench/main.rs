@@ -17,6 +17,11 @@
 //! The whole reader on files whose entries all name the same bytes. The rules
 //! allow that, and then the work grows with the square of the file's size.
 //!
+//! bench search
+//!
+//! The path search through 10,000 names, none of which has the stored hash,
+//! beside the search of `plain`.
+//!
 //! The two run turn and turn about on the same input, and medians are shown.
 
 mod hashes;
@@ -24,6 +29,8 @@ mod hashes;
 mod overlap;
 #[cfg(feature = "readers")]
 mod readers;
+#[cfg(feature = "queries")]
+mod search;
 mod timing;
 #[cfg(feature = "readers")]
 mod trace;
@@ -39,8 +46,10 @@ fn main() -> ExitCode {
         Some("trace") => trace::run(),
         #[cfg(feature = "readers")]
         Some("overlap") => overlap::run(),
+        #[cfg(feature = "queries")]
+        Some("search") => search::run(),
         _ => {
-            eprintln!("bench hashes | readers | trace | overlap");
+            eprintln!("bench hashes | readers | trace | overlap | search");
             return ExitCode::from(2);
         }
     }

@@ -1,0 +1,49 @@
+use mathlib.Core.Path.{_≡_, refl, sym, _∙_, ap}
+use native.Mathlib.Omega.{arith}
+use lib.ListN.{length}
+use Rattle.incremental.specs.Decision.{accept}
+use Rattle.trace.specs.declared.Links.the-variants.{Chains}
+use Rattle.trace.specs.Steps.{length-nexts}
+use Rattle.trace.specs.Chains.{chains-are-ends}
+use Rattle.trace.specs.Forward.{forward-acyclic}
+use Rattle.trace.specs.Links.{nexts, chains}
+use Rattle.trace.specs.Answers.{firstCyclic, answer-nothing}
+use borrow.Author.Needs.{needs}
+use Rattle.trace.proofs.check_order.Statement.{statement}
+use Rattle.trace.proofs.check_order.Tie as tie
+use Rattle.trace.proofs.check_order.Reads as reads
+use Rattle.trace.proofs.check_order.Lts as lts
+use Rattle.trace.proofs.check_cycles.Reads as check-cycles-reads
+use Rattle.trace.proofs.leads_on.Reads as leads-on-reads
+
+-- src/lib.rt:184:8
+leads-on-requires : tie.Need-leads-on-requires
+leads-on-requires c κs = search needs
+
+-- src/lib.rt:185:9
+returns : tie.Need-returns
+returns c =
+    let a = c .before .before .before .before in
+    let s = nexts (a .args .section .now) (a .args .entries) in
+    let m = length (a .args .buffer .now) in
+    let e = length-nexts (a .args .section .now) (a .args .entries) in
+    let f = forward-acyclic s (omega (arith, e, a .fits .entries)) (a .pre .sound) (c .before .leads-on .ensures (c .if1 .taken)) in
+    let k : a .args .ends ≡ chains s = a .pre .counted ∙ sym (chains-are-ends s (omega (arith, e, a .fits .entries)) (a .pre .sound) (a .pre .once)) in
+    answer-nothing 13 m (firstCyclic s) (firstCyclic s) (accept (chains s)) s (a .args .buffer .now) (Chains (a .args .ends)) refl f
+    (record { answer = ap accept k; holds = a .pre .table })
+
+-- src/lib.rt:187:5
+check-cycles-requires : tie.Need-check-cycles-requires
+check-cycles-requires c κs = search needs
+
+-- src/lib.rt:180:1
+same-length : tie.Need-same-length
+same-length c = search needs
+
+-- src/lib.rt:180:1
+returns-2 : tie.Need-returns-2
+returns-2 c = search needs
+
+pub check-order-spec : {M : Type 1} → statement M
+check-order-spec =
+    tie.close (tie.spec leads-on-requires returns check-cycles-requires same-length returns-2)

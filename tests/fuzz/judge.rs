@@ -1,0 +1,239 @@
+//! The independent reading behind C functions, one beside each of the library's and with the same parameters. It
+//! calls nothing of the library.
+
+#[allow(dead_code)]
+#[path = "../src/reference/mod.rs"]
+mod reference;
+
+use reference::catalogue::{self, Fields};
+use reference::head::{section, VOLUMES};
+use reference::readers::{part_reader, whole_reader, Answer, Verdict};
+use reference::search::{find_path, Report};
+use reference::{hashes, questions};
+
+unsafe fn list<'a, T>(pointer: *const T, length: usize) -> &'a [T] {
+    match length {
+        0 => &[],
+        _ => std::slice::from_raw_parts(pointer, length),
+    }
+}
+
+/// As many of the values as fit.
+unsafe fn write<T: Copy>(place: *mut T, length: usize, values: &[T]) {
+    for (at, value) in values.iter().take(length).enumerate() {
+        *place.add(at) = *value;
+    }
+}
+
+fn numbers_of(verdict: &Verdict) -> (u32, [u64; 13]) {
+    match *verdict {
+        Verdict::Accepted(r) => (
+            0,
+            [
+                0,
+                0,
+                0,
+                r.version,
+                r.declared_size,
+                r.name_units,
+                r.stored_hash,
+                r.run_time,
+                r.run_count,
+                r.metrics_count,
+                r.trace_count,
+                r.volume_count,
+                r.chain_count,
+            ],
+        ),
+        Verdict::Refused(r) => (1, [r.number, r.index, 0, 0, 0, 0, 0, 0, 0, 0, 0, 0, 0]),
+        Verdict::Wanted(bytes) => (2, [0, 0, bytes, 0, 0, 0, 0, 0, 0, 0, 0, 0, 0]),
+    }
+}
+
+unsafe fn give(
+    answer: &Answer,
+    table: *mut u32,
+    places: usize,
+    out: *mut u64,
+    length: usize,
+) -> u32 {
+    assert_eq!(answer.buffer.len(), places);
+    let (code, numbers) = numbers_of(&answer.verdict);
+    write(table, places, &answer.buffer);
+    write(out, length, &numbers);
+    code
+}
+
+/// 1 and the numbers, or 0 and as many zeros.
+unsafe fn tell<const N: usize>(numbers: Option<[u64; N]>, out: *mut u64, length: usize) -> u32 {
+    write(out, length, &numbers.unwrap_or([0; N]));
+    u32::from(numbers.is_some())
+}
+
+#[no_mangle]
+pub unsafe extern "C" fn judge_read_prefix(
+    file: *const u8,
+    length: usize,
+    table: *mut u32,
+    places: usize,
+    out: *mut u64,
+    out_length: usize,
+) -> u32 {
+    give(&part_reader(list(file, length), places), table, places, out, out_length)
+}
+
+#[no_mangle]
+pub unsafe extern "C" fn judge_read_file(
+    file: *const u8,
+    length: usize,
+    table: *mut u32,
+    places: usize,
+    out: *mut u64,
+    out_length: usize,
+) -> u32 {
+    give(&whole_reader(list(file, length), places), table, places, out, out_length)
+}
+
+#[no_mangle]
+pub unsafe extern "C" fn judge_program_name(
+    file: *const u8,
+    length: usize,
+    out: *mut u64,
+    out_length: usize,
+) -> u32 {
+    let name = questions::program_name(list(file, length));
+    tell(name.map(|part| [part.offset, part.length]), out, out_length)
+}
+
+#[no_mangle]
+pub unsafe extern "C" fn judge_entry_name(
+    file: *const u8,
+    length: usize,
+    i: u64,
+    out: *mut u64,
+    out_length: usize,
+) -> u32 {
+    let name = questions::entry_name(list(file, length), i);
+    tell(name.map(|part| [part.offset, part.length]), out, out_length)
+}
+
+/// A path of no units stands at the start of the volumes section.
+#[no_mangle]
+pub unsafe extern "C" fn judge_volume(
+    file: *const u8,
+    length: usize,
+    i: u64,
+    out: *mut u64,
+    out_length: usize,
+) -> u32 {
+    let file = list(file, length);
+    let numbers = questions::volume(file, i).map(|v| {
+        let offset = match v.path_has_a_place {
+            true => v.path.offset,
+            false => section(file, VOLUMES).start,
+        };
+        [v.creation_time, v.serial_number, v.references, v.directories, offset, v.path.length]
+    });
+    tell(numbers, out, out_length)
+}
+
+#[no_mangle]
+pub unsafe extern "C" fn judge_reference(
+    file: *const u8,
+    length: usize,
+    i: u64,
+    k: u64,
+    out: *mut u64,
+    out_length: usize,
+) -> u32 {
+    let reference = questions::reference(list(file, length), i, k);
+    tell(reference.map(|r| [r.entry_index, r.sequence_number]), out, out_length)
+}
+
+#[no_mangle]
+pub unsafe extern "C" fn judge_find_path(
+    file: *const u8,
+    length: usize,
+    out: *mut u64,
+    out_length: usize,
+) -> u32 {
+    let numbers = find_path(list(file, length)).map(|found| {
+        let report = match found.report {
+            Report::NoneToMake => 0,
+            Report::VistaOnly => 1,
+            Report::Only2008 => 2,
+            Report::Both => 3,
+        };
+        [found.entry, report]
+    });
+    tell(numbers, out, out_length)
+}
+
+#[no_mangle]
+pub unsafe extern "C" fn judge_hash_xp(numbers: *const u32, count: usize) -> u32 {
+    hashes::xp(list(numbers, count))
+}
+
+#[no_mangle]
+pub unsafe extern "C" fn judge_hash_vista(numbers: *const u32, count: usize) -> u32 {
+    hashes::vista(list(numbers, count))
+}
+
+#[no_mangle]
+pub unsafe extern "C" fn judge_hash_2008(numbers: *const u32, count: usize) -> u32 {
+    hashes::of_2008(list(numbers, count))
+}
+
+#[no_mangle]
+pub unsafe extern "C" fn judge_hash_xp_units(text: *const u8, length: usize) -> u32 {
+    hashes::xp(&hashes::units(list(text, length)))
+}
+
+#[no_mangle]
+pub unsafe extern "C" fn judge_hash_vista_units(text: *const u8, length: usize) -> u32 {
+    hashes::vista(&hashes::units(list(text, length)))
+}
+
+#[no_mangle]
+pub unsafe extern "C" fn judge_hash_2008_units(text: *const u8, length: usize) -> u32 {
+    hashes::of_2008(&hashes::units(list(text, length)))
+}
+
+#[no_mangle]
+pub unsafe extern "C" fn judge_catalogue_read(
+    line: *const u8,
+    length: usize,
+    out: *mut u64,
+    out_length: usize,
+) -> u32 {
+    let fields = catalogue::read(list(line, length));
+    let numbers = fields.map(|f| [f.size, f.stored_hash, f.run_count, f.version]);
+    match tell(numbers, out, out_length) {
+        1 => 0,
+        _ => 18,
+    }
+}
+
+#[no_mangle]
+pub unsafe extern "C" fn judge_catalogue_write(
+    size: u32,
+    stored_hash: u32,
+    run_count: u32,
+    version: u32,
+    output: *mut u8,
+    length: usize,
+) -> u32 {
+    let fields = Fields {
+        size: size.into(),
+        stored_hash: stored_hash.into(),
+        run_count: run_count.into(),
+        version: version.into(),
+    };
+    match catalogue::write(&fields) {
+        Some(line) if line.len() <= length => {
+            write(output, length, &line);
+            0
+        }
+        _ => 19,
+    }
+}

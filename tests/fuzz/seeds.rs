@@ -1,0 +1,82 @@
+//! seeds FOLDER FILE..
+//!
+//! Writes inputs for the fuzzer to start from: the files given, and of each version sound files, a file damaged for
+//! each check, and cuts. The same bytes every time.
+
+use compare::generate::cuts::cuts;
+use compare::generate::damage::{damage, AIMS};
+use compare::generate::{sound_of, Counts, Sample};
+use compare::random::Random;
+use compare::reference::layout::LAYOUTS;
+use std::io;
+use std::path::{Path, PathBuf};
+
+/// A call number that stands for all of them, and one for each of the two lines.
+const ALL: u8 = 255;
+const CATALOGUE_READ: u8 = 13;
+const CATALOGUE_WRITE: u8 = 14;
+/// Places as the trace count says, one fewer, or none.
+const EXACT: u8 = 0;
+const FEWER: u8 = 3;
+
+struct Seeds {
+    folder: PathBuf,
+    count: usize,
+}
+
+impl Seeds {
+    /// The choices as harness.c takes them, then the bytes.
+    fn add(&mut self, call: u8, places: u8, i: u64, k: u64, bytes: &[u8]) -> io::Result<()> {
+        let mut input =
+            vec![call, self.count as u8 % 32, 13 + self.count as u8 % 4, places, 0, 0, 0, 0];
+        input.extend(i.to_le_bytes());
+        input.extend(k.to_le_bytes());
+        input.extend((self.count as u32).to_le_bytes());
+        input.extend([25 + self.count as u8 % 3, 0, 0, 0]);
+        input.extend(bytes);
+        std::fs::write(self.folder.join(format!("seed-{:03}", self.count)), input)?;
+        self.count += 1;
+        Ok(())
+    }
+
+    fn versions(&mut self, random: &mut Random) -> io::Result<()> {
+        for layout in &LAYOUTS {
+            for (metrics, trace, volumes) in [(0, 0, 0), (1, 2, 1), (3, 5, 2), (5, 9, 3)] {
+                let sample = sound_of(random, layout, Counts { metrics, trace, volumes });
+                self.add(ALL, EXACT, 1, 1, &sample.bytes)?;
+                let cut = *random.pick(&cuts(&sample));
+                self.add(ALL, EXACT, 0, 0, &sample.bytes[..cut])?;
+            }
+            for number in AIMS {
+                let mut sample: Sample =
+                    sound_of(random, layout, Counts { metrics: 3, trace: 5, volumes: 2 });
+                damage(random, &mut sample, number);
+                let places = if number == 7 { FEWER } else { EXACT };
+                self.add(ALL, places, 1, 1, &sample.bytes)?;
+            }
+        }
+        Ok(())
+    }
+
+    fn lines(&mut self) -> io::Result<()> {
+        self.add(CATALOGUE_READ, EXACT, 0, 0, b"000094000000410000000111\n")?;
+        self.add(CATALOGUE_READ, EXACT, 0, 0, b"FFFFFFDEADBEEF0000002A17\n")?;
+        self.add(CATALOGUE_READ, EXACT, 0, 0, b"0000D400000041000000011A\n")?;
+        for (size, version) in [(148, 17), (156, 23), (212, 26), (16_777_215, 26), (147, 17)] {
+            self.add(CATALOGUE_WRITE, EXACT, 65 << 32 | size, version << 32 | 1, &[])?;
+        }
+        Ok(())
+    }
+}
+
+fn main() -> io::Result<()> {
+    let arguments: Vec<String> = std::env::args().skip(1).collect();
+    let (folder, files) = arguments.split_first().expect("seeds FOLDER FILE..");
+    std::fs::create_dir_all(folder)?;
+    let mut seeds = Seeds { folder: Path::new(folder).to_path_buf(), count: 0 };
+    for file in files {
+        seeds.add(ALL, EXACT, 2, 0, &std::fs::read(file)?)?;
+    }
+    seeds.versions(&mut Random::new(1))?;
+    seeds.lines()
+}

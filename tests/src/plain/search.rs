@@ -1,0 +1,139 @@
+//! The path search, as quick as one would write it by hand: one pass over a
+//! name for its zero units and its hash.
+
+use super::*;
+use hivesaddle::{FoundPath, Report};
+
+pub fn find_path(file: &[u8]) -> Option<FoundPath> {
+    let (layout, sections) = opening(file).ok()?;
+    let [metrics, _, strings, _] = &sections;
+    let (entries, strings) = (lent(file, metrics), lent(file, strings));
+    let (version, stored) = (number(file, 0), number(file, 76) as u32);
+    for (entry, bytes) in entries.chunks_exact(layout.metrics_entry).enumerate() {
+        let Some(name) = name(strings, bytes, layout) else {
+            continue;
+        };
+        if let Some(report) = matches(name, version, stored) {
+            return Some(FoundPath { entry: entry as u64, report });
+        }
+    }
+    None
+}
+
+/// Checks 1 to 6.
+fn opening(file: &[u8]) -> Result<(&'static Layout, [Section; 4]), Refusal> {
+    let layout = layout(file)?;
+    let size = declared_size(file, layout)?;
+    program_name(file)?;
+    need(file, layout.head_end)?;
+    Ok((layout, sections(file, layout, size)?))
+}
+
+/// As much of a section as there is.
+fn lent<'a>(file: &'a [u8], section: &Section) -> &'a [u8] {
+    match section.length {
+        0 => &[],
+        _ => &file[section.start.min(file.len())..section.end().min(file.len())],
+    }
+}
+
+/// The units of a name that has its zero unit; a zero among them is found
+/// with the hash.
+fn name<'a>(strings: &'a [u8], entry: &[u8], layout: &Layout) -> Option<&'a [u8]> {
+    let start = number(entry, layout.name_offset);
+    let length = 2 * number(entry, layout.name_offset + 4);
+    let (units, last) = strings.get(start..start + length + 2)?.split_at(length);
+    is_zero(last).then_some(units)
+}
+
+fn matches(name: &[u8], version: usize, stored: u32) -> Option<Report> {
+    match version {
+        17 => (xp(name)? == stored).then_some(Report::NoneToMake),
+        26 => (of_2008(name)? == stored).then_some(Report::NoneToMake),
+        _ => match (steps(name, SEED)? == stored, of_2008(name)? == stored) {
+            (true, true) => Some(Report::Both),
+            (true, false) => Some(Report::VistaOnly),
+            (false, true) => Some(Report::Only2008),
+            (false, false) => None,
+        },
+    }
+}
+
+const SEED: u32 = 314_159;
+
+fn step(h: u32, c: u32) -> u32 {
+    h.wrapping_mul(37).wrapping_add(c)
+}
+
+fn number_of(unit: &[u8]) -> u32 {
+    u16::from_le_bytes([unit[0], unit[1]]) as u32
+}
+
+/// The plain step over all units; none where one is zero.
+fn steps(name: &[u8], from: u32) -> Option<u32> {
+    let (mut h, mut zero) = (from, false);
+    for unit in name.chunks_exact(2) {
+        let c = number_of(unit);
+        zero |= c == 0;
+        h = step(h, c);
+    }
+    (!zero).then_some(h)
+}
+
+fn xp(name: &[u8]) -> Option<u32> {
+    let h = steps(name, 0)?.wrapping_mul(314_159_269);
+    Some((h as i32).unsigned_abs() % 1_000_000_007)
+}
+
+fn of_2008(name: &[u8]) -> Option<u32> {
+    let (mut h, mut zero) = (SEED, false);
+    let mut rest = name;
+    while rest.len() > 16 {
+        let eight: [u32; 8] = std::array::from_fn(|i| number_of(&rest[2 * i..]));
+        zero |= eight.contains(&0);
+        let inner = eight[1..7].iter().fold(0, |sum, &c| step(sum, c));
+        let c = step(inner, eight[7]).wrapping_add(eight[0].wrapping_mul(442_596_621));
+        h = c.wrapping_sub(h.wrapping_mul(803_794_207));
+        rest = &rest[16..];
+    }
+    (!zero).then_some(())?;
+    steps(rest, h)
+}
+
+#[cfg(test)]
+mod beside_the_reference {
+    use super::*;
+    use crate::generate::any;
+    use crate::generate::damage::edits;
+    use crate::random::Random;
+    use crate::reference::search;
+
+    fn same(file: &[u8]) -> bool {
+        let expected = search::find_path(file);
+        let given = find_path(file);
+        let report = |report| match report {
+            search::Report::NoneToMake => Report::NoneToMake,
+            search::Report::VistaOnly => Report::VistaOnly,
+            search::Report::Only2008 => Report::Only2008,
+            search::Report::Both => Report::Both,
+        };
+        let expected = expected.map(|found| (found.entry, report(found.report)));
+        assert_eq!(expected, given.map(|found| (found.entry, found.report)));
+        given.is_some()
+    }
+
+    #[test]
+    fn sound_edited_and_cut_files() {
+        let mut random = Random::new(4);
+        let mut found = 0;
+        for _ in 0..20_000 {
+            let mut sample = any(&mut random);
+            found += same(&sample.bytes) as u32;
+            edits(&mut random, &mut sample);
+            found += same(&sample.bytes) as u32;
+            sample.bytes.truncate(random.below(sample.bytes.len()));
+            found += same(&sample.bytes) as u32;
+        }
+        assert!(found > 5_000, "{found}");
+    }
+}

@@ -1,0 +1,134 @@
+/* stack FILE..
+ *
+ * Runs every call of the library on a stack of its own that was filled with a pattern, and shows the deepest byte that
+ * was changed, less what a call that does nothing changes. The greatest over all files is shown for each function.
+ */
+#include <stdio.h>
+#include <stdlib.h>
+#include <string.h>
+#include <ucontext.h>
+
+#include "hivesaddle.h"
+
+#define STACK_BYTES 65536
+#define PATTERN 0xA5
+
+static _Alignas(64) unsigned char stack[STACK_BYTES];
+static uint8_t *file;
+static size_t length, places;
+static uint32_t *predecessors;
+static uint64_t out[HS_READER_OUT];
+static uint32_t numbers[1000];
+static uint8_t line[HS_CATALOGUE_LINE_LENGTH];
+
+static volatile uint32_t answer;
+
+/* A call through a pointer with as many arguments as the widest has. */
+static uint32_t nothing(const uint8_t *a, size_t b, uint32_t *c, size_t d, uint64_t *e, size_t f)
+{
+    (void)a, (void)b, (void)c, (void)d, (void)e, (void)f;
+    return 0;
+}
+
+static uint32_t (*volatile nothing_called)(const uint8_t *, size_t, uint32_t *, size_t, uint64_t *, size_t) = nothing;
+
+static void call_nothing(void) { answer = nothing_called(file, length, predecessors, places, out, HS_READER_OUT); }
+static void read_file(void) { answer = hs_read_file(file, length, predecessors, places, out, HS_READER_OUT); }
+static void read_prefix(void) { answer = hs_read_prefix(file, length, predecessors, places, out, HS_READER_OUT); }
+static void find_path(void) { answer = hs_find_path(file, length, out, HS_READER_OUT); }
+static void program_name(void) { answer = hs_program_name(file, length, out, HS_READER_OUT); }
+static void entry_name(void) { answer = hs_entry_name(file, length, 1, out, HS_READER_OUT); }
+static void volume(void) { answer = hs_volume(file, length, 1, out, HS_READER_OUT); }
+static void reference(void) { answer = hs_reference(file, length, 1, 0, out, HS_READER_OUT); }
+static void hash_xp(void) { answer = hs_hash_xp(numbers, 1000); }
+static void hash_vista(void) { answer = hs_hash_vista(numbers, 1000); }
+static void hash_2008(void) { answer = hs_hash_2008(numbers, 1000); }
+static void hash_xp_units(void) { answer = hs_hash_xp_units(file, length); }
+static void hash_vista_units(void) { answer = hs_hash_vista_units(file, length); }
+static void hash_2008_units(void) { answer = hs_hash_2008_units(file, length); }
+static void catalogue_write(void) { answer = hs_catalogue_write(148, 65, 1, 17, line, sizeof line); }
+static void catalogue_read(void) { answer = hs_catalogue_read(line, sizeof line, out, HS_READER_OUT); }
+
+static struct {
+    const char *name;
+    void (*call)(void);
+    size_t bytes;
+} calls[] = {
+    {"a call that does nothing", call_nothing, 0},
+    {"hs_read_prefix", read_prefix, 0},
+    {"hs_read_file", read_file, 0},
+    {"hs_program_name", program_name, 0},
+    {"hs_entry_name", entry_name, 0},
+    {"hs_volume", volume, 0},
+    {"hs_reference", reference, 0},
+    {"hs_find_path", find_path, 0},
+    {"hs_hash_xp", hash_xp, 0},
+    {"hs_hash_vista", hash_vista, 0},
+    {"hs_hash_2008", hash_2008, 0},
+    {"hs_hash_xp_units", hash_xp_units, 0},
+    {"hs_hash_vista_units", hash_vista_units, 0},
+    {"hs_hash_2008_units", hash_2008_units, 0},
+    {"hs_catalogue_write", catalogue_write, 0},
+    {"hs_catalogue_read", catalogue_read, 0},
+};
+#define CALLS (sizeof calls / sizeof *calls)
+
+static size_t used_by(void (*call)(void))
+{
+    ucontext_t here, there;
+    size_t untouched = 0;
+    memset(stack, PATTERN, sizeof stack);
+    getcontext(&there);
+    there.uc_stack.ss_sp = stack;
+    there.uc_stack.ss_size = sizeof stack;
+    there.uc_link = &here;
+    makecontext(&there, call, 0);
+    swapcontext(&here, &there);
+    while (untouched < sizeof stack && stack[untouched] == PATTERN) {
+        untouched++;
+    }
+    return sizeof stack - untouched;
+}
+
+static void load(const char *path)
+{
+    FILE *opened = fopen(path, "rb");
+    if (opened == NULL || fseek(opened, 0, SEEK_END) != 0) {
+        perror(path);
+        exit(2);
+    }
+    length = (size_t)ftell(opened);
+    rewind(opened);
+    places = length / 12 + 1;
+    file = malloc(length + 1);
+    predecessors = malloc(places * sizeof *predecessors);
+    if (file == NULL || predecessors == NULL || fread(file, 1, length, opened) != length) {
+        perror(path);
+        exit(2);
+    }
+    fclose(opened);
+}
+
+int main(int count, char **paths)
+{
+    /* The first turn of each resolves symbols and is not counted. */
+    for (int i = 1; i < count; i++) {
+        load(paths[i]);
+        for (size_t k = 0; k < CALLS; k++) {
+            used_by(calls[k].call);
+            size_t bytes = used_by(calls[k].call);
+            if (bytes > calls[k].bytes) {
+                calls[k].bytes = bytes;
+            }
+        }
+        free(file);
+        free(predecessors);
+    }
+    printf("%d files\n", count - 1);
+    for (size_t k = 1; k < CALLS; k++) {
+        size_t more = calls[k].bytes > calls[0].bytes ? calls[k].bytes - calls[0].bytes : 0;
+        printf("%s: %zu bytes\n", calls[k].name, more);
+    }
+    printf("%s: %zu bytes, taken off the others\n", calls[0].name, calls[0].bytes);
+    return 0;
+}
