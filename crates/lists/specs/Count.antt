@@ -1,6 +1,6 @@
 -- Tests over the numbers below a bound: whether one passes, and how many do.
 use mathlib.Core.Path.{_≡_, refl, sym, ap, _∙_}
-use mathlib.Core.Bool.{Bool, true, false}
+use mathlib.Core.Bool.{Bool, true, false, _||_}
 use mathlib.Core.List.{List}
 use mathlib.Core.Logic.{⊎-elim}
 use Prim.Native.Nat.{ℕ, zero, suc, _+_, _≤_, _<_}
@@ -59,6 +59,20 @@ some-false p n e k l = go (p k) refl
     go : (b : Bool) → p k ≡ b → b ≡ false
     go true q = absurd (true-false (sym (some-yes p n k l q) ∙ e))
     go false q = refl
+
+pub some-more : (p : ℕ → Bool) (n : ℕ) → some p (suc n) ≡ (some p n || p n)
+unfolding some
+some-more p n = go (p n) (some p n)
+  where
+    go : (b a : Bool) → elim b as (λ _. Bool) [ true ↦ true | false ↦ a ] ≡ (a || b)
+    go true true = refl
+    go true false = refl
+    go false true = refl
+    go false false = refl
+
+pub some-eight : (p : ℕ → Bool) → (((((((p 0 || p 1) || p 2) || p 3) || p 4) || p 5) || p 6) || p 7) ≡ some p 8
+unfolding some
+some-eight p = sym (some-more p 7 ∙ ap (λ b. b || p 7) (some-more p 6 ∙ ap (λ b. b || p 6) (some-more p 5 ∙ ap (λ b. b || p 5) (some-more p 4 ∙ ap (λ b. b || p 4) (some-more p 3 ∙ ap (λ b. b || p 3) (some-more p 2 ∙ ap (λ b. b || p 2) (some-more p 1 ∙ ap (λ b. b || p 1) (some-more p 0))))))))
 
 -- one number more
 pub count-yes : (p : ℕ → Bool) (n : ℕ) → p n ≡ true → count p (suc n) ≡ suc (count p n)

@@ -1,15 +1,15 @@
 -- Laws on the names of metrics entries: what each way through the code decides, and what a sound name is.
-use mathlib.Core.Path.{_≡_, refl, sym, _∙_}
-use mathlib.Core.Bool.{Bool, true, false, not, _&&_}
+use mathlib.Core.Path.{_≡_, refl, sym, ap, _∙_}
+use mathlib.Core.Bool.{Bool, true, false, not, _&&_, _||_}
 use mathlib.Core.List.{List}
 use mathlib.Core.Logic.{_↔_}
-use Prim.Native.Nat.{ℕ, _+_, _*_, _^_, _≤_, _<_}
+use Prim.Native.Nat.{ℕ, _+_, _*_, _^_, _-_, _≤_, _<_}
 use native.Mathlib.Nat.{mul-le-mul-left}
 use native.Mathlib.Omega.{arith}
-use lib.Dec.{eqb}
+use lib.Dec.{eqb, ltb}
 use lib.ListN.{length, getD}
-use borrow.Author.Tests.{leb-true, le-leb, eqb-true, eqb-false, eq-eqb, ne-eqb}
-use Rattle.lists.specs.Count.{some, some-yes, some-no, true-false}
+use borrow.Author.Tests.{leb-true, le-leb, ltb-true, ltb-false, eqb-true, eqb-false, eq-eqb, ne-eqb}
+use Rattle.lists.specs.Count.{some, some-yes, some-no, some-true, some-eight, true-false}
 use Rattle.lists.specs.Count.{some-false}
 use Rattle.lists.specs.First.{first}
 use Rattle.little_endian.specs.Number.{le}
@@ -18,22 +18,18 @@ use Rattle.layout.specs.declared.Layout.{Layout}
 use Rattle.layout.specs.declared.Version.{Version}
 use Rattle.names.specs.Names.{fits, zeroAt, sound, firstMisfit, firstUnsound}
 
+-- a zero unit among so many units from an offset
+abbrev pub zeroIn : List ℕ → ℕ → ℕ → Bool
+zeroIn s at units = some (λ k. zeroAt s (at + 2 * k)) units
+
 -- the part of `sound` that looks at the text: no zero unit among the units, and one directly after them
 abbrev pub soundText : List ℕ → ℕ → ℕ → Bool
-soundText s at units = not (some (λ k. zeroAt s (at + 2 * k)) units) && zeroAt s (at + 2 * units)
+soundText s at units = not (zeroIn s at units) && zeroAt s (at + 2 * units)
 
 -- One unit, by its bytes
-pub unit-low : (s : List ℕ) (at : ℕ) → (getD s at 0 ≡ 0 → ⊥) → false ≡ zeroAt s at
+pub unit-zero : (s : List ℕ) (at : ℕ) → eqb (getD s at 0 + 256 * getD s (at + 1) 0) 0 ≡ zeroAt s at
 unfolding le
-unit-low s at n = sym (ne-eqb (le 2 s at) 0 (λ z. n (omega arith)))
-
-pub unit-high : (s : List ℕ) (at : ℕ) → getD s at 0 ≡ 0 → eqb (getD s (at + 1) 0) 0 ≡ zeroAt s at
-unfolding le
-unit-high s at e = go (eqb (getD s (at + 1) 0) 0) refl
-  where
-    go : (b : Bool) → eqb (getD s (at + 1) 0) 0 ≡ b → b ≡ eqb (le 2 s at) 0
-    go true q = sym (eq-eqb (le 2 s at) 0 (let z : getD s (at + 1) 0 ≡ 0 = eqb-true _ _ q in omega arith))
-    go false q = sym (ne-eqb (le 2 s at) 0 (λ z. eqb-false (getD s (at + 1) 0) 0 q (omega arith)))
+unit-zero s at = let e : getD s at 0 + 256 * getD s (at + 1) 0 ≡ le 2 s at = omega arith in ap (λ x. eqb x 0) e
 
 -- A text, by a loop that stops at the first zero unit
 pub text-zero : (s : List ℕ) (at units k : ℕ) → k < units → zeroAt s (at + 2 * k) ≡ true → false ≡ soundText s at units
@@ -41,6 +37,54 @@ text-zero s at units k l e = rw (some-yes (λ j. zeroAt s (at + 2 * j)) units k 
 
 pub text-end : (s : List ℕ) (at units : ℕ) → ((k : ℕ) → k < units → zeroAt s (at + 2 * k) ≡ false) → zeroAt s (at + 2 * units) ≡ soundText s at units
 text-end s at units f = rw (some-no (λ j. zeroAt s (at + 2 * j)) units f)
+
+-- A text, by a loop that takes eight units at a time
+pub text-start : (s : List ℕ) (at units : ℕ) → soundText s (at + 2 * 0) (units - 0) ≡ soundText s at units
+text-start s at units = let e : at + 2 * 0 ≡ at = omega arith in let f : units - 0 ≡ units = omega arith in rw (e, f)
+
+pub zero-in-eight : (s : List ℕ) (at : ℕ) {a b c d e f g h : Bool}
+    → a ≡ zeroAt s at
+    → b ≡ zeroAt s (at + 2)
+    → c ≡ zeroAt s (at + 4)
+    → d ≡ zeroAt s (at + 6)
+    → e ≡ zeroAt s (at + 8)
+    → f ≡ zeroAt s (at + 10)
+    → g ≡ zeroAt s (at + 12)
+    → h ≡ zeroAt s (at + 14)
+    → (((((((a || b) || c) || d) || e) || f) || g) || h) ≡ zeroIn s at 8
+zero-in-eight s at i j k l m n o q =
+    let z : at ≡ at + 2 * 0 = omega arith in
+    rw (i ∙ ap (zeroAt s) z, j, k, l, m, n, o, q) (some-eight (λ k. zeroAt s (at + 2 * k)))
+
+pub eight-zero : (s : List ℕ) (at units : ℕ) → 8 ≤ units → zeroIn s at 8 ≡ true → false ≡ soundText s at units
+eight-zero s at units h e = let t = some-true (λ k. zeroAt s (at + 2 * k)) 8 e in text-zero s at units (t .0) (omega (arith, t .1)) (t .2)
+
+pub eight-clear : (s : List ℕ) (at units : ℕ) → 8 ≤ units → zeroIn s at 8 ≡ false → soundText s (at + 16) (units - 8) ≡ soundText s at units
+eight-clear s at units h e = go (zeroIn s (at + 16) (units - 8)) refl
+  where
+    p : ℕ → Bool
+    p k = zeroAt s (at + 2 * k)
+
+    clear : zeroIn s (at + 16) (units - 8) ≡ false → (k : ℕ) → k < units → (b : Bool) → ltb k 8 ≡ b → p k ≡ false
+    clear q k l true w = some-false p 8 e k (ltb-true k 8 w)
+    clear q k l false w =
+        let v : at + 2 * k ≡ at + 16 + 2 * (k - 8) = omega (arith, ltb-false k 8 w) in
+        ap (zeroAt s) v ∙ some-false (λ j. zeroAt s (at + 16 + 2 * j)) (units - 8) q (k - 8) (omega (arith, ltb-false k 8 w))
+
+    go : (b : Bool) → zeroIn s (at + 16) (units - 8) ≡ b → (not b && zeroAt s (at + 16 + 2 * (units - 8))) ≡ soundText s at units
+    go true q =
+        let t = some-true (λ j. zeroAt s (at + 16 + 2 * j)) (units - 8) q in
+        let v : at + 2 * (8 + t .0) ≡ at + 16 + 2 * t .0 = omega arith in
+        text-zero s at units (8 + t .0) (omega (arith, t .1)) (ap (zeroAt s) v ∙ t .2)
+    go false q =
+        let v : at + 16 + 2 * (units - 8) ≡ at + 2 * units = omega arith in
+        ap (zeroAt s) v ∙ text-end s at units (λ k l. clear q k l (ltb k 8) refl)
+
+pub eight-again : (s : List ℕ) (at units k : ℕ) → k + 8 ≤ units → zeroIn s (at + 2 * k) 8 ≡ false → soundText s (at + 2 * (k + 8)) (units - (k + 8)) ≡ soundText s (at + 2 * k) (units - k)
+eight-again s at units k h e =
+    let a : at + 2 * (k + 8) ≡ at + 2 * k + 16 = omega arith in
+    let b : units - (k + 8) ≡ units - k - 8 = omega arith in
+    rw (a, b) (eight-clear s (at + 2 * k) (units - k) (omega arith) e)
 
 -- A name
 pub name-past : (s : List ℕ) (at units : ℕ) → fits (length s) at units ≡ false → false ≡ sound s at units

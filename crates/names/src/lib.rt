@@ -5,7 +5,7 @@ ghost use lib.ListN.{length};
 ghost use Rattle.little_endian.specs.Number.{le};
 ghost use Rattle.layout.specs.Versions.{Sound};
 ghost use Rattle.names.specs.Names.{fits, sound, nameAt, nameUnits, firstMisfit, firstUnsound, zeroAt};
-ghost use Rattle.names.specs.NameLaws.{soundText};
+ghost use Rattle.names.specs.NameLaws.{zeroIn, soundText};
 use layout::Layout;
 use layout::Version;
 use lists::Found;
@@ -17,19 +17,31 @@ pub fn name_fits(size: usize, at: u32, units: u32) -> bool
     at as usize + 2 * (units as usize) + 2 <= size
 }
 
-// Whether the unit at an offset is zero. The two bytes are compared as they stand, with no test of the section's end.
+// Whether the unit at an offset is zero, with no test of the section's end.
 fn zero_unit(strings: &[u8], at: usize) -> bool
     requires { ⌜ at + 2 ≤ length (now strings) ⌝ }
     ensures { λ r. ⌜ r ≡ zeroAt (now (strings .entry)) at ⌝ }
 {
-    if strings[at] != 0 {
-        return false;
-    }
-    strings[at + 1] == 0
+    strings[at] as u32 + 256 * (strings[at + 1] as u32) == 0
+}
+
+// Whether one of the eight units from an offset is zero. All eight are looked at, so that the processor can compare them at once.
+fn zero_in_eight(strings: &[u8], at: usize) -> bool
+    requires { ⌜ at + 16 ≤ length (now strings) ⌝ }
+    ensures { λ r. ⌜ r ≡ zeroIn (now (strings .entry)) at 8 ⌝ }
+{
+    zero_unit(strings, at)
+        | zero_unit(strings, at + 2)
+        | zero_unit(strings, at + 4)
+        | zero_unit(strings, at + 6)
+        | zero_unit(strings, at + 8)
+        | zero_unit(strings, at + 10)
+        | zero_unit(strings, at + 12)
+        | zero_unit(strings, at + 14)
 }
 
 // Whether the units from an offset have no zero unit among them, and one directly after them.
-fn text_sound(strings: &[u8], at: usize, units: usize) -> bool
+fn units_sound(strings: &[u8], at: usize, units: usize) -> bool
     requires { ⌜ at + 2 * units + 2 ≤ length (now strings) ⌝ }
     ensures { λ r. ⌜ r ≡ soundText (now (strings .entry)) at units ⌝ }
 {
@@ -41,6 +53,21 @@ fn text_sound(strings: &[u8], at: usize, units: usize) -> bool
         k += 1;
     }
     zero_unit(strings, at + 2 * units)
+}
+
+// The same, eight units at a time while eight are left.
+fn text_sound(strings: &[u8], at: usize, units: usize) -> bool
+    requires { ⌜ at + 2 * units + 2 ≤ length (now strings) ⌝ }
+    ensures { λ r. ⌜ r ≡ soundText (now (strings .entry)) at units ⌝ }
+{
+    let mut k = 0;
+    while 8 <= units - k {
+        if zero_in_eight(strings, at + 2 * k) {
+            return false;
+        }
+        k += 8;
+    }
+    units_sound(strings, at + 2 * k, units - k)
 }
 
 // Whether the name fits the section, has no zero unit inside, and a zero unit directly after it.

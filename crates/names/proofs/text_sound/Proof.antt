@@ -1,34 +1,36 @@
-use mathlib.Core.Path.{_≡_, sym, _∙_}
-use mathlib.Core.Bool.{false}
-use Prim.Native.Nat.{ℕ, _+_, _*_, _≤_, _<_, _-_}
+use mathlib.Core.Path.{_≡_, refl, sym, _∙_}
+use Prim.Native.Nat.{_+_, _*_, _-_, _≤_}
 use native.Mathlib.Omega.{arith}
-use borrow.Author.Count.{below-more}
 use borrow.Author.Needs.{needs}
-use Rattle.names.specs.Names.{zeroAt}
-use Rattle.names.specs.NameLaws.{text-zero, text-end}
+use Rattle.names.specs.NameLaws.{soundText, text-start, eight-zero, eight-again}
 use Rattle.names.proofs.text_sound.Statement.{statement}
 use Rattle.names.proofs.text_sound.Tie as tie
 
 abbrev Inv-loop : tie.InvT-loop
-Inv-loop strings at units k₀ k = (k ≤ units) × ((j : ℕ) → j < k → zeroAt strings (at + 2 * j) ≡ false)
+Inv-loop strings at units k₀ k = (k ≤ units) × (soundText strings (at + 2 * k) (units - k) ≡ soundText strings at units)
 
 abbrev μ-loop : tie.MeasureT-loop
 μ-loop strings at units k₀ k = units - k
 
 loop-holds : tie.Need-loop-holds Inv-loop μ-loop
-loop-holds c = (omega arith, λ j l. absurd (omega arith))
+loop-holds c = (omega arith, text-start _ _ _)
 
-mul-zero-unit : tie.Need-mul-zero-unit Inv-loop μ-loop
-mul-zero-unit c = search needs
+sub-loop : tie.Need-sub-loop Inv-loop μ-loop
+sub-loop c = search needs
 
-add-zero-unit : tie.Need-add-zero-unit Inv-loop μ-loop
-add-zero-unit c = search needs
+mul-zero-in-eight : tie.Need-mul-zero-in-eight Inv-loop μ-loop
+mul-zero-in-eight c = search needs
 
-zero-unit-requires : tie.Need-zero-unit-requires Inv-loop μ-loop
-zero-unit-requires c κs = search needs
+add-zero-in-eight : tie.Need-add-zero-in-eight Inv-loop μ-loop
+add-zero-in-eight c = search needs
+
+zero-in-eight-requires : tie.Need-zero-in-eight-requires Inv-loop μ-loop
+zero-in-eight-requires c κs = search needs
 
 returns : tie.Need-returns Inv-loop μ-loop
-returns c = text-zero _ _ _ (c .before .before .before .loop .k) (omega arith) (sym (c .before .zero-unit .ensures) ∙ c .if1 .taken)
+returns c =
+    let b = c .before .before .before in
+    eight-zero _ _ _ (omega arith) (sym (c .before .zero-in-eight .ensures) ∙ c .if1 .taken) ∙ b .loop .inv .1
 
 add-k : tie.Need-add-k Inv-loop μ-loop
 add-k c = search needs
@@ -37,19 +39,24 @@ loop-less : tie.Need-loop-less Inv-loop μ-loop
 loop-less c = search needs
 
 loop-again : tie.Need-loop-again Inv-loop μ-loop
-loop-again c = (omega arith, below-more _ _ (c .before .before .before .loop .inv .1) (sym (c .before .zero-unit .ensures) ∙ c .if1 .left))
+loop-again c =
+    let b = c .before .before .before in
+    (omega arith, eight-again _ _ _ (b .loop .k) (omega arith) (sym (c .before .zero-in-eight .ensures) ∙ c .if1 .left) ∙ b .loop .inv .1)
 
-mul-zero-unit-2 : tie.Need-mul-zero-unit-2 Inv-loop μ-loop
-mul-zero-unit-2 c = search needs
+mul-units-sound : tie.Need-mul-units-sound Inv-loop μ-loop
+mul-units-sound c = search needs
 
-add-zero-unit-2 : tie.Need-add-zero-unit-2 Inv-loop μ-loop
-add-zero-unit-2 c = search needs
+add-units-sound : tie.Need-add-units-sound Inv-loop μ-loop
+add-units-sound c = search needs
 
-zero-unit-requires-2 : tie.Need-zero-unit-requires-2 Inv-loop μ-loop
-zero-unit-requires-2 c κs = search needs
+sub-units-sound : tie.Need-sub-units-sound Inv-loop μ-loop
+sub-units-sound c = search needs
+
+units-sound-requires : tie.Need-units-sound-requires Inv-loop μ-loop
+units-sound-requires c κs = search needs
 
 returns-2 : tie.Need-returns-2 Inv-loop μ-loop
-returns-2 c = c .zero-unit2 .ensures ∙ text-end _ _ _ (λ k l. c .before .before .loop .inv .1 k (omega arith))
+returns-2 c = c .units-sound .ensures ∙ c .before .before .loop .inv .1
 
 pub text-sound-spec : {M : Type 1} → statement M
 text-sound-spec =
@@ -58,14 +65,16 @@ text-sound-spec =
     Inv-loop
     μ-loop
     loop-holds
-    mul-zero-unit
-    add-zero-unit
-    zero-unit-requires
+    sub-loop
+    mul-zero-in-eight
+    add-zero-in-eight
+    zero-in-eight-requires
     returns
     add-k
     loop-less
     loop-again
-    mul-zero-unit-2
-    add-zero-unit-2
-    zero-unit-requires-2
+    mul-units-sound
+    add-units-sound
+    sub-units-sound
+    units-sound-requires
     returns-2)

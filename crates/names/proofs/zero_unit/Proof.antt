@@ -1,24 +1,46 @@
+use Prim.Native.Nat.{_+_, _*_}
+use native.Mathlib.Omega.{arith}
 use borrow.Author.Needs.{needs}
-use Rattle.names.specs.NameLaws.{unit-low, unit-high}
+use Rattle.names.specs.NameLaws.{unit-zero}
 use Rattle.names.proofs.zero_unit.Statement.{statement}
 use Rattle.names.proofs.zero_unit.Tie as tie
-
-shared-slice-read-if1 : tie.Need-shared-slice-read-if1
-shared-slice-read-if1 c = search needs
-
-returns : tie.Need-returns
-returns c = unit-low _ _ (c .if1 .taken)
-
-add-result : tie.Need-add-result
-add-result c = search needs
 
 shared-slice-read-result : tie.Need-shared-slice-read-result
 shared-slice-read-result c = search needs
 
-returns-2 : tie.Need-returns-2
-returns-2 c = unit-high _ _ (c .before .if1 .left)
+cast-result : tie.Need-cast-result
+cast-result c = omega (arith, c .shared-slice-known .given (c .before .args .at))
+
+add-result : tie.Need-add-result
+add-result c = search needs
+
+shared-slice-read-result-2 : tie.Need-shared-slice-read-result-2
+shared-slice-read-result-2 c = search needs
+
+cast-result-2 : tie.Need-cast-result-2
+cast-result-2 c = omega (arith, c .shared-slice-known2 .given (c .before .before .args .at + 1))
+
+mul-result : tie.Need-mul-result
+mul-result c = omega (arith, c .shared-slice-known2 .given (c .before .before .args .at + 1))
+
+add-result-2 : tie.Need-add-result-2
+add-result-2 c =
+    let g = c .shared-slice-known2 .given in
+    let at = c .before .before .args .at in
+    omega (arith, g at, g (at + 1))
+
+returns : tie.Need-returns
+returns c = unit-zero _ _
 
 pub zero-unit-spec : {M : Type 1} → statement M
 zero-unit-spec =
     tie.close
-    (tie.spec shared-slice-read-if1 returns add-result shared-slice-read-result returns-2)
+    (tie.spec
+    shared-slice-read-result
+    cast-result
+    add-result
+    shared-slice-read-result-2
+    cast-result-2
+    mul-result
+    add-result-2
+    returns)
