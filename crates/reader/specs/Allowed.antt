@@ -11,7 +11,6 @@ use Rattle.lists.specs.Count.{pick}
 use Rattle.little_endian.specs.Number.{le}
 use Rattle.layout.specs.Versions.{versionOf, layoutOf, sizeLimit, layout-sound}
 use Rattle.layout.specs.declared.KnownVersion.the-variants.{Known}
-use Rattle.incremental.specs.Decision.{accept}
 use Rattle.incremental.specs.Plan.{Answer}
 use Rattle.head.specs.Fields.{declaredSize, headOf, part}
 use Rattle.head.specs.Facts.{NameEnds, Inside, Apart, Within, OpenFacts, Shapes, head-shapes, signature-law, outside-law, shares-law}
@@ -21,7 +20,8 @@ use Rattle.head.specs.declared.checks.Opening.{Opening}
 use Rattle.names.specs.Names.{nameAt, nameUnits}
 use Rattle.names.specs.NameLaws.{SoundName}
 use Rattle.trace.specs.Links.{end, nexts, after, Cyclic, chains, predecessors}
-use Rattle.volumes.specs.Volumes.{volumeChecks}
+use Rattle.volumes.specs.Volumes.{entryAt}
+use Rattle.volumes.specs.SoundVolume.{SoundVolume}
 use Rattle.reader.specs.declared.verdict.Acceptance.{Acceptance}
 use Rattle.reader.specs.declared.verdict.Verdict.{Verdict}
 use Rattle.reader.specs.declared.verdict.Verdict.the-variants.{Accepted}
@@ -64,8 +64,8 @@ pub record Allowed (p : List ℕ) (o : Opening) : Type 0 where
       → after (nextsIn o p) i ≡ j → after (nextsIn o p) k ≡ j → i ≡ k
   -- 13: following next from an entry never comes back to it
   pub acyclic : (i : ℕ) → i < o .head .trace .count → Cyclic (nextsIn o p) i → ⊥
-  -- 14, 15: every volume is sound
-  pub volumes : (i : ℕ) → i < o .head .volumes .count → volumeChecks (part (o .head .volumes) p) (o .version) i ≡ accept tt
+  -- 14, 15: every volume's path, references and directories lie in the section, and every directory ends in a zero unit
+  pub volumes : (i : ℕ) → i < o .head .volumes .count → SoundVolume (part (o .head .volumes) p) (entryAt (o .version) i)
 
 -- the acceptance record and the table that the layout gives
 abbrev pub givenRecord : Opening → List ℕ → Acceptance

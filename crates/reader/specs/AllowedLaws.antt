@@ -30,8 +30,8 @@ use Rattle.trace.specs.Links.{end, nexts, after, Cyclic, cyclic, namers, shared
 use Rattle.trace.specs.Steps.{length-nexts}
 use Rattle.trace.specs.Accepted.{accepted, astray-end, astray-below}
 use Rattle.trace.specs.Cycles.{cycle-law}
-use Rattle.volumes.specs.Volumes.{volumeChecks, volumesFrom}
-use Rattle.volumes.specs.VolumeLaws.{volumes-each}
+use Rattle.volumes.specs.Volumes.{entryAt, volumesFrom}
+use Rattle.volumes.specs.SoundVolume.{SoundVolume, volumes-sound}
 use Rattle.reader.specs.declared.verdict.Acceptance.{Acceptance}
 use Rattle.reader.specs.Verdict.{Acceptable, Values, acceptedValues, answerValues}
 use Rattle.reader.specs.Checks.{headEnd, recordOf, volumesReach, namesReach, volumesPlan, tracePlan, namesPlan, metricsPlan, restPlan, readPlan, prefixAnswer, sized, whole}
@@ -212,7 +212,7 @@ pub record RestFacts (m : ℕ) (p : List ℕ) (o : Opening) (x : Acceptable) : T
   pub names : (i : ℕ) → i < o .head .metrics .count
       → SoundName (part (o .head .strings) p) (nameAt (o .version) (part (o .head .metrics) p) i) (nameUnits (o .version) (part (o .head .metrics) p) i)
   pub free : Free (nexts (part (o .head .trace) p) (o .head .trace .count)) (o .head .trace .count)
-  pub volumes : (i : ℕ) → i < o .head .volumes .count → volumeChecks (part (o .head .volumes) p) (o .version) i ≡ accept tt
+  pub volumes : (i : ℕ) → i < o .head .volumes .count → SoundVolume (part (o .head .volumes) p) (entryAt (o .version) i)
   -- what they give
   pub fields : x .fields ≡ recordOf o p (chains (nexts (part (o .head .trace) p) (o .head .trace .count)))
   pub table : x .table ≡ predecessors (nexts (part (o .head .trace) p) (o .head .trace .count)) m
@@ -268,7 +268,7 @@ module _ (m : ℕ) (p : List ℕ) (o : Opening) (f : OpenFacts p o) where
             entries = entries;
             names = names-found names;
             free = free s _ (length-nexts _ _) (trace-few p o f) n e;
-            volumes = volumes-each _ _ _ .0 (sym (volumes-take p o f) ∙ volumes);
+            volumes = volumes-sound _ _ _ .0 (sym (volumes-take p o f) ∙ volumes);
             fields = record-take o p n ∙ ap (recordOf o p) (accepted s n e .counted);
             table = rw (trace-take p o f);
           }
@@ -292,7 +292,7 @@ module _ (m : ℕ) (p : List ℕ) (o : Opening) (f : OpenFacts p o) where
     unfolding volumesPlan andThen
     volumes-complete y =
         await-here (volumesReach o) _ p _ (le-trans (volumes-reach-low p o f) d)
-        (rw (volumes-take p o f ∙ volumes-each (part (o .head .volumes) p) (o .version) (o .head .volumes .count) .1 (r .volumes)) (sym (run-decide _ p)))
+        (rw (volumes-take p o f ∙ volumes-sound (part (o .head .volumes) p) (o .version) (o .head .volumes .count) .1 (r .volumes)) (sym (run-decide _ p)))
 
     trace-complete : (fields : ℕ → Acceptance) → fields (chains allNexts) ≡ x .fields → decided (accept x) ≡ run (tracePlan m o fields) p
     unfolding tracePlan andThen

@@ -91,22 +91,6 @@ step-next s at last d h z =
     let n : last + 2 ≡ at + 4 + 2 * le 2 s at = omega arith in
     rw (n, le-leb (at + 2) (length s) (omega arith), le-leb (at + 4 + 2 * le 2 s at) (length s) (omega arith), eq-eqb (le 2 s (at + 2 + 2 * le 2 s at)) 0 z₁)
 
--- a step goes on by at least 4 bytes and stays within the section, so a section of n bytes has at most n / 4 of them
-pub step-advances : (s : List ℕ) (at : ℕ) (next : Cursor) → stepAt s at ≡ Next next → (at + 4 ≤ next .at) × (next .at ≤ length s)
-unfolding stepAt
-step-advances s at next = go (leb (at + 2) (length s)) (leb (at + 4 + 2 * le 2 s at) (length s)) (eqb (le 2 s (at + 2 + 2 * le 2 s at)) 0) refl
-  where
-    go : (a b c : Bool) → leb (at + 4 + 2 * le 2 s at) (length s) ≡ b
-        → pickStep a (pickStep b (pickStep c (Next (record { at = at + 4 + 2 * le 2 s at })) Unended) Past) Past ≡ Next next
-        → (at + 4 ≤ next .at) × (next .at ≤ length s)
-    go true true true q e =
-        let n : at + 4 + 2 * le 2 s at ≡ next .at = ap (λ (c : Cursor). c .at) (cc) in
-        let h : at + 4 + 2 * le 2 s at ≤ length s = leb-true _ _ q in
-        (omega arith, omega arith)
-    go true true false q e = let z : _≡_ {A = ℕ} 0 1 = cc in absurd (omega arith)
-    go true false c q e = let z : _≡_ {A = ℕ} 0 1 = cc in absurd (omega arith)
-    go false b c q e = let z : _≡_ {A = ℕ} 0 1 = cc in absurd (omega arith)
-
 -- The directories, by a loop whose invariant is `directoryChecks s i n start ≡ directoryChecks s i (n - done) at`
 pub directories-start : (s : List ℕ) (i n at : ℕ) → directoryChecks s i n at ≡ directoryChecks s i (n - 0) at
 directories-start s i n at = rw (sub-zero n)
