@@ -2,13 +2,13 @@
 use mathlib.Core.Path.{_≡_, refl, sym, ap, _∙_}
 use mathlib.Core.Bool.{Bool, true, false, not, _&&_, _||_}
 use mathlib.Core.List.{List, []}
-use mathlib.Core.Logic.{_↔_}
+use mathlib.Core.Logic.{_⊎_, inl, inr, _↔_}
 use Prim.Native.Nat.{ℕ, _+_, _-_, _*_, _≤_, _<_, min}
 use native.Mathlib.Nat.{mul-le-mul-right}
 use native.Mathlib.Omega.{arith}
 use lib.Dec.{leb, eqb}
 use lib.ListN.{length, take, drop, length-take, length-drop}
-use borrow.Author.Tests.{lt-ltb, le-ltb, le-leb, lt-leb, ltb-true, leb-true, eqb-true, ne-eqb, not-true, not-false}
+use borrow.Author.Tests.{lt-ltb, le-ltb, le-leb, lt-leb, ltb-true, leb-true, eqb-true, eqb-false, ne-eqb, not-true, not-false}
 use Rattle.lists.specs.Count.{pick, true-false}
 use Rattle.lists.specs.Parts.{part-part}
 use Rattle.lists.specs.First.{first, first-at}
@@ -35,8 +35,8 @@ use Rattle.head.specs.declared.checks.OpenAnswer.{OpenAnswer}
 use Rattle.head.specs.declared.checks.OpenAnswer.the-variants as openAnswer
 use Rattle.names.specs.Names.{sound, nameAt, nameUnits}
 use Rattle.names.specs.NameLaws.{SoundName, sound-name}
-use Rattle.volumes.specs.Volumes.{entryAt, volumeChecks, entryChecks, volumeOf, referenceOf, pathAt, pathCount, pathFits, pathUnits, orAll, referencesAt, referencesSize, referencesFit, referenceCount}
-use Rattle.volumes.specs.VolumeLaws.{entry-path, entry-references}
+use Rattle.volumes.specs.Volumes.{entryAt, volumeChecks, volumeOf, referenceOf, pathAt, pathCount, pathUnits, orAll, referencesAt, referencesSize, referenceCount}
+use Rattle.volumes.specs.SoundVolume.{SoundReferences, SoundVolume, sound-volume}
 use Rattle.volumes.specs.declared.Volume.{Volume}
 use Rattle.volumes.specs.declared.Reference.{Reference}
 use Rattle.query.specs.Questions.{asked, bytesAt, placeOf, pickPlace, entryShown, namePlace, accepts, volumeShown, volumeFacts, volumeValues, referenceShown}
@@ -289,7 +289,7 @@ pub record SectionShown (s : Section) (v : Version) (b : List ℕ) (i : ℕ) : T
   pub room : s .count * layoutOf v .volume ≤ s .len
   pub below : i < s .count
   pub whole : s .len ≤ length b
-  pub passes : volumeChecks b v i ≡ accept tt
+  pub sound : SoundVolume b (entryAt v i)
 
 accepted : (d : Decision Unit) → accepts d ≡ true → d ≡ accept tt
 accepted (accept t) e = refl
@@ -304,10 +304,10 @@ section-shown-law s v b i = (there, back)
         let x = both _ _ e in
         let y = both _ _ (x .1) in
         let z = both _ _ (y .1) in
-        record { room = leb-true _ _ (x .0); below = ltb-true _ _ (y .0); whole = leb-true _ _ (z .0); passes = accepted _ (z .1) }
+        record { room = leb-true _ _ (x .0); below = ltb-true _ _ (y .0); whole = leb-true _ _ (z .0); sound = sound-volume b i (entryAt v i) .0 (accepted _ (z .1)) }
 
     back : SectionShown s v b i → sectionShown s v b i ≡ true
-    back f = rw (le-leb _ _ (f .room), lt-ltb _ _ (f .below), le-leb _ _ (f .whole), f .passes)
+    back f = rw (le-leb _ _ (f .room), lt-ltb _ _ (f .below), le-leb _ _ (f .whole), sound-volume b i (entryAt v i) .1 (f .sound))
 
 pub section-met : (s : Section) (v : Version) (b : List ℕ) (i : ℕ) {r : Bool} → r ≡ sectionShown s v b i → not r ≡ false → SectionShown s v b i
 section-met s v b i {r} e q = section-shown-law s v b i .0 (sym e ∙ not-false r q)
@@ -348,20 +348,6 @@ pub ruleset volumes-asked = (volume-hidden, volume-given, reference-hidden, refe
 -- ---- WHAT IT MEANS THAT VOLUME i IS SHOWN
 
 -- its path lies in the section, and so does each of its references
-path-fits : (s : List ℕ) (i e : ℕ) → entryChecks s i e ≡ accept tt → pathFits s e ≡ true
-path-fits s i e a = go (pathFits s e) refl
-  where
-    go : (b : Bool) → pathFits s e ≡ b → b ≡ true
-    go true q = refl
-    go false q = let r = entry-path s i e q ∙ a in let z : _≡_ {A = ℕ} 0 1 = cc in absurd (omega arith)
-
-references-fit : (s : List ℕ) (i e : ℕ) → entryChecks s i e ≡ accept tt → referencesFit s e ≡ true
-references-fit s i e a = go (referencesFit s e) refl
-  where
-    go : (b : Bool) → referencesFit s e ≡ b → b ≡ true
-    go true q = refl
-    go false q = let r = entry-references s i e (path-fits s i e a) q ∙ a in let z : _≡_ {A = ℕ} 0 1 = cc in absurd (omega arith)
-
 units-most : (s : List ℕ) (e : ℕ) → pathUnits s e ≤ pathCount s e
 unfolding pathUnits
 units-most s e = go (first _ (pathCount s e)) refl
@@ -370,33 +356,23 @@ units-most s e = go (first _ (pathCount s e)) refl
     go (At k) q = omega (arith, first-at _ _ 0 k q .1)
     go Nothing q = omega arith
 
-pub path-inside : (s : List ℕ) (v : Version) (i : ℕ) → volumeChecks s v i ≡ accept tt → volumeOf s (entryAt v i) .path + 2 * volumeOf s (entryAt v i) .units ≤ length s
-unfolding volumeOf pathFits
-path-inside s v i a = go (eqb (pathCount s (entryAt v i)) 0) refl (path-fits s i (entryAt v i) a)
+pub path-inside : (s : List ℕ) (e : ℕ) → SoundVolume s e → volumeOf s e .path + 2 * volumeOf s e .units ≤ length s
+unfolding volumeOf
+path-inside s e v = go (eqb (pathCount s e) 0) refl (v .path)
   where
-    go : (z : Bool) → eqb (pathCount s (entryAt v i)) 0 ≡ z → (z || leb (pathAt s (entryAt v i) + 2 * pathCount s (entryAt v i)) (length s)) ≡ true → pick z 0 (pathAt s (entryAt v i)) + 2 * pathUnits s (entryAt v i) ≤ length s
-    go true q h =
-        let z : pathCount s (entryAt v i) ≡ 0 = eqb-true _ _ q in
-        omega (arith, units-most s (entryAt v i))
-    go false q h =
-        let f : pathAt s (entryAt v i) + 2 * pathCount s (entryAt v i) ≤ length s = leb-true _ _ h in
-        omega (arith, units-most s (entryAt v i))
+    go : (z : Bool) → eqb (pathCount s e) 0 ≡ z → (pathCount s e ≡ 0) ⊎ (pathAt s e + 2 * pathCount s e ≤ length s) → pick z 0 (pathAt s e) + 2 * pathUnits s e ≤ length s
+    go true q h = let n : pathCount s e ≡ 0 = eqb-true _ _ q in omega (arith, units-most s e)
+    go false q (inl n) = absurd (eqb-false _ _ q n)
+    go false q (inr f) = omega (arith, units-most s e)
 
-pub reference-inside : (s : List ℕ) (v : Version) (i k : ℕ) → volumeChecks s v i ≡ accept tt → k < volumeOf s (entryAt v i) .references → referencesAt s (entryAt v i) + 8 + 8 * k + 8 ≤ length s
-unfolding volumeOf referencesFit referenceCount
-reference-inside s v i k a l = go (eqb (referencesSize s (entryAt v i)) 0) (leb 8 (referencesSize s (entryAt v i))) _ _ refl refl refl (references-fit s i (entryAt v i) a) l
+pub reference-inside : (s : List ℕ) (e k : ℕ) → SoundVolume s e → k < volumeOf s e .references → referencesAt s e + 8 + 8 * k + 8 ≤ length s
+unfolding volumeOf referenceCount
+reference-inside s e k v l = go (eqb (referencesSize s e) 0) refl (v .references) l
   where
-    go : (z a b c : Bool) → eqb (referencesSize s (entryAt v i)) 0 ≡ z → leb (referencesAt s (entryAt v i) + referencesSize s (entryAt v i)) (length s) ≡ b
-        → leb (8 + 8 * pick z 0 (le 4 s (referencesAt s (entryAt v i) + 4))) (referencesSize s (entryAt v i)) ≡ c → (z || (a && (b && c))) ≡ true
-        → k < pick z 0 (le 4 s (referencesAt s (entryAt v i) + 4)) → referencesAt s (entryAt v i) + 8 + 8 * k + 8 ≤ length s
-    go true a b c q x y h l = absurd (omega arith)
-    go false false b c q x y h l = absurd (true-false (sym h))
-    go false true false c q x y h l = absurd (true-false (sym h))
-    go false true true false q x y h l = absurd (true-false (sym h))
-    go false true true true q x y h l =
-        let f : referencesAt s (entryAt v i) + referencesSize s (entryAt v i) ≤ length s = leb-true _ _ x in
-        let g : 8 + 8 * le 4 s (referencesAt s (entryAt v i) + 4) ≤ referencesSize s (entryAt v i) = leb-true _ _ y in
-        omega arith
+    go : (z : Bool) → eqb (referencesSize s e) 0 ≡ z → (referencesSize s e ≡ 0) ⊎ SoundReferences s e → k < pick z 0 (le 4 s (referencesAt s e + 4)) → referencesAt s e + 8 + 8 * k + 8 ≤ length s
+    go true q h l = absurd (omega arith)
+    go false q (inl n) l = absurd (eqb-false _ _ q n)
+    go false q (inr r) l = omega (arith, r .inside, r .numbers)
 
 -- a section that has volume i has a byte
 section-some : (s : Section) (v : Version) (i : ℕ) → s .count * layoutOf v .volume ≤ s .len → i < s .count → 0 < s .len
@@ -408,8 +384,8 @@ pub record VolumeShown (o : Opening) (p : List ℕ) (i : ℕ) : Type 0 where
   pub below : i < o .head .volumes .count
   -- the whole section has arrived
   pub in-file : o .head .volumes .at + o .head .volumes .len ≤ length p
-  -- checks 14 and 15 on volume i
-  pub passes : volumeChecks (part (o .head .volumes) p) (o .version) i ≡ accept tt
+  -- 14 and 15 on volume i
+  pub sound : SoundVolume (part (o .head .volumes) p) (entryAt (o .version) i)
 
 pub volume-shown-law : (o : Opening) (p : List ℕ) (i : ℕ) → (volumeShown o p i ≡ true) ↔ VolumeShown o p i
 unfolding volumeShown sectionShown
@@ -422,19 +398,19 @@ volume-shown-law o p i = (there, back)
     there e =
         let f = l .0 e in
         let r = part-reach (o .head .volumes) p (o .head .volumes .len) (section-some (o .head .volumes) (o .version) i (f .room) (f .below)) .0 (f .whole) in
-        record { room = f .room; below = f .below; in-file = r .1; passes = f .passes }
+        record { room = f .room; below = f .below; in-file = r .1; sound = f .sound }
 
     back : VolumeShown o p i → volumeShown o p i ≡ true
     back f =
         let w = part-reach (o .head .volumes) p (o .head .volumes .len) (section-some (o .head .volumes) (o .version) i (f .room) (f .below)) .1 (omega arith, f .in-file) in
-        l .1 (record { room = f .room; below = f .below; whole = w; passes = f .passes })
+        l .1 (record { room = f .room; below = f .below; whole = w; sound = f .sound })
 
 -- its path is a part of the volumes section and of the file
 pub path-placed : (o : Opening) (p : List ℕ) (i : ℕ) → OpenFacts p o → VolumeShown o p i → (volumeFacts o p i .path .at + volumeFacts o p i .path .len ≤ o .head .volumes .end) × (volumeFacts o p i .path .at + volumeFacts o p i .path .len ≤ length p)
 unfolding volumeFacts
 path-placed o p i f e =
     let s = o .head .volumes in
-    let h = path-inside (part s p) (o .version) i (e .passes) in
+    let h = path-inside (part s p) (entryAt (o .version) i) (e .sound) in
     let z : s .end ≡ s .at + s .len = section-end s _ (open-shapes p o f .volumes-end) (section-some s (o .version) i (e .room) (e .below)) in
     let t = part-there s p in
     (omega (arith, h, t, z), omega (arith, h, t, e .in-file))
@@ -443,7 +419,7 @@ path-placed o p i f e =
 pub path-low : (o : Opening) (p : List ℕ) (i : ℕ) {b : List ℕ} {v : Volume} → OpenFacts p o → b ≡ part (o .head .volumes) p → SectionShown (o .head .volumes) (o .version) b i → v ≡ volumeOf b (entryAt (o .version) i) → o .head .volumes .at + v .path + 2 * v .units ≤ sizeLimit
 path-low o p i {b} {v} f eb e ev =
     let s = o .head .volumes in
-    let h : v .path + 2 * v .units ≤ length b = rw ev (path-inside b (o .version) i (e .passes)) in
+    let h : v .path + 2 * v .units ≤ length b = rw ev (path-inside b (entryAt (o .version) i) (e .sound)) in
     let g : v .path + 2 * v .units ≤ length (part s p) = rw (← eb) h in
     let z : s .end ≡ s .at + s .len = section-end s _ (open-shapes p o f .volumes-end) (section-some s (o .version) i (e .room) (e .below)) in
     omega (arith, g, part-there s p, z, f .volumes, f .start .most)
