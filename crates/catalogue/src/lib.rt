@@ -137,7 +137,7 @@ pub fn read_line(line: &[u8]) -> ReadLine
 }
 
 // The digit of x at a place, counted from the lowest.
-fn digit_at(x: u32, place: usize) -> u8
+pub fn hex_digit(x: u32, place: usize) -> u8
     ensures { λ r. ⌜ r ≡ digitOf (x / 16 ^ place % 16) ⌝ }
 {
     let mut y = x;
@@ -162,7 +162,7 @@ fn write_number(output: &mut [u8], at: usize, width: usize, x: u32)
 {
     let mut j = 0;
     while j < width {
-        output[at + j] = digit_at(x, width - 1 - j);
+        output[at + j] = hex_digit(x, width - 1 - j);
         j += 1;
     }
 }

@@ -32,14 +32,6 @@ pub decimal-more : (n : ℕ) → 10 ≤ n → decimal n ≡ decimal (n / 10) ++ 
 unfolding decimal decimalIn
 decimal-more n l = rw (le-ltb n 10 l, turns-enough n (suc (n / 10)) (n / 10) (omega arith) (omega arith))
 
--- the last of several digits 0-9 A-F
-pub hex-last : (w x : ℕ) → hexDigits (suc w) x ≡ hexDigits w (x / 16) ++ (digitOf (x % 16) ∷ [])
-unfolding hexDigits
-hex-last zero x = rw (pow-zero, div-one)
-hex-last (suc w) x =
-    let e : x / 16 ^ suc w ≡ x / 16 / 16 ^ w = rw (pow-suc, mul-comm (16 ^ w) 16) (sym (div-div-eq-div-mul x 16 (16 ^ w))) in
-    rw e (ap (λ (l : List ℕ). digitOf (x / 16 / 16 ^ w % 16) ∷ l) (hex-last w x))
-
 -- the last entry of a list that is given by its entries
 pub tabulate-last : (n : ℕ) (f : ℕ → ℕ) → tabulate (suc n) f ≡ tabulate n f ++ (f n ∷ [])
 unfolding tabulate

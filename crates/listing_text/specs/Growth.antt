@@ -80,8 +80,5 @@ pub grown-all : (t r : Text) (s : List ℕ) (i : ℕ) → length s ≤ i → Gro
 grown-all t r s i l g = rw (take-all i s l) at g
 
 -- from an empty text
-pub empty-sound : Sound (record { bytes = replicate room 0; len = 0 })
-empty-sound = record { fits = omega arith; size = length-replicate {A = ℕ} room 0; rest = refl }
-
 pub shows : (t r : Text) (s : List ℕ) → textOf t ≡ [] → Grown t s r → Shows s r
 shows t r s e g = record { sound = g .sound; text = g .text ∙ ap (λ (l : List ℕ). take room (l ++ s)) e }

@@ -4,7 +4,8 @@ use mathlib.Core.List.{List, [], _∷_, _++_, append-assoc}
 use Prim.Native.Nat.{ℕ, _≤_, _<_}
 use native.Mathlib.Omega.{arith}
 use borrow.Author.Tests.{lt-ltb, le-ltb}
-use lib.ListN.{length}
+use lib.ListN.{length, take}
+use lib.Seq.{take-all}
 use Rattle.incremental.specs.Decision.{accept, refuse}
 use Rattle.incremental.specs.Plan.{Answer, decided, wants}
 use Rattle.incremental.specs.declared.Refusal.{Refusal}
@@ -17,7 +18,9 @@ use Rattle.reader.specs.declared.verdict.Verdict.the-variants.{Accepted, Refuse
 use Rattle.query.specs.Search.{pathFound}
 use Rattle.query.specs.declared.search.PathAnswer.{PathAnswer}
 use Rattle.listing_text.specs.Decimal.{decimal}
-use Rattle.listing_text.specs.Listing.{line, version·word, name·word, hash·word, runs·word, files·word, chains·word, volumes·word, path·word, refused·word, too-long, shownName, pathText, acceptedText, refusedText, answerText, fileLimit, listing, textOf, Listed}
+use Rattle.listing_text.specs.Listing.{line, version·word, name·word, hash·word, runs·word, files·word, chains·word, volumes·word, path·word, refused·word, too-long, shownName, pathText, acceptedText, refusedText, answerText, fileLimit, listing, room, textOf, Listed}
+use Rattle.listing_text.specs.Bounds.{Bytes}
+use Rattle.listing_text.specs.Short.{listing-short}
 use Rattle.listing_text.specs.Growth.{Grown, Shows, grown-then, shows}
 use Rattle.listing_text.specs.declared.Text.{Text}
 
@@ -76,15 +79,19 @@ too-long-line t u r e f g = shows t r _ e (grown-then t u r _ _ f g)
 
 -- ---- which listing it is
 
-module _ (p buffer : List ℕ) where
+module _ (p buffer : List ℕ) (h : Bytes p) where
+  -- a text that is the listing as far as there is room is the whole of it
+  whole-text : (t : Text) → textOf t ≡ take room (listing p (length buffer)) → textOf t ≡ listing p (length buffer)
+  whole-text t e = e ∙ take-all room (listing p (length buffer)) (listing-short p (length buffer) h)
+
   pub listed-too-long : (t : Text) → fileLimit < length p → Shows (line too-long) t → Listed p buffer t buffer
   unfolding listing
-  listed-too-long t l s = record { sound = s .sound; text = rw (lt-ltb fileLimit (length p) l) (s .text); places = rw (lt-ltb fileLimit (length p) l) }
+  listed-too-long t l s = record { sound = s .sound; text = whole-text t (rw (lt-ltb fileLimit (length p) l) (s .text)); places = rw (lt-ltb fileLimit (length p) l) }
 
   module _ (l : length p ≤ fileLimit) (v : Verdict) (after : List ℕ) (r : Reads (fileAnswer p (length buffer)) (length buffer) v after) where
     listed : (t : Text) → Shows (answerText (fileAnswer p (length buffer)) p) t → Listed p buffer t after
     unfolding listing
-    listed t s = record { sound = s .sound; text = rw (le-ltb fileLimit (length p) l) (s .text); places = rw (le-ltb fileLimit (length p) l) (r .buffer) }
+    listed t s = record { sound = s .sound; text = whole-text t (rw (le-ltb fileLimit (length p) l) (s .text)); places = rw (le-ltb fileLimit (length p) l) (r .buffer) }
 
     -- what the answer is by the verdict's values
     accepted-answer : (a : Acceptance) (x : Answer Acceptable) → acceptedValues a ≡ answerValues x → answerText x p ≡ acceptedText a p

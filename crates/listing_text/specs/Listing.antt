@@ -125,5 +125,5 @@ pub record Sound (t : Text) : Type 0 where
 -- the text, and the working buffer afterwards: as it was where the file is too long, else as the whole-file reader leaves it
 pub record Listed (p buffer : List ℕ) (t : Text) (after : List ℕ) : Type 0 where
   pub sound : Sound t
-  pub text : textOf t ≡ take room (listing p (length buffer))
+  pub text : textOf t ≡ listing p (length buffer)
   pub places : after ≡ pickList (ltb fileLimit (length p)) buffer (bufferAfter (fileAnswer p (length buffer)) (length buffer))

@@ -100,10 +100,7 @@ module _ (p : List ℕ) (h : Bytes p) where
   answer-short false (decided (refuse r)) k = refused-short r (k .refuses r refl)
   answer-short false (wants j) k = omega arith
 
--- EVERY LISTING HAS ROOM, so that a text that the program makes is the whole of it
+-- EVERY LISTING HAS ROOM
 pub listing-short : (p : List ℕ) (m : ℕ) → Bytes p → length (listing p m) ≤ room
 unfolding listing
 listing-short p m h = answer-short p h (ltb fileLimit (length p)) (fileAnswer p m) (small-answer p m h)
-
-pub listed-whole : (p buffer : List ℕ) (t : Text) (after : List ℕ) → Bytes p → Listed p buffer t after → textOf t ≡ listing p (length buffer)
-listed-whole p buffer t after h l = l .text ∙ take-all room (listing p (length buffer)) (listing-short p (length buffer) h)

@@ -1,16 +1,17 @@
 -- What is added digit by digit and unit by unit.
-use mathlib.Core.Path.{_≡_}
+use mathlib.Core.Path.{_≡_, sym, _∙_}
 use mathlib.Core.List.{List, [], _∷_}
-use Prim.Native.Nat.{ℕ, suc, _+_, _-_, _*_, _/_, _%_, _≤_, _<_}
+use Prim.Native.Nat.{ℕ, _+_, _-_, _*_, _/_, _%_, _^_, _≤_, _<_}
 use native.Mathlib.Numerals.{add-one}
 use native.Mathlib.Omega.{arith}
+use lib.ListN.{getD, take}
 use Rattle.lists.specs.Table.{tabulate}
 use Rattle.little_endian.specs.Number.{le}
-use Rattle.catalogue.specs.Hex.{hexDigits, digitOf}
+use Rattle.catalogue.specs.Hex.{hexDigits, digitOf, length-digits, getD-digits}
 use Rattle.listing_text.specs.Decimal.{decimal}
-use Rattle.listing_text.specs.DecimalLaws.{decimal-digit, decimal-more, hex-last, tabulate-last}
+use Rattle.listing_text.specs.DecimalLaws.{decimal-digit, decimal-more, tabulate-last}
 use Rattle.listing_text.specs.Listing.{Sound, shownUnit, shownName}
-use Rattle.listing_text.specs.Growth.{Grown, grown-none, grown-then}
+use Rattle.listing_text.specs.Growth.{Grown, grown-none, grown-then, grown-next, grown-all}
 use Rattle.listing_text.specs.declared.Text.{Text}
 
 -- a decimal number: its one digit, or the digits of its tenth and the last
@@ -22,15 +23,14 @@ decimal-one t r n l g =
 pub decimal-then : (t u r : Text) (n : ℕ) → 10 ≤ n → Grown t (decimal (n / 10)) u → Grown u ((48 + n % 10) ∷ []) r → Grown t (decimal n) r
 decimal-then t u r n l g h = rw (decimal-more n l) (grown-then t u r _ _ g h)
 
--- digits 0-9 A-F: none, or one fewer and the last
-pub hex-none : (t : Text) (width x : ℕ) → Sound t → width ≡ 0 → Grown t (hexDigits width x) t
-unfolding hexDigits
-hex-none t width x s e = rw e (grown-none t s)
+-- digits 0-9 A-F
+pub hex-next : (t u r : Text) (width x k d : ℕ) → k < width → d ≡ digitOf (x / 16 ^ (width - 1 - k) % 16) → Grown t (take k (hexDigits width x)) u → Grown u (d ∷ []) r → Grown t (take (k + 1) (hexDigits width x)) r
+hex-next t u r width x k d l e g h =
+    let n : d ≡ getD (hexDigits width x) k 0 = e ∙ sym (getD-digits width x k l) in
+    grown-next t u r (hexDigits width x) k (omega (arith, length-digits width x)) g (rw n at h)
 
-pub hex-then : (t u r : Text) (width x d : ℕ) → (width ≡ 0 → ⊥) → d ≡ digitOf (x % 16) → Grown t (hexDigits (width - 1) (x / 16)) u → Grown u (d ∷ []) r → Grown t (hexDigits width x) r
-hex-then t u r width x d n e g h =
-    let w : width ≡ suc (width - 1) = omega arith in
-    rw (w, hex-last (width - 1) x, ← e) (grown-then t u r _ _ g h)
+pub hex-end : (t r : Text) (width x k : ℕ) → width ≤ k → Grown t (take k (hexDigits width x)) r → Grown t (hexDigits width x) r
+hex-end t r width x k l g = grown-all t r (hexDigits width x) k (omega (arith, length-digits width x)) g
 
 -- the units of the name
 pub name-start : (t : Text) (p : List ℕ) → Sound t → Grown t (shownName p 0) t

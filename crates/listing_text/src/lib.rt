@@ -2,7 +2,7 @@
 ghost use mathlib.Core.Path.{_≡_};
 ghost use mathlib.Core.List.{[], _∷_, _++_};
 ghost use Prim.Native.Nat.{_<_, _≤_};
-ghost use Rattle.catalogue.specs.Hex.{digitOf, hexDigits};
+ghost use Rattle.catalogue.specs.Hex.{hexDigits};
 ghost use Rattle.listing_text.specs.Decimal.{decimal};
 ghost use Rattle.listing_text.specs.Listing.{textOf, Sound, line, name·word, hash·word, path·word, too-long, shownUnit, shownName, reportWord, pathText, acceptedText, refusedText, Listed};
 ghost use Rattle.listing_text.specs.Growth.{Grown, Shows};
@@ -32,13 +32,6 @@ fn shown_unit(u: u16) -> u8
         return 63;
     }
     u as u8
-}
-
-fn hex_digit(d: u8) -> u8
-    requires { ⌜ d < 16 ⌝ }
-    ensures { λ r. ⌜ r ≡ digitOf d ⌝ }
-{
-    if d < 10 { 48 + d } else { 55 + d }
 }
 
 impl Text {
@@ -93,15 +86,18 @@ impl Text {
         self.push_decimal(n / 10).push(digit)
     }
 
+    // The lowest digits of a number, the most significant first.
     fn push_hex(self, width: usize, x: u32) -> Text
         requires { ⌜ Sound self ⌝ }
         ensures { λ r. ⌜ Grown self (hexDigits width x) r ⌝ }
     {
-        if width == 0 {
-            return self;
+        let mut text = self;
+        let mut k = 0;
+        while k < width {
+            text = text.push(catalogue::hex_digit(x, width - 1 - k));
+            k += 1;
         }
-        let digit = hex_digit((x % 16) as u8);
-        self.push_hex(width - 1, x / 16).push(digit)
+        text
     }
 
     // The units of the program name.

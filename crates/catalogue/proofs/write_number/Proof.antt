@@ -10,7 +10,7 @@ use Rattle.catalogue.proofs.write_number.Statement.{statement}
 use Rattle.catalogue.proofs.write_number.Tie as tie
 use Rattle.catalogue.proofs.write_number.Reads as reads
 use Rattle.catalogue.proofs.write_number.Lts as lts
-use Rattle.catalogue.proofs.digit_at.Reads as digit-at-reads
+use Rattle.catalogue.proofs.hex_digit.Reads as hex-digit-reads
 
 abbrev Inv-loop : tie.InvT-loop
 Inv-loop output₀ at width x j₀ output j = (j ≤ width) × (length output ≡ length output₀) × (output ≡ paste output₀ at (hexDigits width x) j)
@@ -23,16 +23,16 @@ loop-holds : tie.Need-loop-holds Inv-loop μ-loop
 loop-holds c = let a = c .before .args in (omega arith, refl, paste-zero (a .output .now) (a .at) (hexDigits (a .width) (a .x)))
 
 -- src/lib.rt:165:38
-sub-digit-at : tie.Need-sub-digit-at Inv-loop μ-loop
-sub-digit-at c = search needs
+sub-hex-digit : tie.Need-sub-hex-digit Inv-loop μ-loop
+sub-hex-digit c = search needs
 
 -- src/lib.rt:165:38
-sub-digit-at-2 : tie.Need-sub-digit-at-2 Inv-loop μ-loop
-sub-digit-at-2 c = search needs
+sub-hex-digit-2 : tie.Need-sub-hex-digit-2 Inv-loop μ-loop
+sub-hex-digit-2 c = search needs
 
 -- src/lib.rt:165:26
-digit-at-requires : tie.Need-digit-at-requires Inv-loop μ-loop
-digit-at-requires c κs = search needs
+hex-digit-requires : tie.Need-hex-digit-requires Inv-loop μ-loop
+hex-digit-requires c κs = search needs
 
 -- src/lib.rt:165:16
 add-output : tie.Need-add-output Inv-loop μ-loop
@@ -59,7 +59,7 @@ loop-again c =
     let ds = hexDigits (a .width) (a .x) in
     let l : j < length ds = rw (length-digits (a .width) (a .x)) (omega arith) in
     let h : a .at + j < length (a .output .now) = omega (arith, b .before .before .pre) in
-    let d : c .digit-at .result ≡ getD ds j 0 = c .digit-at .ensures ∙ sym (getD-digits (a .width) (a .x) j (omega arith)) in
+    let d : c .hex-digit .result ≡ getD ds j 0 = c .hex-digit .ensures ∙ sym (getD-digits (a .width) (a .x) j (omega arith)) in
     (omega arith, simp length-set (b .loop .inv .1), rw (b .loop .inv .2, d, add-one j) (paste-suc (a .output .now) (a .at) ds j 0 h l))
 
 -- src/lib.rt:159:1
@@ -81,9 +81,9 @@ write-number-spec =
     Inv-loop
     μ-loop
     loop-holds
-    sub-digit-at
-    sub-digit-at-2
-    digit-at-requires
+    sub-hex-digit
+    sub-hex-digit-2
+    hex-digit-requires
     add-output
     slice-write-output
     add-j
