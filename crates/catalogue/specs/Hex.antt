@@ -1,7 +1,7 @@
 -- Numbers written in digits 0-9 A-F, the most significant first: definitions and laws over the width.
 use mathlib.Core.Path.{_≡_, refl, sym, ap, _∙_}
-use mathlib.Core.Bool.{Bool, true, false, not, _&&_, _||_}
-use mathlib.Core.List.{List, [], _∷_, _++_}
+use mathlib.Core.Bool.{Bool, true, false, _&&_, _||_}
+use mathlib.Core.List.{List, [], _∷_}
 use Prim.Native.Nat.{ℕ, zero, suc, _+_, _-_, _*_, _/_, _%_, _^_, _≤_, _<_}
 use native.Mathlib.Nat.{add-zero, pow-zero, pow-suc, one-le-pow, pow-le-pow-right, mod-one, mod-eq-of-lt, mul-comm, mul-assoc, add-mul-div-left}
 use native.Mathlib.Numerals.{add-one}

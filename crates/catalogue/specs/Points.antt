@@ -5,7 +5,7 @@ use Prim.Native.Nat.{ℕ}
 use Rattle.lists.specs.Count.{some}
 use Rattle.layout.specs.Versions.{versionOf}
 use Rattle.catalogue.specs.Hex.{isDigit, digitValue, hexAt}
-use Rattle.catalogue.specs.Line.{Answer, reading, isLine, isFrame, canForm, fieldsIn}
+use Rattle.catalogue.specs.Line.{reading, isLine, isFrame, canForm, fieldsIn}
 
 -- `000094000000410000000111` and a line feed
 pub example : List ℕ

@@ -1,12 +1,12 @@
 -- A line that is written reads back equal, and a line that reads is the one that writing its fields gives.
 use mathlib.Core.Path.{_≡_, refl, sym, ap, _∙_}
-use mathlib.Core.Bool.{Bool, true, false, not, _&&_}
+use mathlib.Core.Bool.{Bool, true, false, _&&_}
 use mathlib.Core.List.{List, [], _∷_, _++_, append-assoc}
-use Prim.Native.Nat.{ℕ, zero, suc, _+_, _-_, _%_, _≤_, _<_, _^_}
+use Prim.Native.Nat.{ℕ, _+_, _-_, _%_, _≤_, _<_, _^_}
 use native.Mathlib.Nat.{mod-eq-of-lt}
 use native.Mathlib.Omega.{arith}
 use lib.ListN.{length, getD, take, drop, set, length-append, List·getD-append, take-append-drop, drop-of-length-le}
-use lib.Seq.{paste, take-at, drop-at, drop-drop, take-all, take-add, take-length, drop-cons, set-at, getD-append-add, drop-length}
+use lib.Seq.{paste, take-at, drop-at, drop-drop, take-all, drop-cons, set-at, getD-append-add}
 use borrow.Author.Tests.{leb-true, eqb-true}
 use Rattle.lists.specs.Count.{true-false}
 use native.Mathlib.Decide.{decLt}

@@ -1,5 +1,4 @@
 -- Checks 1 to 6 of document 01 in their order: number, required length, fault.
-use mathlib.Core.Path.{_≡_}
 use mathlib.Core.List.{List}
 use Prim.Native.Nat.{ℕ}
 use Rattle.lists.specs.declared.Found.{Found}
@@ -9,7 +8,7 @@ use Rattle.layout.specs.Versions.{versionOf, layoutOf}
 use Rattle.layout.specs.declared.Version.{Version}
 use Rattle.layout.specs.declared.KnownVersion.{KnownVersion}
 use Rattle.layout.specs.declared.KnownVersion.the-variants.{Known, Unknown}
-use Rattle.incremental.specs.Decision.{Decision, accept, refuse, refusal}
+use Rattle.incremental.specs.Decision.{accept, refuse, refusal}
 use Rattle.incremental.specs.Plan.{Plan, decide, await, andThen, Answer, decided, wants}
 use Rattle.head.specs.Fields.{signatureFault, sizeFault, nameEnd, headOf, firstOutside, firstShared}
 use Rattle.head.specs.declared.fields.Head.{Head}

@@ -1,7 +1,6 @@
 -- The head's fields and sections, and what each of checks 2 to 6 finds wrong in them (document 01, "Head" and rows 2 to 6).
-use mathlib.Core.Path.{_≡_, refl}
 use mathlib.Core.List.{List}
-use mathlib.Core.Bool.{Bool, true, false, _&&_, _||_, not}
+use mathlib.Core.Bool.{Bool, _&&_, _||_, not}
 use Prim.Native.Nat.{ℕ, _+_, _*_}
 use lib.Dec.{eqb, ltb}
 use lib.ListN.{take, drop}

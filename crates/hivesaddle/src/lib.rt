@@ -3,7 +3,6 @@ ghost use mathlib.Core.Path.{_≡_};
 ghost use mathlib.Core.List.{[], _∷_};
 ghost use Rattle.path_hash.specs.Hash.{xp, vista, hash2008, units};
 ghost use Rattle.catalogue.specs.Line.{reading};
-ghost use Prim.Native.Nat.{ℕ};
 ghost use lib.ListN.{length};
 ghost use Rattle.reader.specs.Verdict.{valuesOf, zeros};
 ghost use Rattle.reader.specs.Checks.{prefixAnswer, fileAnswer};

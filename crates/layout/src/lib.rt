@@ -1,6 +1,6 @@
 // The constants of each format version, kept together.
 ghost use mathlib.Core.Path.{_≡_};
-ghost use Rattle.layout.specs.Versions.{layoutOf, versionNumber, versionOf, sizeLimit};
+ghost use Rattle.layout.specs.Versions.{layoutOf, versionNumber, versionOf};
 
 // The greatest declared size.
 pub const SIZE_LIMIT: u32 = 16777215;

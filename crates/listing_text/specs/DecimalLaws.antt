@@ -1,13 +1,11 @@
 -- The digits of a number, from those of its tenth.
-use mathlib.Core.Path.{_≡_, refl, sym, ap}
+use mathlib.Core.Path.{_≡_, refl, ap}
 use mathlib.Core.List.{List, [], _∷_, _++_}
-use Prim.Native.Nat.{ℕ, zero, suc, _+_, _/_, _%_, _^_, _≤_, _<_}
-use native.Mathlib.Nat.{pow-zero, pow-suc, div-div-eq-div-mul, div-one, mul-comm}
+use Prim.Native.Nat.{ℕ, zero, suc, _+_, _/_, _%_, _≤_, _<_}
 use native.Mathlib.Omega.{arith}
 use borrow.Author.Tests.{ltb-false, lt-ltb, le-ltb}
 use mathlib.Core.Bool.{Bool, true, false}
 use lib.Dec.{ltb}
-use Rattle.catalogue.specs.Hex.{hexDigits, digitOf}
 use Rattle.lists.specs.Table.{tabulate}
 use Rattle.lists.specs.Count.{pickList}
 use Rattle.listing_text.specs.Decimal.{decimal, decimalIn}

@@ -4,7 +4,7 @@ use mathlib.Core.List.{List, [], _∷_, _++_, append-assoc, append-nil}
 use Prim.Native.Nat.{ℕ, zero, suc, _+_, _-_, _≤_, _<_}
 use native.Mathlib.Numerals.{add-one}
 use native.Mathlib.Omega.{arith}
-use lib.ListN.{length, getD, set, take, drop, replicate, length-take, length-append, length-set, length-replicate}
+use lib.ListN.{length, getD, set, take, drop, length-take, length-append, length-set}
 use lib.Seq.{take-all, take-append-le, take-suc, take-suc-set, drop-set-lt, drop-drop}
 use Rattle.listing_text.specs.Listing.{room, textOf, Sound}
 use Rattle.listing_text.specs.declared.Text.{Text}

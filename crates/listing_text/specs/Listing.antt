@@ -1,6 +1,6 @@
 -- Document 01's "Program": what the listing says of a file.
 use mathlib.Core.Path.{_≡_}
-use mathlib.Core.Bool.{Bool, true, false, _&&_}
+use mathlib.Core.Bool.{_&&_}
 use mathlib.Core.List.{List, [], _∷_, _++_}
 use Prim.Native.Nat.{ℕ, _+_, _-_, _*_, _≤_}
 use lib.Dec.{leb, ltb}
@@ -9,7 +9,7 @@ use Rattle.lists.specs.Count.{pickList, pick}
 use Rattle.lists.specs.Table.{tabulate}
 use Rattle.little_endian.specs.Number.{le}
 use Rattle.catalogue.specs.Hex.{hexDigits}
-use Rattle.incremental.specs.Decision.{Decision, accept, refuse}
+use Rattle.incremental.specs.Decision.{accept, refuse}
 use Rattle.incremental.specs.Plan.{Answer, decided, wants}
 use Rattle.reader.specs.Verdict.{Acceptable, bufferAfter}
 use Rattle.reader.specs.Checks.{fileAnswer}

@@ -1,5 +1,5 @@
 -- Every listing has room.
-use mathlib.Core.Path.{_≡_, refl, _∙_}
+use mathlib.Core.Path.{_≡_, refl}
 use mathlib.Core.Bool.{Bool, true, false}
 use mathlib.Core.List.{List}
 use Prim.Native.Nat.{ℕ, zero, suc, _*_, _/_, _^_, _≤_, _<_}
@@ -8,7 +8,6 @@ use native.Mathlib.Decide.{decLt}
 use native.Mathlib.Omega.{arith}
 use lib.Dec.{ltb}
 use lib.ListN.{length, length-append}
-use lib.Seq.{take-all}
 use Rattle.lists.specs.First.{first-at}
 use Rattle.lists.specs.Table.{length-tabulate}
 use Rattle.lists.specs.declared.Found.{Found}
@@ -31,8 +30,7 @@ use Rattle.query.specs.declared.search.PathAnswer.the-variants as pathAnswer
 use Rattle.lists.specs.Count.{pickList}
 use Rattle.listing_text.specs.Decimal.{decimal}
 use Rattle.listing_text.specs.DecimalLaws.{decimal-digit, decimal-more}
-use Rattle.listing_text.specs.Listing.{line, too-long, reportWord, pathText, acceptedText, refusedText, answerText, fileLimit, listing, room, textOf, Listed}
-use Rattle.listing_text.specs.declared.Text.{Text}
+use Rattle.listing_text.specs.Listing.{line, too-long, reportWord, pathText, acceptedText, refusedText, answerText, fileLimit, listing, room}
 use Rattle.listing_text.specs.Bounds.{Bytes, SmallRefusal, SmallFields, Each, low-counts, small-answer}
 
 -- a number below 10 ^ k has at most k digits

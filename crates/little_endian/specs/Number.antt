@@ -1,12 +1,11 @@
 -- Little-endian numbers in a list of bytes: one definition over the width, and its laws.
-use mathlib.Core.Path.{_≡_, refl, sym, ap, _∙_}
-use mathlib.Core.List.{List, [], _∷_, _++_}
-use Prim.Native.Nat.{ℕ, zero, suc, _+_, _*_, _/_, _%_, _^_, _≤_, _<_}
+use mathlib.Core.Path.{_≡_, refl, ap, _∙_}
+use mathlib.Core.List.{List}
+use Prim.Native.Nat.{ℕ, zero, suc, _+_, _*_, _^_, _≤_, _<_}
 use native.Mathlib.Nat.{add-zero, zero-add, one-mul, pow-zero, pow-suc, suc-add}
-use native.Mathlib.Numerals.{one-add}
 use native.Mathlib.Omega.{arith}
-use lib.ListN.{length, getD, take, drop, List·getD-append, List·getD-eq-default}
-use lib.Seq.{getD-take, getD-drop, getD-append-add}
+use lib.ListN.{length, getD, take, drop, List·getD-eq-default}
+use lib.Seq.{getD-take, getD-drop}
 
 -- the number that `width` bytes from `at` form, the lowest byte first; a byte past the end counts as 0
 unfoldable pub le : ℕ → List ℕ → ℕ → ℕ
@@ -49,9 +48,3 @@ le-take w n s a l = le-ext w (take n s) s a a (λ i h. getD-take n s (a + i) 0 (
 
 pub le-drop : (w n : ℕ) (s : List ℕ) (a : ℕ) → le w (drop n s) a ≡ le w s (n + a)
 le-drop w n s a = le-ext w (drop n s) s a (n + a) (λ i h. getD-drop n s (a + i) 0 ∙ ap (λ (k : ℕ). getD s k 0) (omega arith))
-
-pub le-left : (w : ℕ) (s t : List ℕ) (a : ℕ) → a + w ≤ length s → le w (s ++ t) a ≡ le w s a
-le-left w s t a l = le-ext w (s ++ t) s a a (λ i h. List·getD-append s t 0 (a + i) (omega arith))
-
-pub le-right : (w : ℕ) (s t : List ℕ) (a : ℕ) → le w (s ++ t) (length s + a) ≡ le w t a
-le-right w s t a = le-ext w (s ++ t) t (length s + a) a (λ i h. ap (λ (k : ℕ). getD (s ++ t) k 0) (omega arith) ∙ getD-append-add s t (a + i) 0)

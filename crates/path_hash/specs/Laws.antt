@@ -1,16 +1,16 @@
 -- Laws of the path hashes.
 use mathlib.Core.Path.{_≡_, refl, sym, ap, _∙_}
 use mathlib.Core.Bool.{Bool, true, false}
-use mathlib.Core.List.{List, [], _∷_, _++_}
+use mathlib.Core.List.{List}
 use Prim.Native.Nat.{ℕ, zero, suc, _+_, _-_, _*_, _/_, _%_, _^_, _≤_, _<_}
-use native.Mathlib.Nat.{mod-eq-of-lt, le-of-eq, mod-add-mod, add-mul-mod-self-right, add-mul-mod-self-left, div-add-mod, le-of-suc-le-suc, not-suc-le-zero}
+use native.Mathlib.Nat.{mod-eq-of-lt, add-mul-mod-self-right}
 use native.Mathlib.Numerals.{add-one}
 use native.Mathlib.Omega.{arith}
 use borrow.Author.Tests.{ltb-true}
 use lib.Dec.{ltb}
-use lib.ListN.{length, getD, take, drop, drop-of-length-le, length-drop}
-use lib.Seq.{drop-cons, take-all}
-use Rattle.path_hash.specs.Hash.{step, plain, vista, xp, xpEnd, wrapSub, eightSum, eight, eightAt, eights, hash2008, units}
+use lib.ListN.{length, getD, drop, drop-of-length-le}
+use lib.Seq.{drop-cons}
+use Rattle.path_hash.specs.Hash.{step, plain, vista, wrapSub, eightSum, eight, eightAt, eights, hash2008, units}
 use Rattle.little_endian.specs.Number.{le}
 use Rattle.lists.specs.Table.{length-tabulate, getD-tabulate}
 

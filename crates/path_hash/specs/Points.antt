@@ -1,7 +1,6 @@
 -- Document 01's points marked P on the path hashes.
 use mathlib.Core.Path.{_≡_, refl}
-use mathlib.Core.List.{List, [], _∷_}
-use Prim.Native.Nat.{ℕ}
+use mathlib.Core.List.{[], _∷_}
 use Rattle.path_hash.specs.Hash.{step, plain, vista, xp, xpEnd, wrapSub, eightSum, eight, eights, hash2008, signedRemainder}
 
 pub record HashPoints : Type 0 where

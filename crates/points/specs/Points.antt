@@ -1,8 +1,7 @@
 -- ALL POINTS of document 01 that are marked P, proved of the rules themselves.
 use mathlib.Core.Path.{_≡_, refl}
-use mathlib.Core.List.{List, [], _∷_}
+use mathlib.Core.List.{[], _∷_}
 use Prim.Native.Nat.{ℕ}
-use Rattle.lists.specs.First.{firstFrom}
 use Rattle.little_endian.specs.Number.{le}
 use Rattle.layout.specs.Versions.{versionOf}
 use Rattle.incremental.specs.Decision.{refuse, refusal}

@@ -1,7 +1,6 @@
 -- Document 01's "Questions about one entry".
-use mathlib.Core.Path.{_≡_}
 use mathlib.Core.Bool.{Bool, true, false, _&&_}
-use mathlib.Core.List.{List, []}
+use mathlib.Core.List.{List}
 use Prim.Native.Nat.{ℕ, _+_, _*_}
 use lib.Dec.{leb, ltb}
 use lib.ListN.{length, take, drop}
@@ -10,7 +9,6 @@ use Rattle.incremental.specs.Decision.{Decision, accept, refuse}
 use Rattle.incremental.specs.Plan.{Answer, decided, wants, run}
 use Rattle.head.specs.Fields.{part}
 use Rattle.head.specs.Checks.{startPlan, openPlan}
-use Rattle.head.specs.declared.checks.Start.{Start}
 use Rattle.head.specs.declared.checks.Opening.{Opening}
 use Rattle.names.specs.Names.{sound, nameAt, nameUnits}
 use Rattle.volumes.specs.Volumes.{volumeChecks, volumeOf, referenceOf, entryAt}

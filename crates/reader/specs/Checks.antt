@@ -1,6 +1,5 @@
 -- All fifteen checks of document 01 in their order, each with its number, its reach and its index.
-use mathlib.Core.Path.{_≡_}
-use mathlib.Core.Bool.{Bool, true, false, not}
+use mathlib.Core.Bool.{Bool, true, false}
 use mathlib.Core.List.{List}
 use Prim.Native.Nat.{ℕ, _*_, max}
 use lib.Dec.{eqb, ltb}

@@ -2,32 +2,31 @@
 use mathlib.Core.Path.{_≡_, refl, sym, _∙_, ap, subst⁻¹}
 use mathlib.Core.List.{List}
 use mathlib.Core.Logic.{_↔_}
-use Prim.Native.Nat.{ℕ, _*_, _≤_, _<_, max}
+use Prim.Native.Nat.{ℕ, _*_, _≤_, _<_}
 use native.Mathlib.Nat.{le-trans}
 use native.Mathlib.Decide.{ℕ-discrete}
 use native.Mathlib.Omega.{arith}
 use borrow.Author.Tests.{eq-eqb, ne-eqb}
-use lib.Dec.{eqb, ltb}
+use lib.Dec.{ltb}
 use lib.ListN.{length, take}
 use lib.Seq.{length-take-le, take-length}
 use Rattle.little_endian.specs.Number.{le-take}
-use Rattle.lists.specs.Count.{pick}
 use Rattle.layout.specs.Versions.{layoutOf}
 use Rattle.incremental.specs.Decision.{Decision, accept, refuse}
-use Rattle.incremental.specs.Plan.{Plan, decide, andThen, Answer, decided, wants, run, stands, begins-take, Decided, decided-decide, decided-await, decided-then}
+use Rattle.incremental.specs.Plan.{decide, Answer, decided, wants, run, stands, begins-take, Decided, decided-decide, decided-await, decided-then}
 use Rattle.incremental.specs.declared.Refusal.{Refusal}
 use Rattle.head.specs.Fields.{declaredSize, faultAt, part}
-use Rattle.head.specs.Checks.{openPlan, stop}
+use Rattle.head.specs.Checks.{openPlan}
 use Rattle.head.specs.Facts.{OpenFacts, open-facts, decided-open, decided-stop}
 use Rattle.head.specs.declared.checks.Opening.{Opening}
 use Rattle.names.specs.Names.{firstMisfit, firstUnsound}
-use Rattle.trace.specs.Links.{filled, nexts, linkChecks, predecessors}
+use Rattle.trace.specs.Links.{nexts, linkChecks}
 use Rattle.volumes.specs.Volumes.{volumesFrom}
 use Rattle.reader.specs.declared.verdict.Acceptance.{Acceptance}
 use Rattle.reader.specs.declared.verdict.Verdict.{Verdict}
 use Rattle.reader.specs.declared.verdict.Verdict.the-variants.{Accepted, Refused, Wanted}
-use Rattle.reader.specs.Verdict.{Acceptable, Reads, Values, valuesOf, answerValues, acceptedValues, refusedValues, wantedValues, bufferAfter}
-use Rattle.reader.specs.Checks.{headEnd, recordOf, volumesReach, namesReach, volumesPlan, tracePlan, namesPlan, metricsPlan, restPlan, readPlan, prefixAnswer, ReadsPrefix}
+use Rattle.reader.specs.Verdict.{Acceptable, Reads, Values, valuesOf, answerValues, wantedValues, bufferAfter}
+use Rattle.reader.specs.Checks.{headEnd, volumesReach, namesReach, volumesPlan, tracePlan, namesPlan, metricsPlan, restPlan, readPlan, prefixAnswer, ReadsPrefix}
 
 -- ---- no required length exceeds the greater of sixteen and S
 

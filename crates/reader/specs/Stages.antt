@@ -1,10 +1,8 @@
 -- The reader's stages, for `search` at a function's returns: what calls gave picks the case.
 use mathlib.Core.Path.{_≡_, refl, sym, ap, _∙_}
-use mathlib.Core.Bool.{Bool, true, false}
 use mathlib.Core.List.{List}
-use Prim.Native.Nat.{ℕ, _*_, _≤_, _<_, max}
+use Prim.Native.Nat.{ℕ, _*_, _≤_, _<_}
 use native.Mathlib.Omega.{arith}
-use lib.Dec.{eqb, ltb}
 use lib.ListN.{length, take, length-take}
 use native.Mathlib.Decide.{ℕ-discrete}
 use native.Mathlib.Nat.{zero-mul}
@@ -14,19 +12,17 @@ use Rattle.lists.specs.declared.Found.the-variants.{At, Nothing}
 use Rattle.layout.specs.Versions.{layoutOf}
 use Rattle.layout.specs.declared.Layout.{Layout}
 use Rattle.incremental.specs.Decision.{Decision, accept, refuse, refusal, checkedOf}
-use Rattle.incremental.specs.Plan.{Plan, decide, await, andThen, Answer, decided, wants, run, run-here, run-short, run-then, run-decide}
+use Rattle.incremental.specs.Plan.{Plan, decide, andThen, Answer, decided, wants, run, run-here, run-short}
 use Rattle.incremental.specs.declared.Refusal.{Refusal}
 use Rattle.incremental.specs.declared.Checked.{Checked}
 use Rattle.incremental.specs.declared.Checked.the-variants as checked
-use Rattle.head.specs.Fields.{faultAt, part}
-use Rattle.head.specs.Checks.{stop, openPlan, openOf}
+use Rattle.head.specs.Fields.{part}
+use Rattle.head.specs.Checks.{stop}
 use Rattle.head.specs.Steps.{stop-hit, stop-miss}
 use Rattle.head.specs.Facts.{OpenFacts, part-length, open-shapes}
 use Rattle.head.specs.declared.checks.Opening.{Opening}
-use Rattle.head.specs.declared.checks.OpenAnswer.{OpenAnswer}
-use Rattle.head.specs.declared.checks.OpenAnswer.the-variants as openAnswer
 use Rattle.names.specs.Names.{firstMisfit, firstUnsound}
-use Rattle.trace.specs.Links.{nexts, linkChecks, traceChecks, predecessors, linksOf, LinkAnswer, held, filled}
+use Rattle.trace.specs.Links.{nexts, linkChecks, predecessors, linksOf, LinkAnswer, held, filled}
 use Rattle.trace.specs.Accepted.{trace-room}
 use Rattle.trace.specs.Steps.{length-nexts}
 use Rattle.trace.specs.declared.Links.{Links}
@@ -37,7 +33,7 @@ use Rattle.reader.specs.declared.verdict.Acceptance.{Acceptance}
 use Rattle.reader.specs.declared.verdict.Verdict.{Verdict}
 use Rattle.reader.specs.declared.verdict.Verdict.the-variants.{Accepted, Refused, Wanted}
 use Rattle.reader.specs.Verdict.{Acceptable, Reads, Values, valuesOf, answerValues, acceptedValues, refusedValues, wantedValues, bufferAfter}
-use Rattle.reader.specs.Checks.{headEnd, recordOf, volumesReach, volumesPlan, tracePlan, namesReach, namesPlan, metricsPlan, restPlan, readPlan, prefixAnswer, whole, fileAnswer, sized}
+use Rattle.reader.specs.Checks.{headEnd, recordOf, volumesReach, volumesPlan, tracePlan, namesReach, namesPlan, metricsPlan, restPlan, whole}
 
 -- a stage's verdict, where the working buffer ends as `after`
 abbrev pub verdictOf : Verdict → List ℕ → Answer Acceptable

@@ -2,7 +2,7 @@
 use mathlib.Core.Path.{_≡_}
 use mathlib.Core.List.{List}
 use Prim.Native.Nat.{ℕ}
-use Rattle.incremental.specs.Decision.{Decision, accept, refuse, refusal}
+use Rattle.incremental.specs.Decision.{accept, refuse}
 use Rattle.incremental.specs.Plan.{Answer, decided, wants}
 use Rattle.trace.specs.Links.{filled}
 use Rattle.reader.specs.declared.verdict.Acceptance.{Acceptance}

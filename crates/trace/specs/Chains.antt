@@ -1,5 +1,5 @@
 -- The chain count: in a list that passes the checks it is the number of entries that end a chain.
-use mathlib.Core.Path.{_≡_, refl, sym, ap, _∙_}
+use mathlib.Core.Path.{_≡_, refl, ap, _∙_}
 use mathlib.Core.List.{List}
 use mathlib.Core.Logic.{_⊎_, ⊎-elim}
 use Prim.Native.Nat.{ℕ, zero, suc, _+_, _≤_, _<_}
@@ -8,12 +8,11 @@ use native.Mathlib.Decide.{ℕ-discrete, decLt}
 use native.Mathlib.Omega.{arith}
 use borrow.Author.Tests.{eq-eqb, ne-eqb, lt-ltb, le-ltb}
 use lib.Dec.{eqb, ltb}
-use lib.ListN.{length, getD}
-use Rattle.lists.specs.Count.{count, pick, count-same}
+use lib.ListN.{length}
+use Rattle.lists.specs.Count.{count, pick}
 use Rattle.incremental.specs.Decision.{accept}
-use Rattle.trace.specs.Links.{end, after, namers, chains, predecessor, predecessors, linkChecks}
+use Rattle.trace.specs.Links.{end, after, namers, chains, linkChecks}
 use Rattle.trace.specs.Accepted.{Sound, accepted}
-use Rattle.trace.specs.Predecessors.{Named, none, one, named, at-predecessors}
 
 -- how many entries have the end as next
 abbrev pub ends : List ℕ → ℕ
@@ -82,14 +81,3 @@ chains-are-ends s l sound once =
 
 pub chains-ends : (s : List ℕ) (n : ℕ) → length s ≤ end → linkChecks s ≡ accept n → chains s ≡ ends s
 chains-ends s n l e = let a = accepted s n e in chains-are-ends s l (a .sound) (a .once)
-
--- the chain count from the table: its places below the number of entries that hold the end
-pub chains-table : (s : List ℕ) (m : ℕ) → length s ≤ end → length s ≤ m → count (λ k. eqb (getD (predecessors s m) k 0) end) (length s) ≡ chains s
-unfolding chains
-chains-table s m small room = count-same _ _ (length s) (λ k l. rw (at-predecessors s m k 0 (omega arith) l) (go k (named s (length s) k)))
-  where
-    go : (k : ℕ) → Named s (length s) k → eqb (predecessor s (length s) k) end ≡ eqb (namers s (length s) k) 0
-    go k (none p q) = eq-eqb _ _ p ∙ sym (eq-eqb _ _ q)
-    go k (one h p q) =
-        ne-eqb _ _ (λ (z : predecessor s (length s) k ≡ end). omega arith)
-        ∙ sym (ne-eqb _ _ (λ (z : namers s (length s) k ≡ 0). omega arith))

@@ -54,7 +54,7 @@ unfolding namers
 names-one s n i j l e = count-one (λ k. eqb (after s k) j) n i l (eq-eqb (after s i) j e)
 
 -- the end stands where no entry names j
-pub predecessor-end : (s : List ℕ) (j : ℕ) → length s ≤ end → (predecessor s (length s) j ≡ end) ↔ ((i : ℕ) → i < length s → after s i ≡ j → ⊥)
+predecessor-end : (s : List ℕ) (j : ℕ) → length s ≤ end → (predecessor s (length s) j ≡ end) ↔ ((i : ℕ) → i < length s → after s i ≡ j → ⊥)
 predecessor-end s j small = (λ e i l q. to e i l q (named s (length s) j), λ f. from f (named s (length s) j))
   where
     to : predecessor s (length s) j ≡ end → (i : ℕ) → i < length s → after s i ≡ j → Named s (length s) j → ⊥
@@ -66,7 +66,7 @@ predecessor-end s j small = (λ e i l q. to e i l q (named s (length s) j), λ f
     from f (one h p k) = absurd (f (predecessor s (length s) j) h p)
 
 -- the table is the inverse of the next indexes
-pub predecessor-law : (s : List ℕ) (n : ℕ) → length s ≤ end → linkChecks s ≡ accept n
+predecessor-law : (s : List ℕ) (n : ℕ) → length s ≤ end → linkChecks s ≡ accept n
     → (i j : ℕ) → i < length s → j < length s → (predecessor s (length s) j ≡ i) ↔ (after s i ≡ j)
 predecessor-law s n small e i j hi hj = (λ p. to p (named s (length s) j), λ q. from q (named s (length s) j))
   where
@@ -93,3 +93,20 @@ at-predecessors s m k d l h = getD-tabulate m (λ j. pick (ltb j (length s)) (pr
 pub past-predecessors : (s : List ℕ) (m k d : ℕ) → k < m → length s ≤ k → getD (predecessors s m) k d ≡ end
 unfolding predecessors
 past-predecessors s m k d l h = getD-tabulate m (λ j. pick (ltb j (length s)) (predecessor s (length s) j) end) k d l ∙ rw (le-ltb k (length s) h)
+
+-- WHAT THE WORKING BUFFER HOLDS after an acceptance
+pub record WorkingBuffer (s table : List ℕ) : Type 0 where
+  -- place j holds the entry that names j as next
+  pub named : (i j : ℕ) → i < length s → j < length s → (getD table j end ≡ i) ↔ (after s i ≡ j)
+  -- and 4,294,967,295 where none does
+  pub unnamed : (j : ℕ) → j < length s → (getD table j end ≡ end) ↔ ((i : ℕ) → i < length s → after s i ≡ j → ⊥)
+  -- and so do the places past the entries
+  pub rest : (j : ℕ) → length s ≤ j → j < length table → getD table j end ≡ end
+
+pub working-buffer : (s : List ℕ) (n m : ℕ) → length s ≤ end → length s ≤ m → linkChecks s ≡ accept n → WorkingBuffer s (predecessors s m)
+working-buffer s n m small room e =
+    record {
+      named = λ i j li lj. rw (at-predecessors s m j end (omega arith) lj) (predecessor-law s n small e i j li lj);
+      unnamed = λ j l. rw (at-predecessors s m j end (omega arith) l) (predecessor-end s j small);
+      rest = λ j l k. past-predecessors s m j end (omega (arith, length-predecessors s m)) l;
+    }

@@ -7,11 +7,11 @@ use Prim.Native.Nat.{ℕ, zero, suc, _+_, _*_, _≤_, _<_}
 use native.Mathlib.Omega.{arith}
 use lib.Dec.{leb, eqb}
 use lib.ListN.{length}
-use borrow.Author.Tests.{leb-true, le-leb, eqb-true, eqb-false, eq-eqb, ne-eqb}
+use borrow.Author.Tests.{leb-true, le-leb, eqb-true, eq-eqb, ne-eqb}
 use Rattle.lists.specs.Count.{pick, true-false}
 use Rattle.little_endian.specs.Number.{le}
 use Rattle.layout.specs.declared.Version.{Version}
-use Rattle.incremental.specs.Decision.{Decision, accept, refuse, refusal}
+use Rattle.incremental.specs.Decision.{Decision, accept}
 use Rattle.volumes.specs.declared.Cursor.{Cursor}
 use Rattle.volumes.specs.declared.Step.{Step}
 use Rattle.volumes.specs.declared.Step.the-variants.{Next, Past, Unended}

@@ -1,5 +1,5 @@
 -- Laws on the checks of a volumes section: what each way through the code decides, and what it means that all volumes pass.
-use mathlib.Core.Path.{_≡_, refl, sym, ap}
+use mathlib.Core.Path.{_≡_, refl, sym}
 use mathlib.Core.Bool.{Bool, true, false}
 use mathlib.Core.List.{List}
 use mathlib.Core.Logic.{_↔_}
@@ -9,7 +9,7 @@ use native.Mathlib.Numerals.{add-one}
 use native.Mathlib.Omega.{arith}
 use lib.Dec.{leb, eqb}
 use lib.ListN.{length}
-use borrow.Author.Tests.{leb-true, le-leb, lt-leb, eq-eqb, ne-eqb}
+use borrow.Author.Tests.{le-leb, lt-leb, eq-eqb, ne-eqb}
 use Rattle.lists.specs.First.{first}
 use Rattle.lists.specs.declared.Found.the-variants.{At, Nothing}
 use Rattle.little_endian.specs.Number.{le}
@@ -21,7 +21,7 @@ use Rattle.incremental.specs.declared.Checked.{Checked}
 use Rattle.incremental.specs.declared.Refusal.{Refusal}
 use Rattle.volumes.specs.declared.Cursor.{Cursor}
 use Rattle.volumes.specs.declared.Step.the-variants.{Next, Past, Unended}
-use Rattle.volumes.specs.Volumes.{entryAt, pathAt, pathCount, pathFits, pathUnits, referencesAt, referencesSize, referenceCount, referencesFit, stepAt, pickStep, directoryCount, directoriesAt, directoryChecks, entryChecks, volumeChecks, volumesFrom, volumesChecks, also}
+use Rattle.volumes.specs.Volumes.{entryAt, pathAt, pathCount, pathFits, pathUnits, referencesAt, referencesSize, referenceCount, referencesFit, stepAt, directoryCount, directoriesAt, directoryChecks, entryChecks, volumeChecks, volumesFrom, volumesChecks, also}
 
 -- An entry starts where no sum with it wraps
 pub entry-low : (v : Version) (i : ℕ) → i < 2 ^ 32 → entryAt v i < 2 ^ 40

@@ -1,5 +1,4 @@
 -- Document 01's "Volumes" on a volumes section: checks 8, 14 and 15, and one volume's facts.
-use mathlib.Core.Path.{_≡_}
 use mathlib.Core.Bool.{Bool, true, false, _&&_, _||_}
 use mathlib.Core.List.{List}
 use Prim.Native.Nat.{ℕ, zero, suc, _+_, _*_}
@@ -13,7 +12,6 @@ use Rattle.little_endian.specs.Number.{le}
 use Rattle.layout.specs.Versions.{layoutOf}
 use Rattle.layout.specs.declared.Version.{Version}
 use Rattle.incremental.specs.Decision.{Decision, accept, refuse, refusal}
-use Rattle.volumes.specs.declared.Cursor.{Cursor}
 use Rattle.volumes.specs.declared.Step.{Step}
 use Rattle.volumes.specs.declared.Step.the-variants.{Next, Past, Unended}
 use Rattle.volumes.specs.declared.Volume.{Volume}

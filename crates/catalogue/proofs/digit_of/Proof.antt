@@ -3,23 +3,17 @@ use Rattle.catalogue.specs.Hex.{digitOf}
 use borrow.Author.Needs.{needs}
 use Rattle.catalogue.proofs.digit_of.Statement.{statement}
 use Rattle.catalogue.proofs.digit_of.Tie as tie
-use Rattle.catalogue.proofs.digit_of.Reads as reads
-use Rattle.catalogue.proofs.digit_of.Lts as lts
 
--- src/lib.rt:156:17
 add-result : tie.Need-add-result
 add-result c = search needs
 
--- src/lib.rt:156:33
 add-result-2 : tie.Need-add-result-2
 add-result-2 c = search needs
 
--- src/lib.rt:152:1
 returns : tie.Need-returns
 unfolding digitOf
 returns c = search tests
 
--- src/lib.rt:152:1
 returns-2 : tie.Need-returns-2
 unfolding digitOf
 returns-2 c = search tests

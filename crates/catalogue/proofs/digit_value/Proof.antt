@@ -3,31 +3,23 @@ use Rattle.catalogue.specs.Hex.{digitValue}
 use borrow.Author.Needs.{needs}
 use Rattle.catalogue.proofs.digit_value.Statement.{statement}
 use Rattle.catalogue.proofs.digit_value.Tie as tie
-use Rattle.catalogue.proofs.digit_value.Reads as reads
-use Rattle.catalogue.proofs.digit_value.Lts as lts
 
--- src/lib.rt:57:10
 sub-result : tie.Need-sub-result
 sub-result c = search needs
 
--- src/lib.rt:57:9
 cast-result : tie.Need-cast-result
 cast-result c = search needs
 
--- src/lib.rt:59:10
 sub-result-2 : tie.Need-sub-result-2
 sub-result-2 c = search needs
 
--- src/lib.rt:59:9
 cast-result-2 : tie.Need-cast-result-2
 cast-result-2 c = search needs
 
--- src/lib.rt:52:1
 returns : tie.Need-returns
 unfolding digitValue
 returns c = search tests
 
--- src/lib.rt:52:1
 returns-2 : tie.Need-returns-2
 unfolding digitValue
 returns-2 c = search tests

@@ -1,14 +1,11 @@
-use mathlib.Core.Path.{_≡_, refl, sym, ap, _∙_}
-use Prim.Native.Nat.{ℕ, suc, _-_, _/_, _%_, _^_, _*_, _+_, _≤_}
+use mathlib.Core.Path.{_≡_, sym, ap, _∙_}
+use Prim.Native.Nat.{ℕ, suc, _-_, _/_, _%_, _^_, _≤_}
 use native.Mathlib.Nat.{div-div-eq-div-mul, pow-suc, div-one, pow-zero}
 use native.Mathlib.Omega.{arith}
 use Rattle.catalogue.specs.Hex.{digitOf}
 use borrow.Author.Needs.{needs}
 use Rattle.catalogue.proofs.hex_digit.Statement.{statement}
 use Rattle.catalogue.proofs.hex_digit.Tie as tie
-use Rattle.catalogue.proofs.hex_digit.Reads as reads
-use Rattle.catalogue.proofs.hex_digit.Lts as lts
-use Rattle.catalogue.proofs.digit_of.Reads as digit-of-reads
 
 abbrev Inv-loop : tie.InvT-loop
 Inv-loop x place y₀ p₀ y p = (p ≤ place) × (y ≡ x / 16 ^ (place - p))

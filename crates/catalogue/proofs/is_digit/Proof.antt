@@ -1,28 +1,21 @@
 use native.Mathlib.Omega.{arith}
 use borrow.Author.Tests.{le-leb, lt-leb}
 use Rattle.catalogue.specs.Hex.{isDigit}
-use borrow.Author.Needs.{needs}
 use Rattle.catalogue.proofs.is_digit.Statement.{statement}
 use Rattle.catalogue.proofs.is_digit.Tie as tie
-use Rattle.catalogue.proofs.is_digit.Reads as reads
-use Rattle.catalogue.proofs.is_digit.Lts as lts
 
--- src/lib.rt:41:9
 returns : tie.Need-returns
 unfolding isDigit
 returns c = let b = c .before .args .b in rw (lt-leb 48 b (omega arith), lt-leb 65 b (omega arith))
 
--- src/lib.rt:44:9
 returns-2 : tie.Need-returns-2
 unfolding isDigit
 returns-2 c = let b = c .before .before .args .b in rw (le-leb 48 b (omega arith), le-leb b 57 (omega arith))
 
--- src/lib.rt:47:9
 returns-3 : tie.Need-returns-3
 unfolding isDigit
 returns-3 c = let b = c .before .before .before .args .b in rw (le-leb 48 b (omega arith), lt-leb b 57 (omega arith), lt-leb 65 b (omega arith))
 
--- src/lib.rt:37:1
 returns-4 : tie.Need-returns-4
 unfolding isDigit
 returns-4 c = let b = c .before .before .before .args .b in rw (le-leb 48 b (omega arith), lt-leb b 57 (omega arith), le-leb 65 b (omega arith))

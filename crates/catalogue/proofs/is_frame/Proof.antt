@@ -1,21 +1,16 @@
 use borrow.Author.Tests.{not-true}
 use Rattle.catalogue.specs.Line.{frame-size, frame-digit, frame-feed}
-use mathlib.Core.Path.{_≡_, refl, sym, ap, _∙_}
-use mathlib.Core.Bool.{true, not}
+use mathlib.Core.Path.{_≡_, sym, _∙_}
+use mathlib.Core.Bool.{true}
 use Prim.Native.Nat.{ℕ, _-_, _<_, _≤_}
 use native.Mathlib.Omega.{arith}
 use lib.ListN.{length, getD}
-use borrow.Author.Count.{below-more, below-none}
-use borrow.Author.Tests.{ne-eqb, eq-eqb, not-false}
-use Rattle.lists.specs.Count.{some-yes, some-no}
+use borrow.Author.Count.{below-more}
+use borrow.Author.Tests.{not-false}
 use Rattle.catalogue.specs.Hex.{isDigit}
-use Rattle.catalogue.specs.Line.{isFrame}
 use borrow.Author.Needs.{needs}
 use Rattle.catalogue.proofs.is_frame.Statement.{statement}
 use Rattle.catalogue.proofs.is_frame.Tie as tie
-use Rattle.catalogue.proofs.is_frame.Reads as reads
-use Rattle.catalogue.proofs.is_frame.Lts as lts
-use Rattle.catalogue.proofs.is_digit.Reads as is-digit-reads
 
 abbrev Inv-loop : tie.InvT-loop
 Inv-loop line i₀ i = (length line ≡ 25) × (i ≤ 24) × ((k : ℕ) → k < i → isDigit (getD line k 0) ≡ true)
@@ -23,23 +18,18 @@ Inv-loop line i₀ i = (length line ≡ 25) × (i ≤ 24) × ((k : ℕ) → k < 
 abbrev μ-loop : tie.MeasureT-loop
 μ-loop line i₀ i = 24 - i
 
--- src/lib.rt:67:9
 returns : tie.Need-returns Inv-loop μ-loop
 returns c = sym (frame-size _ (c .if1 .taken))
 
--- src/lib.rt:70:5
 loop-holds : tie.Need-loop-holds Inv-loop μ-loop
 loop-holds c = (c .if1 .left, omega arith, λ k l. absurd (omega arith))
 
--- src/lib.rt:71:22
 shared-slice-read-is-digit : tie.Need-shared-slice-read-is-digit Inv-loop μ-loop
 shared-slice-read-is-digit c = search needs
 
--- src/lib.rt:71:13
 is-digit-requires : tie.Need-is-digit-requires Inv-loop μ-loop
 is-digit-requires c κs = search needs
 
--- src/lib.rt:72:13
 returns-2 : tie.Need-returns-2 Inv-loop μ-loop
 returns-2 c =
     let b = c .before .before .before .before in
@@ -47,25 +37,20 @@ returns-2 c =
     (frame-digit (b .before .before .before .args .line .now) (b .loop .i) (b .loop .inv .0) (omega arith)
     (sym (c .before .is-digit .ensures) ∙ not-true _ (c .if2 .taken)))
 
--- src/lib.rt:74:9
 add-i : tie.Need-add-i Inv-loop μ-loop
 add-i c = search needs
 
--- src/lib.rt:70:5
 loop-less : tie.Need-loop-less Inv-loop μ-loop
 loop-less c = search needs
 
--- src/lib.rt:70:5
 loop-again : tie.Need-loop-again Inv-loop μ-loop
 loop-again c =
     let b = c .before .before .before .before in
     (b .loop .inv .0, omega arith, below-more _ _ (b .loop .inv .2) (sym (c .before .is-digit .ensures) ∙ not-false _ (c .if2 .left)))
 
--- src/lib.rt:76:5
 shared-slice-read-result : tie.Need-shared-slice-read-result Inv-loop μ-loop
 shared-slice-read-result c = search needs
 
--- src/lib.rt:63:1
 returns-3 : tie.Need-returns-3 Inv-loop μ-loop
 returns-3 c =
     let b = c .before .before in

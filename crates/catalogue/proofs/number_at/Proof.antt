@@ -1,17 +1,12 @@
 use native.Mathlib.Numerals.{add-one}
 use Rattle.catalogue.specs.Hex.{hex-room}
-use Prim.Native.Nat.{_+_}
-use mathlib.Core.Path.{_≡_, refl, sym, ap, _∙_}
-use Prim.Native.Nat.{ℕ, _-_, _<_, _≤_, _^_}
+use mathlib.Core.Path.{_≡_, ap, _∙_}
+use Prim.Native.Nat.{ℕ, _-_, _≤_}
 use native.Mathlib.Omega.{arith}
-use lib.ListN.{length, getD}
-use Rattle.catalogue.specs.Hex.{hexAt, Digits, hex-lt, digit-law}
+use Rattle.catalogue.specs.Hex.{hexAt, digit-law}
 use borrow.Author.Needs.{needs}
 use Rattle.catalogue.proofs.number_at.Statement.{statement}
 use Rattle.catalogue.proofs.number_at.Tie as tie
-use Rattle.catalogue.proofs.number_at.Reads as reads
-use Rattle.catalogue.proofs.number_at.Lts as lts
-use Rattle.catalogue.proofs.digit_value.Reads as digit-value-reads
 
 abbrev Inv-loop : tie.InvT-loop
 Inv-loop line at width r₀ k₀ r k = (k ≤ width) × (r ≡ hexAt k line at)
@@ -19,34 +14,28 @@ Inv-loop line at width r₀ k₀ r k = (k ≤ width) × (r ≡ hexAt k line at)
 abbrev μ-loop : tie.MeasureT-loop
 μ-loop line at width r₀ k₀ r k = width - k
 
--- src/lib.rt:86:5
 loop-holds : tie.Need-loop-holds Inv-loop μ-loop
 unfolding hexAt
 loop-holds c = search needs
 
--- src/lib.rt:87:13
 mul-r : tie.Need-mul-r Inv-loop μ-loop
 mul-r c =
     let b = c .before in
     let s = b .before .before in
     omega (arith, hex-room (b .loop .k) (s .args .width) (s .args .line .now) (s .args .at) (c .loop-test .taken) (s .pre .0) (s .pre .2))
 
--- src/lib.rt:87:39
 add-digit-value : tie.Need-add-digit-value Inv-loop μ-loop
 add-digit-value c = search needs
 
--- src/lib.rt:87:34
 shared-slice-read-digit-value : tie.Need-shared-slice-read-digit-value Inv-loop μ-loop
 shared-slice-read-digit-value c = search needs
 
--- src/lib.rt:87:22
 digit-value-requires : tie.Need-digit-value-requires Inv-loop μ-loop
 digit-value-requires c κs =
     let b = c .before .before in
     let s = b .before .before in
     digit-law _ (s .pre .2 (b .loop .k) (omega arith)) .low
 
--- src/lib.rt:87:13
 add-r : tie.Need-add-r Inv-loop μ-loop
 add-r c =
     let b = c .before .before .before in
@@ -57,22 +46,18 @@ add-r c =
       digit-law _ (s .pre .2 (b .loop .k) (omega arith)) .small,
     )
 
--- src/lib.rt:88:9
 add-k : tie.Need-add-k Inv-loop μ-loop
 add-k c = search needs
 
--- src/lib.rt:86:5
 loop-less : tie.Need-loop-less Inv-loop μ-loop
 loop-less c = search needs
 
--- src/lib.rt:86:5
 loop-again : tie.Need-loop-again Inv-loop μ-loop
 unfolding hexAt
 loop-again c =
     let b = c .before .before .before in
     (omega arith, rw (add-one (b .loop .k)) (omega (arith, c .digit-value .ensures)))
 
--- src/lib.rt:80:1
 returns : tie.Need-returns Inv-loop μ-loop
 returns c =
     let b = c .before in

@@ -4,35 +4,25 @@ use Rattle.catalogue.specs.RoundTrip.{line-written}
 use borrow.Author.Needs.{needs}
 use Rattle.catalogue.proofs.write_fields.Statement.{statement}
 use Rattle.catalogue.proofs.write_fields.Tie as tie
-use Rattle.catalogue.proofs.write_fields.Reads as reads
-use Rattle.catalogue.proofs.write_fields.Lts as lts
-use Rattle.catalogue.proofs.write_number.Reads as write-number-reads
 
--- src/lib.rt:174:5
 write-number-requires : tie.Need-write-number-requires
 write-number-requires c κs = search needs
 
--- src/lib.rt:175:5
 write-number-requires-2 : tie.Need-write-number-requires-2
 write-number-requires-2 c κs = search needs
 
--- src/lib.rt:176:5
 write-number-requires-3 : tie.Need-write-number-requires-3
 write-number-requires-3 c κs = search needs
 
--- src/lib.rt:177:5
 write-number-requires-4 : tie.Need-write-number-requires-4
 write-number-requires-4 c κs = search needs
 
--- src/lib.rt:178:5
 slice-write-output : tie.Need-slice-write-output
 slice-write-output c = search needs
 
--- src/lib.rt:170:1
 same-length : tie.Need-same-length
 same-length c = simp length-set (omega arith)
 
--- src/lib.rt:170:1
 returns : tie.Need-returns
 returns c =
     let d = c .before .before in

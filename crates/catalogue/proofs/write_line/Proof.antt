@@ -1,37 +1,26 @@
-use mathlib.Core.Path.{sym, _∙_}
 use Rattle.catalogue.specs.Line.{write-short, write-unformed, write-formed}
 use borrow.Author.Needs.{needs}
 use Rattle.catalogue.proofs.write_line.Statement.{statement}
 use Rattle.catalogue.proofs.write_line.Tie as tie
-use Rattle.catalogue.proofs.write_line.Reads as reads
-use Rattle.catalogue.proofs.write_line.Lts as lts
-use Rattle.catalogue.proofs.can_form.Reads as can-form-reads
-use Rattle.catalogue.proofs.write_fields.Reads as write-fields-reads
 
--- src/lib.rt:186:9
 returns : tie.Need-returns
 returns c = write-short _ _ (c .if1 .taken)
 
--- src/lib.rt:188:8
 can-form-requires : tie.Need-can-form-requires
 can-form-requires c κs = search needs
 
--- src/lib.rt:189:9
 write-fields-requires : tie.Need-write-fields-requires
 write-fields-requires c κs = search needs
 
--- src/lib.rt:182:1
 same-length : tie.Need-same-length
 same-length c = search needs
 
--- src/lib.rt:182:1
 returns-2 : tie.Need-returns-2
 returns-2 c =
     let d = c .before .before in
     let e = d .before .before in
     write-formed _ _ _ _ (e .before .before .if1 .left) (e .before .can-form .ensures) (e .if2 .taken) (d .write-fields .ensures)
 
--- src/lib.rt:182:1
 returns-3 : tie.Need-returns-3
 returns-3 c = write-unformed _ _ _ (c .before .before .if1 .left) (c .before .can-form .ensures) (c .if2 .left)
 

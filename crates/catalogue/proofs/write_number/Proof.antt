@@ -1,16 +1,13 @@
 use mathlib.Core.Path.{_≡_, refl, sym, ap, _∙_}
-use Prim.Native.Nat.{ℕ, suc, _+_, _-_, _≤_, _<_}
+use Prim.Native.Nat.{_+_, _-_, _≤_, _<_}
 use native.Mathlib.Omega.{arith}
 use native.Mathlib.Numerals.{add-one}
-use lib.ListN.{length, set, getD, length-set}
-use lib.Seq.{paste, paste-zero, paste-suc, length-paste}
+use lib.ListN.{length, getD, length-set}
+use lib.Seq.{paste, paste-zero, paste-suc}
 use Rattle.catalogue.specs.Hex.{hexDigits, length-digits, getD-digits}
 use borrow.Author.Needs.{needs}
 use Rattle.catalogue.proofs.write_number.Statement.{statement}
 use Rattle.catalogue.proofs.write_number.Tie as tie
-use Rattle.catalogue.proofs.write_number.Reads as reads
-use Rattle.catalogue.proofs.write_number.Lts as lts
-use Rattle.catalogue.proofs.hex_digit.Reads as hex-digit-reads
 
 abbrev Inv-loop : tie.InvT-loop
 Inv-loop output₀ at width x j₀ output j = (j ≤ width) × (length output ≡ length output₀) × (output ≡ paste output₀ at (hexDigits width x) j)
@@ -18,39 +15,30 @@ Inv-loop output₀ at width x j₀ output j = (j ≤ width) × (length output �
 abbrev μ-loop : tie.MeasureT-loop
 μ-loop output₀ at width x j₀ output j = width - j
 
--- src/lib.rt:164:5
 loop-holds : tie.Need-loop-holds Inv-loop μ-loop
 loop-holds c = let a = c .before .args in (omega arith, refl, paste-zero (a .output .now) (a .at) (hexDigits (a .width) (a .x)))
 
--- src/lib.rt:165:38
 sub-hex-digit : tie.Need-sub-hex-digit Inv-loop μ-loop
 sub-hex-digit c = search needs
 
--- src/lib.rt:165:38
 sub-hex-digit-2 : tie.Need-sub-hex-digit-2 Inv-loop μ-loop
 sub-hex-digit-2 c = search needs
 
--- src/lib.rt:165:26
 hex-digit-requires : tie.Need-hex-digit-requires Inv-loop μ-loop
 hex-digit-requires c κs = search needs
 
--- src/lib.rt:165:16
 add-output : tie.Need-add-output Inv-loop μ-loop
 add-output c = search needs
 
--- src/lib.rt:165:9
 slice-write-output : tie.Need-slice-write-output Inv-loop μ-loop
 slice-write-output c = search needs
 
--- src/lib.rt:166:9
 add-j : tie.Need-add-j Inv-loop μ-loop
 add-j c = search needs
 
--- src/lib.rt:164:5
 loop-less : tie.Need-loop-less Inv-loop μ-loop
 loop-less c = search needs
 
--- src/lib.rt:164:5
 loop-again : tie.Need-loop-again Inv-loop μ-loop
 loop-again c =
     let b = c .before .before in
@@ -62,11 +50,9 @@ loop-again c =
     let d : c .hex-digit .result ≡ getD ds j 0 = c .hex-digit .ensures ∙ sym (getD-digits (a .width) (a .x) j (omega arith)) in
     (omega arith, simp length-set (b .loop .inv .1), rw (b .loop .inv .2, d, add-one j) (paste-suc (a .output .now) (a .at) ds j 0 h l))
 
--- src/lib.rt:159:1
 same-length : tie.Need-same-length Inv-loop μ-loop
 same-length c = search needs
 
--- src/lib.rt:159:1
 returns : tie.Need-returns Inv-loop μ-loop
 returns c =
     let b = c .before in

@@ -3,47 +3,34 @@ use Rattle.hivesaddle.specs.Output.{read-is}
 use borrow.Author.Needs.{needs}
 use Rattle.hivesaddle.proofs.hs_catalogue_read.Statement.{statement}
 use Rattle.hivesaddle.proofs.hs_catalogue_read.Tie as tie
-use Rattle.hivesaddle.proofs.hs_catalogue_read.Reads as reads
-use Rattle.hivesaddle.proofs.hs_catalogue_read.Lts as lts
-use Rattle.catalogue.proofs.read_line.Reads as read-line-reads
-use Rattle.hivesaddle.proofs.put_line.Reads as put-line-reads
 
--- src/lib.rt:80:11
 read-line-requires : tie.Need-read-line-requires
 read-line-requires c κs = search needs
 
--- src/lib.rt:81:24
 enum-known-f : tie.Need-enum-known-f
 enum-known-f c = search needs
 
--- src/lib.rt:82:13
 put-line-requires : tie.Need-put-line-requires
 put-line-requires c κs = search needs
 
--- src/lib.rt:86:17
 enum-told : tie.Need-enum-told
 enum-told c = search needs
 
--- src/lib.rt:92:13
 put-line-requires-2 : tie.Need-put-line-requires-2
 put-line-requires-2 c κs = search needs
 
--- src/lib.rt:75:1
 same-length : tie.Need-same-length
 same-length c = search needs
 
--- src/lib.rt:75:1
 returns : tie.Need-returns
 returns c =
     let w = c .before .before in
     let f = w .before .before .before in
     rw (read-is _ _ _ (f .before .before .read-line .ensures) (f .f .given .1)) (refl, w .put-line .ensures)
 
--- src/lib.rt:75:1
 same-length-2 : tie.Need-same-length-2
 same-length-2 c = search needs
 
--- src/lib.rt:75:1
 returns-2 : tie.Need-returns-2
 returns-2 c =
     let w = c .before .before in

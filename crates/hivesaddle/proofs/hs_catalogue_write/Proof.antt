@@ -4,35 +4,25 @@ use Rattle.hivesaddle.specs.Output.{writing-is}
 use borrow.Author.Needs.{needs}
 use Rattle.hivesaddle.proofs.hs_catalogue_write.Statement.{statement}
 use Rattle.hivesaddle.proofs.hs_catalogue_write.Tie as tie
-use Rattle.hivesaddle.proofs.hs_catalogue_write.Reads as reads
-use Rattle.hivesaddle.proofs.hs_catalogue_write.Lts as lts
-use Rattle.catalogue.proofs.write_line.Reads as write-line-reads
 
--- src/lib.rt:114:11
 write-line-requires : tie.Need-write-line-requires
 write-line-requires c κs = search needs
 
--- src/lib.rt:115:33
 enum-told : tie.Need-enum-told
 enum-told c = search needs
 
--- src/lib.rt:116:33
 enum-told-2 : tie.Need-enum-told-2
 enum-told-2 c = search needs
 
--- src/lib.rt:98:1
 same-length : tie.Need-same-length
 same-length c = search needs
 
--- src/lib.rt:98:1
 returns : tie.Need-returns
 returns c = writing-is _ _ _ _ _ (c .before .before .before .before .write-line .ensures) (ap writtenNumber (c .enum-told .given .1))
 
--- src/lib.rt:98:1
 same-length-2 : tie.Need-same-length-2
 same-length-2 c = search needs
 
--- src/lib.rt:98:1
 returns-2 : tie.Need-returns-2
 returns-2 c = writing-is _ _ _ _ _ (c .before .before .before .before .write-line .ensures) (ap writtenNumber (c .enum-told2 .given .1))
 

@@ -1,29 +1,16 @@
-use mathlib.Core.Path.{_≡_, refl, sym, ap, _∙_}
-use mathlib.Core.List.{List, [], _∷_}
-use Prim.Native.Nat.{ℕ}
-use Rattle.hivesaddle.specs.Output.{Answered, overlay, placeYes, placeValues, answered-place, answered-volume, answered-reference, answered-path}
-use Rattle.query.specs.declared.questions.PlaceAnswer.{PlaceAnswer}
 use borrow.Author.Needs.{needs}
 use Rattle.hivesaddle.proofs.hs_entry_name.Statement.{statement}
 use Rattle.hivesaddle.proofs.hs_entry_name.Tie as tie
-use Rattle.hivesaddle.proofs.hs_entry_name.Reads as reads
-use Rattle.hivesaddle.proofs.hs_entry_name.Lts as lts
-use Rattle.hivesaddle.proofs.put_place.Reads as put-place-reads
-use Rattle.query.proofs.entry_place.Reads as entry-place-reads
 
--- src/lib.rt:254:15
 entry-place-requires : tie.Need-entry-place-requires
 entry-place-requires c κs = search needs
 
--- src/lib.rt:254:5
 put-place-requires : tie.Need-put-place-requires
 put-place-requires c κs = search needs
 
--- src/lib.rt:250:1
 same-length : tie.Need-same-length
 same-length c = search needs
 
--- src/lib.rt:250:1
 returns : tie.Need-returns
 returns c = rw (c .before .before .before .before .entry-place .ensures) at (c .before .before .put-place .ensures)
 

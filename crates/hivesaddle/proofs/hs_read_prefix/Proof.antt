@@ -1,30 +1,20 @@
-use mathlib.Core.Path.{_≡_, refl, sym, ap, _∙_}
-use Rattle.hivesaddle.specs.Output.{verdict-out, read-out}
+use Rattle.hivesaddle.specs.Output.{read-out}
 use borrow.Author.Needs.{needs}
 use Rattle.hivesaddle.proofs.hs_read_prefix.Statement.{statement}
 use Rattle.hivesaddle.proofs.hs_read_prefix.Tie as tie
-use Rattle.hivesaddle.proofs.hs_read_prefix.Reads as reads
-use Rattle.hivesaddle.proofs.hs_read_prefix.Lts as lts
-use Rattle.hivesaddle.proofs.put_verdict.Reads as put-verdict-reads
-use Rattle.reader.proofs.read_prefix.Reads as read-prefix-reads
 
--- src/lib.rt:195:9
 read-prefix-requires : tie.Need-read-prefix-requires
 read-prefix-requires c κs = search needs
 
--- src/lib.rt:196:5
 put-verdict-requires : tie.Need-put-verdict-requires
 put-verdict-requires c κs = search needs
 
--- src/lib.rt:191:1
 same-length : tie.Need-same-length
 same-length c = search needs
 
--- src/lib.rt:191:1
 same-length-2 : tie.Need-same-length-2
 same-length-2 c = search needs
 
--- src/lib.rt:191:1
 returns : tie.Need-returns
 returns c = let w = c .before .before .put-verdict .ensures in read-out _ _ (c .before .before .before .before .before .before .read-prefix .result) _ _ (c .before .before .before .before .before .before .before .before .before .before .before .args .out .now) _ (c .before .before .before .before .before .before .read-prefix .ensures) (w .0) (w .1)
 

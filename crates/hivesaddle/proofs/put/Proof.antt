@@ -1,17 +1,15 @@
 use mathlib.Core.Path.{_≡_, refl, sym, ap, _∙_}
 use mathlib.Core.Logic.{inl, inr}
-use Prim.Native.Nat.{ℕ, suc, _+_, _-_, _≤_, _<_}
+use Prim.Native.Nat.{ℕ, _+_, _-_, _≤_, _<_}
 use native.Mathlib.Omega.{arith}
 use native.Mathlib.Nat.{zero-add}
 use native.Mathlib.Numerals.{add-one}
 use lib.ListN.{length, set, getD, length-set}
-use lib.Seq.{paste, paste-zero, paste-suc}
+use lib.Seq.{paste, paste-suc}
 use Rattle.hivesaddle.specs.Output.{overlay-done}
 use borrow.Author.Needs.{needs}
 use Rattle.hivesaddle.proofs.put.Statement.{statement}
 use Rattle.hivesaddle.proofs.put.Tie as tie
-use Rattle.hivesaddle.proofs.put.Reads as reads
-use Rattle.hivesaddle.proofs.put.Lts as lts
 
 abbrev Inv-loop : tie.InvT-loop
 Inv-loop out₀ values i₀ out i = (i ≤ length out) × (i ≤ length values) × (length out ≡ length out₀) × (out ≡ paste out₀ 0 values i)
@@ -19,35 +17,27 @@ Inv-loop out₀ values i₀ out i = (i ≤ length out) × (i ≤ length values) 
 abbrev μ-loop : tie.MeasureT-loop
 μ-loop out₀ values i₀ out i = length out₀ - i
 
--- src/lib.rt:58:5
 loop-holds : tie.Need-loop-holds Inv-loop μ-loop
 loop-holds c = (omega arith, omega arith, refl, refl)
 
--- src/lib.rt:62:18
 mul-out : tie.Need-mul-out Inv-loop μ-loop
 mul-out c = search needs
 
--- src/lib.rt:62:18
 shared-slice-read-out : tie.Need-shared-slice-read-out Inv-loop μ-loop
 shared-slice-read-out c = search needs
 
--- src/lib.rt:62:9
 mul-out-2 : tie.Need-mul-out-2 Inv-loop μ-loop
 mul-out-2 c = search needs
 
--- src/lib.rt:62:9
 slice-write-out : tie.Need-slice-write-out Inv-loop μ-loop
 slice-write-out c = search needs
 
--- src/lib.rt:63:9
 add-i : tie.Need-add-i Inv-loop μ-loop
 add-i c = search needs
 
--- src/lib.rt:58:5
 loop-less : tie.Need-loop-less Inv-loop μ-loop
 loop-less c = search needs
 
--- src/lib.rt:58:5
 loop-again : tie.Need-loop-again Inv-loop μ-loop
 loop-again c =
     let b = c .before .before .before in
@@ -61,19 +51,15 @@ loop-again c =
       rw (b .loop .inv .3, add-one i) (ap (λ (k : ℕ). set (paste (a .out .now) 0 (a .values .now) i) k (getD (a .values .now) i 0)) (sym e) ∙ paste-suc (a .out .now) 0 (a .values .now) i 0 l (omega arith)),
     )
 
--- src/lib.rt:54:1
 same-length : tie.Need-same-length Inv-loop μ-loop
 same-length c = search needs
 
--- src/lib.rt:54:1
 returns : tie.Need-returns Inv-loop μ-loop
 returns c = let b = c .before in overlay-done _ _ _ (b .loop .i) (omega arith) (omega arith) (inl (omega arith)) (b .loop .inv .3)
 
--- src/lib.rt:54:1
 same-length-2 : tie.Need-same-length-2 Inv-loop μ-loop
 same-length-2 c = search needs
 
--- src/lib.rt:54:1
 returns-2 : tie.Need-returns-2 Inv-loop μ-loop
 returns-2 c = let b = c .before .before in overlay-done _ _ _ (b .loop .i) (omega arith) (omega arith) (inr (omega arith)) (b .loop .inv .3)
 

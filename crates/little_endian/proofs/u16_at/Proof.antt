@@ -5,36 +5,26 @@ use Rattle.little_endian.specs.Number.{le, le-past}
 use borrow.Author.Needs.{needs}
 use Rattle.little_endian.proofs.u16_at.Statement.{statement}
 use Rattle.little_endian.proofs.u16_at.Tie as tie
-use Rattle.little_endian.proofs.u16_at.Reads as reads
-use Rattle.little_endian.proofs.u16_at.Lts as lts
-use Rattle.little_endian.proofs.whole_u16.Reads as whole-u16-reads
 
--- src/lib.rt:32:9
 returns : tie.Need-returns
 returns c = let a = c .before .before .args in sym (le-past 2 (a .s .now) (a .at) (c .if1 .taken))
 
--- src/lib.rt:34:8
 sub-if2 : tie.Need-sub-if2
 sub-if2 c = search needs
 
--- src/lib.rt:35:16
 shared-slice-read-result : tie.Need-shared-slice-read-result
 shared-slice-read-result c = search needs
 
--- src/lib.rt:35:16
 cast-result : tie.Need-cast-result
 cast-result c = omega (arith, c .shared-slice-known2 .given (c .before .before .before .before .args .at))
 
--- src/lib.rt:35:9
 returns-2 : tie.Need-returns-2
 unfolding le
 returns-2 c = let a = c .before .before .before .before .args in omega (arith, le-past 1 (a .s .now) (a .at + 1) (omega arith))
 
--- src/lib.rt:37:5
 whole-u16-requires : tie.Need-whole-u16-requires
 whole-u16-requires c κs = search needs
 
--- src/lib.rt:28:1
 returns-3 : tie.Need-returns-3
 returns-3 c = search needs
 

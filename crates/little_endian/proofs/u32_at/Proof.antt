@@ -4,56 +4,40 @@ use Rattle.little_endian.specs.Number.{le-split, le-past}
 use borrow.Author.Needs.{needs}
 use Rattle.little_endian.proofs.u32_at.Statement.{statement}
 use Rattle.little_endian.proofs.u32_at.Tie as tie
-use Rattle.little_endian.proofs.u32_at.Reads as reads
-use Rattle.little_endian.proofs.u32_at.Lts as lts
-use Rattle.little_endian.proofs.u16_at.Reads as u16-at-reads
-use Rattle.little_endian.proofs.whole_u32.Reads as whole-u32-reads
 
--- src/lib.rt:44:9
 returns : tie.Need-returns
 returns c = let a = c .before .before .args in sym (le-past 4 (a .s .now) (a .at) (c .if1 .taken))
 
--- src/lib.rt:46:8
 sub-if2 : tie.Need-sub-if2
 sub-if2 c = search needs
 
--- src/lib.rt:47:16
 u16-at-requires : tie.Need-u16-at-requires
 u16-at-requires c κs = search needs
 
--- src/lib.rt:47:16
 cast-result : tie.Need-cast-result
 cast-result c = search needs
 
--- src/lib.rt:47:58
 add-u16-at : tie.Need-add-u16-at
 add-u16-at c = search needs
 
--- src/lib.rt:47:48
 u16-at-requires-2 : tie.Need-u16-at-requires-2
 u16-at-requires-2 c κs = search needs
 
--- src/lib.rt:47:48
 cast-result-2 : tie.Need-cast-result-2
 cast-result-2 c = search needs
 
--- src/lib.rt:47:39
 mul-result : tie.Need-mul-result
 mul-result c = search needs
 
--- src/lib.rt:47:16
 add-result : tie.Need-add-result
 add-result c = search needs
 
--- src/lib.rt:47:9
 returns-2 : tie.Need-returns-2
 returns-2 c = let a = c .before .before .before .before .before .args in omega (arith, le-split 2 2 (a .s .now) (a .at))
 
--- src/lib.rt:49:5
 whole-u32-requires : tie.Need-whole-u32-requires
 whole-u32-requires c κs = search needs
 
--- src/lib.rt:40:1
 returns-3 : tie.Need-returns-3
 returns-3 c = search needs
 

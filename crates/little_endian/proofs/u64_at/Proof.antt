@@ -4,56 +4,40 @@ use Rattle.little_endian.specs.Number.{le-split, le-past}
 use borrow.Author.Needs.{needs}
 use Rattle.little_endian.proofs.u64_at.Statement.{statement}
 use Rattle.little_endian.proofs.u64_at.Tie as tie
-use Rattle.little_endian.proofs.u64_at.Reads as reads
-use Rattle.little_endian.proofs.u64_at.Lts as lts
-use Rattle.little_endian.proofs.u32_at.Reads as u32-at-reads
-use Rattle.little_endian.proofs.whole_u64.Reads as whole-u64-reads
 
--- src/lib.rt:65:9
 returns : tie.Need-returns
 returns c = let a = c .before .before .args in sym (le-past 8 (a .s .now) (a .at) (c .if1 .taken))
 
--- src/lib.rt:67:8
 sub-if2 : tie.Need-sub-if2
 sub-if2 c = search needs
 
--- src/lib.rt:68:16
 u32-at-requires : tie.Need-u32-at-requires
 u32-at-requires c κs = search needs
 
--- src/lib.rt:68:16
 cast-result : tie.Need-cast-result
 cast-result c = search needs
 
--- src/lib.rt:68:63
 add-u32-at : tie.Need-add-u32-at
 add-u32-at c = search needs
 
--- src/lib.rt:68:53
 u32-at-requires-2 : tie.Need-u32-at-requires-2
 u32-at-requires-2 c κs = search needs
 
--- src/lib.rt:68:53
 cast-result-2 : tie.Need-cast-result-2
 cast-result-2 c = search needs
 
--- src/lib.rt:68:39
 mul-result : tie.Need-mul-result
 mul-result c = search needs
 
--- src/lib.rt:68:16
 add-result : tie.Need-add-result
 add-result c = search needs
 
--- src/lib.rt:68:9
 returns-2 : tie.Need-returns-2
 returns-2 c = let a = c .before .before .before .before .before .args in omega (arith, le-split 4 4 (a .s .now) (a .at))
 
--- src/lib.rt:70:5
 whole-u64-requires : tie.Need-whole-u64-requires
 whole-u64-requires c κs = search needs
 
--- src/lib.rt:61:1
 returns-3 : tie.Need-returns-3
 returns-3 c = search needs
 

@@ -4,41 +4,31 @@ use Rattle.little_endian.specs.Number.{le}
 use borrow.Author.Needs.{needs}
 use Rattle.little_endian.proofs.whole_u16.Statement.{statement}
 use Rattle.little_endian.proofs.whole_u16.Tie as tie
-use Rattle.little_endian.proofs.whole_u16.Reads as reads
-use Rattle.little_endian.proofs.whole_u16.Lts as lts
 
--- src/lib.rt:11:5
 shared-slice-read-result : tie.Need-shared-slice-read-result
 shared-slice-read-result c = search needs
 
--- src/lib.rt:11:5
 cast-result : tie.Need-cast-result
 cast-result c = omega (arith, c .shared-slice-known .given (c .before .args .at))
 
--- src/lib.rt:11:29
 add-result : tie.Need-add-result
 add-result c = search needs
 
--- src/lib.rt:11:27
 shared-slice-read-result-2 : tie.Need-shared-slice-read-result-2
 shared-slice-read-result-2 c = search needs
 
--- src/lib.rt:11:27
 cast-result-2 : tie.Need-cast-result-2
 cast-result-2 c = omega (arith, c .shared-slice-known2 .given (c .before .before .args .at + 1))
 
--- src/lib.rt:11:20
 mul-result : tie.Need-mul-result
 mul-result c = omega (arith, c .shared-slice-known2 .given (c .before .before .args .at + 1))
 
--- src/lib.rt:11:5
 add-result-2 : tie.Need-add-result-2
 add-result-2 c =
     let g = c .shared-slice-known2 .given in
     let at = c .before .before .args .at in
     omega (arith, g at, g (at + 1))
 
--- src/lib.rt:7:1
 returns : tie.Need-returns
 unfolding le
 returns c = search needs

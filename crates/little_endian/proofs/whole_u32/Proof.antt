@@ -3,39 +3,28 @@ use Rattle.little_endian.specs.Number.{le-split}
 use borrow.Author.Needs.{needs}
 use Rattle.little_endian.proofs.whole_u32.Statement.{statement}
 use Rattle.little_endian.proofs.whole_u32.Tie as tie
-use Rattle.little_endian.proofs.whole_u32.Reads as reads
-use Rattle.little_endian.proofs.whole_u32.Lts as lts
-use Rattle.little_endian.proofs.whole_u16.Reads as whole-u16-reads
 
--- src/lib.rt:18:5
 whole-u16-requires : tie.Need-whole-u16-requires
 whole-u16-requires c κs = search needs
 
--- src/lib.rt:18:5
 cast-result : tie.Need-cast-result
 cast-result c = search needs
 
--- src/lib.rt:18:53
 add-whole-u16 : tie.Need-add-whole-u16
 add-whole-u16 c = search needs
 
--- src/lib.rt:18:40
 whole-u16-requires-2 : tie.Need-whole-u16-requires-2
 whole-u16-requires-2 c κs = search needs
 
--- src/lib.rt:18:40
 cast-result-2 : tie.Need-cast-result-2
 cast-result-2 c = search needs
 
--- src/lib.rt:18:31
 mul-result : tie.Need-mul-result
 mul-result c = search needs
 
--- src/lib.rt:18:5
 add-result : tie.Need-add-result
 add-result c = search needs
 
--- src/lib.rt:14:1
 returns : tie.Need-returns
 returns c = let a = c .before .before .before .args in omega (arith, le-split 2 2 (a .s .now) (a .at))
 

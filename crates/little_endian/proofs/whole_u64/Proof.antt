@@ -3,39 +3,28 @@ use Rattle.little_endian.specs.Number.{le-split}
 use borrow.Author.Needs.{needs}
 use Rattle.little_endian.proofs.whole_u64.Statement.{statement}
 use Rattle.little_endian.proofs.whole_u64.Tie as tie
-use Rattle.little_endian.proofs.whole_u64.Reads as reads
-use Rattle.little_endian.proofs.whole_u64.Lts as lts
-use Rattle.little_endian.proofs.whole_u32.Reads as whole-u32-reads
 
--- src/lib.rt:25:5
 whole-u32-requires : tie.Need-whole-u32-requires
 whole-u32-requires c κs = search needs
 
--- src/lib.rt:25:5
 cast-result : tie.Need-cast-result
 cast-result c = search needs
 
--- src/lib.rt:25:58
 add-whole-u32 : tie.Need-add-whole-u32
 add-whole-u32 c = search needs
 
--- src/lib.rt:25:45
 whole-u32-requires-2 : tie.Need-whole-u32-requires-2
 whole-u32-requires-2 c κs = search needs
 
--- src/lib.rt:25:45
 cast-result-2 : tie.Need-cast-result-2
 cast-result-2 c = search needs
 
--- src/lib.rt:25:31
 mul-result : tie.Need-mul-result
 mul-result c = search needs
 
--- src/lib.rt:25:5
 add-result : tie.Need-add-result
 add-result c = search needs
 
--- src/lib.rt:21:1
 returns : tie.Need-returns
 returns c = let a = c .before .before .before .args in omega (arith, le-split 4 4 (a .s .now) (a .at))
 

@@ -3,83 +3,61 @@ use Rattle.path_hash.specs.Hash.{eight, eightSum}
 use Rattle.path_hash.specs.Laws.{wrapped}
 use Rattle.path_hash.proofs.eight_step.Statement.{statement}
 use Rattle.path_hash.proofs.eight_step.Tie as tie
-use Rattle.path_hash.proofs.eight_step.Reads as reads
-use Rattle.path_hash.proofs.eight_step.Lts as lts
-use Rattle.std.proofs.num.wrapping_sub_u32.Reads as wrapping-sub-u32-reads
 
--- src/lib.rt:30:18
 mul-a : tie.Need-mul-a
 mul-a c = search needs
 
--- src/lib.rt:30:18
 add-a : tie.Need-add-a
 add-a c = search needs
 
--- src/lib.rt:30:17
 mul-a-2 : tie.Need-mul-a-2
 mul-a-2 c = search needs
 
--- src/lib.rt:30:17
 add-a-2 : tie.Need-add-a-2
 add-a-2 c = search needs
 
--- src/lib.rt:30:16
 mul-a-3 : tie.Need-mul-a-3
 mul-a-3 c = search needs
 
--- src/lib.rt:30:16
 add-a-3 : tie.Need-add-a-3
 add-a-3 c = search needs
 
--- src/lib.rt:30:15
 mul-a-4 : tie.Need-mul-a-4
 mul-a-4 c = search needs
 
--- src/lib.rt:30:15
 add-a-4 : tie.Need-add-a-4
 add-a-4 c = search needs
 
--- src/lib.rt:30:14
 mul-a-5 : tie.Need-mul-a-5
 mul-a-5 c = search needs
 
--- src/lib.rt:30:14
 add-a-5 : tie.Need-add-a-5
 add-a-5 c = search needs
 
--- src/lib.rt:30:13
 mul-a-6 : tie.Need-mul-a-6
 mul-a-6 c = search needs
 
--- src/lib.rt:31:17
 mul-c : tie.Need-mul-c
 mul-c c = search needs
 
--- src/lib.rt:31:13
 add-c : tie.Need-add-c
 add-c c = search needs
 
--- src/lib.rt:31:13
 add-c-2 : tie.Need-add-c-2
 add-c-2 c = search needs
 
--- src/lib.rt:32:13
 mul-p : tie.Need-mul-p
 mul-p c = search needs
 
--- src/lib.rt:33:32
 cast-wrapping-sub-u32 : tie.Need-cast-wrapping-sub-u32
 cast-wrapping-sub-u32 c = search needs
 
--- src/lib.rt:33:57
 cast-wrapping-sub-u32-2 : tie.Need-cast-wrapping-sub-u32-2
 cast-wrapping-sub-u32-2 c = search needs
 
--- src/lib.rt:33:5
 wrapping-sub-u32-requires : tie.Need-wrapping-sub-u32-requires
 wrapping-sub-u32-requires c κs = search needs
 
--- src/lib.rt:27:1
 returns : tie.Need-returns
 unfolding eight eightSum
 returns c = wrapped _ _ _ (search needs) (c .wrapping-sub-u32 .ensures)

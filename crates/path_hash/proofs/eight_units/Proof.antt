@@ -1,16 +1,6 @@
-use mathlib.Core.Path.{_≡_, refl, sym, _∙_, ap}
-use Prim.Native.Nat.{_+_, _-_, _*_, _/_, _≤_, _<_}
-use native.Mathlib.Omega.{arith}
-use lib.ListN.{length, drop, getD}
-use Rattle.path_hash.specs.Hash.{plain, units, step}
-use Rattle.path_hash.specs.Laws.{plain-more, plain-done, length-units, getD-units}
 use borrow.Author.Needs.{needs}
 use Rattle.path_hash.proofs.eight_units.Statement.{statement}
 use Rattle.path_hash.proofs.eight_units.Tie as tie
-use Rattle.path_hash.proofs.eight_units.Reads as reads
-use Rattle.path_hash.proofs.eight_units.Lts as lts
-use Rattle.path_hash.proofs.eight_step.Reads as eight-step-reads
-use Rattle.path_hash.proofs.unit_at.Reads as unit-at-reads
 
 unit-at-requires : tie.Need-unit-at-requires
 unit-at-requires c κs = search needs

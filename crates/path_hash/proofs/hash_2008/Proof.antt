@@ -1,17 +1,13 @@
-use mathlib.Core.Path.{_≡_, refl, sym, _∙_, ap}
-use Prim.Native.Nat.{_+_, _-_, _*_, _/_, _≤_, _<_}
+use mathlib.Core.Path.{_≡_, sym, _∙_}
+use Prim.Native.Nat.{_+_, _-_, _≤_}
 use native.Mathlib.Omega.{arith}
-use lib.ListN.{length, drop, getD}
+use lib.ListN.{length, drop}
 use Rattle.path_hash.specs.Hash.{plain, vista}
 use Rattle.path_hash.specs.Laws.{plain-eight, vista-2008}
 use Rattle.lists.specs.Table.{rest-all}
 use borrow.Author.Needs.{needs}
 use Rattle.path_hash.proofs.hash_2008.Statement.{statement}
 use Rattle.path_hash.proofs.hash_2008.Tie as tie
-use Rattle.path_hash.proofs.hash_2008.Reads as reads
-use Rattle.path_hash.proofs.hash_2008.Lts as lts
-use Rattle.path_hash.proofs.plain_from.Reads as plain-from-reads
-use Rattle.path_hash.proofs.eight_at.Reads as eight-at-reads
 
 abbrev Inv-loop : tie.InvT-loop
 Inv-loop cs h₀ i₀ h i = (i ≤ length cs) × (plain h (drop i cs) ≡ vista cs)

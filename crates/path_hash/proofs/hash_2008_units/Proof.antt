@@ -3,15 +3,10 @@ use Rattle.path_hash.specs.Laws.{vista-2008}
 use borrow.Author.Needs.{needs}
 use Rattle.path_hash.proofs.hash_2008_units.Statement.{statement}
 use Rattle.path_hash.proofs.hash_2008_units.Tie as tie
-use Rattle.path_hash.proofs.hash_2008_units.Reads as reads
-use Rattle.path_hash.proofs.hash_2008_units.Lts as lts
-use Rattle.path_hash.proofs.hash_units.Reads as hash-units-reads
 
--- src/lib.rt:167:5
 hash-units-requires : tie.Need-hash-units-requires
 hash-units-requires c κs = search needs
 
--- src/lib.rt:164:1
 returns : tie.Need-returns
 returns c = c .hash-units .ensures ∙ vista-2008 _
 

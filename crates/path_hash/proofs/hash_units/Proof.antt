@@ -1,16 +1,12 @@
-use mathlib.Core.Path.{_≡_, refl, sym, _∙_, ap}
-use Prim.Native.Nat.{_+_, _-_, _*_, _/_, _≤_, _<_}
+use mathlib.Core.Path.{_≡_, sym, _∙_}
+use Prim.Native.Nat.{_-_, _*_, _≤_}
 use native.Mathlib.Omega.{arith}
-use lib.ListN.{length, drop, getD}
-use Rattle.path_hash.specs.Hash.{plain, units, vista}
-use Rattle.path_hash.specs.Laws.{plain-eight, vista-2008, length-units}
+use lib.ListN.{length, drop}
+use Rattle.path_hash.specs.Hash.{plain, units}
+use Rattle.path_hash.specs.Laws.{plain-eight, length-units}
 use borrow.Author.Needs.{needs}
 use Rattle.path_hash.proofs.hash_units.Statement.{statement}
 use Rattle.path_hash.proofs.hash_units.Tie as tie
-use Rattle.path_hash.proofs.hash_units.Reads as reads
-use Rattle.path_hash.proofs.hash_units.Lts as lts
-use Rattle.path_hash.proofs.plain_units.Reads as plain-units-reads
-use Rattle.path_hash.proofs.eight_units.Reads as eight-units-reads
 
 abbrev Inv-loop : tie.InvT-loop
 Inv-loop from s n h₀ i₀ h i = (2 * i ≤ length s) × (plain h (drop i (units s)) ≡ plain from (units s))

@@ -1,15 +1,12 @@
 use borrow.Author.Needs.{needs}
 use mathlib.Core.Path.{_≡_, refl, sym, _∙_}
-use Prim.Native.Nat.{_+_, _-_, _≤_, _<_}
+use Prim.Native.Nat.{_-_, _≤_, _<_}
 use native.Mathlib.Omega.{arith}
 use lib.ListN.{length, drop}
 use Rattle.path_hash.specs.Hash.{plain}
 use Rattle.path_hash.specs.Laws.{plain-more, plain-done}
 use Rattle.path_hash.proofs.plain_from.Statement.{statement}
 use Rattle.path_hash.proofs.plain_from.Tie as tie
-use Rattle.path_hash.proofs.plain_from.Reads as reads
-use Rattle.path_hash.proofs.plain_from.Lts as lts
-use Rattle.path_hash.proofs.next.Reads as next-reads
 
 abbrev Inv-loop : tie.InvT-loop
 Inv-loop from cs h₀ i₀ h i = (i ≤ length cs) × (plain h (drop i cs) ≡ plain from cs)

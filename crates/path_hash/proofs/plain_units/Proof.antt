@@ -1,16 +1,12 @@
-use mathlib.Core.Path.{_≡_, refl, sym, _∙_, ap}
-use Prim.Native.Nat.{_+_, _-_, _*_, _/_, _≤_, _<_}
+use mathlib.Core.Path.{_≡_, refl, sym, _∙_}
+use Prim.Native.Nat.{_-_, _*_, _≤_, _<_}
 use native.Mathlib.Omega.{arith}
-use lib.ListN.{length, drop, getD}
-use Rattle.path_hash.specs.Hash.{plain, units, step}
-use Rattle.path_hash.specs.Laws.{plain-more, plain-done, length-units, getD-units}
+use lib.ListN.{length, drop}
+use Rattle.path_hash.specs.Hash.{plain, units}
+use Rattle.path_hash.specs.Laws.{plain-more, plain-done, length-units}
 use borrow.Author.Needs.{needs}
 use Rattle.path_hash.proofs.plain_units.Statement.{statement}
 use Rattle.path_hash.proofs.plain_units.Tie as tie
-use Rattle.path_hash.proofs.plain_units.Reads as reads
-use Rattle.path_hash.proofs.plain_units.Lts as lts
-use Rattle.path_hash.proofs.next.Reads as next-reads
-use Rattle.path_hash.proofs.unit_at.Reads as unit-at-reads
 
 abbrev Inv-loop : tie.InvT-loop
 Inv-loop from s start n h₀ i₀ h i = (2 * i ≤ length s) × (plain h (drop i (units s)) ≡ plain from (drop start (units s)))

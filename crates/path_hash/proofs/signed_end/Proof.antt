@@ -6,31 +6,23 @@ use Rattle.path_hash.specs.Hash.{xpEnd}
 use borrow.Author.Tests.{lt-ltb, le-ltb}
 use Rattle.path_hash.proofs.signed_end.Statement.{statement}
 use Rattle.path_hash.proofs.signed_end.Tie as tie
-use Rattle.path_hash.proofs.signed_end.Reads as reads
-use Rattle.path_hash.proofs.signed_end.Lts as lts
 
--- src/lib.rt:18:13
 mul-m : tie.Need-mul-m
 mul-m c = search needs
 
--- src/lib.rt:20:9
 cast-result : tie.Need-cast-result
 cast-result c = search needs
 
--- src/lib.rt:22:11
 sub-result : tie.Need-sub-result
 sub-result c = search needs
 
--- src/lib.rt:22:9
 cast-result-2 : tie.Need-cast-result-2
 cast-result-2 c = search needs
 
--- src/lib.rt:15:1
 returns : tie.Need-returns
 unfolding xpEnd
 returns c = rw (lt-ltb _ _ (c .if1 .taken))
 
--- src/lib.rt:15:1
 returns-2 : tie.Need-returns-2
 unfolding xpEnd
 returns-2 c = rw (le-ltb _ _ (c .if1 .left)) (ap (λ (x : ℕ). x % 1000000007) (omega arith))

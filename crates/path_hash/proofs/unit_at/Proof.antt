@@ -1,4 +1,3 @@
-use mathlib.Core.Path.{sym, _∙_}
 use Prim.Native.Nat.{_+_, _*_}
 use native.Mathlib.Omega.{arith}
 use Rattle.little_endian.specs.Number.{le}
@@ -6,45 +5,34 @@ use Rattle.path_hash.specs.Laws.{getD-units}
 use borrow.Author.Needs.{needs}
 use Rattle.path_hash.proofs.unit_at.Statement.{statement}
 use Rattle.path_hash.proofs.unit_at.Tie as tie
-use Rattle.path_hash.proofs.unit_at.Reads as reads
-use Rattle.path_hash.proofs.unit_at.Lts as lts
 
--- src/lib.rt:110:14
 mul-at : tie.Need-mul-at
 mul-at c = search needs
 
--- src/lib.rt:111:5
 shared-slice-read-result : tie.Need-shared-slice-read-result
 shared-slice-read-result c = search needs
 
--- src/lib.rt:111:5
 cast-result : tie.Need-cast-result
 cast-result c = omega (arith, c .shared-slice-known .given (2 * c .before .args .i))
 
--- src/lib.rt:111:29
 add-result : tie.Need-add-result
 add-result c = search needs
 
--- src/lib.rt:111:27
 shared-slice-read-result-2 : tie.Need-shared-slice-read-result-2
 shared-slice-read-result-2 c = search needs
 
--- src/lib.rt:111:27
 cast-result-2 : tie.Need-cast-result-2
 cast-result-2 c = omega (arith, c .shared-slice-known2 .given (2 * c .before .before .args .i + 1))
 
--- src/lib.rt:111:20
 mul-result : tie.Need-mul-result
 mul-result c = omega (arith, c .shared-slice-known2 .given (2 * c .before .before .args .i + 1))
 
--- src/lib.rt:111:5
 add-result-2 : tie.Need-add-result-2
 add-result-2 c =
     let g = c .shared-slice-known2 .given in
     let at = 2 * c .before .before .args .i in
     omega (arith, g at, g (at + 1))
 
--- src/lib.rt:106:1
 returns : tie.Need-returns
 unfolding le
 returns c = let a = c .before .before .args in omega (arith, getD-units (a .s .now) (a .i) (omega arith))

@@ -3,10 +3,6 @@ use Rattle.path_hash.specs.Hash.{xpEnd}
 use borrow.Author.Needs.{needs}
 use Rattle.path_hash.proofs.xp_hash.Statement.{statement}
 use Rattle.path_hash.proofs.xp_hash.Tie as tie
-use Rattle.path_hash.proofs.xp_hash.Reads as reads
-use Rattle.path_hash.proofs.xp_hash.Lts as lts
-use Rattle.path_hash.proofs.plain_from.Reads as plain-from-reads
-use Rattle.path_hash.proofs.signed_end.Reads as signed-end-reads
 
 plain-from-requires : tie.Need-plain-from-requires
 plain-from-requires c κs = search needs

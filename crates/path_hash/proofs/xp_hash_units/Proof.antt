@@ -3,20 +3,13 @@ use Rattle.path_hash.specs.Hash.{xpEnd}
 use borrow.Author.Needs.{needs}
 use Rattle.path_hash.proofs.xp_hash_units.Statement.{statement}
 use Rattle.path_hash.proofs.xp_hash_units.Tie as tie
-use Rattle.path_hash.proofs.xp_hash_units.Reads as reads
-use Rattle.path_hash.proofs.xp_hash_units.Lts as lts
-use Rattle.path_hash.proofs.hash_units.Reads as hash-units-reads
-use Rattle.path_hash.proofs.signed_end.Reads as signed-end-reads
 
--- src/lib.rt:154:16
 hash-units-requires : tie.Need-hash-units-requires
 hash-units-requires c κs = search needs
 
--- src/lib.rt:154:5
 signed-end-requires : tie.Need-signed-end-requires
 signed-end-requires c κs = search needs
 
--- src/lib.rt:151:1
 returns : tie.Need-returns
 returns c = c .signed-end .ensures ∙ ap xpEnd (c .before .hash-units .ensures)
 

@@ -5,7 +5,7 @@ use Rattle.incremental.specs.Decision.{accept}
 use Rattle.trace.specs.declared.Links.the-variants.{Chains}
 use Rattle.trace.specs.Steps.{length-nexts}
 use Rattle.trace.specs.Chains.{chains-are-ends}
-use Rattle.trace.specs.Links.{end, nexts, filled, chains, predecessors}
+use Rattle.trace.specs.Links.{nexts, filled, chains, predecessors}
 use Rattle.trace.specs.Accepted.{distinct}
 use Rattle.trace.specs.Answers.{firstCyclic, answer-at, answer-nothing}
 use borrow.Author.Needs.{needs}

@@ -11,16 +11,10 @@ use Rattle.trace.specs.Answers.{firstCyclic, answer-nothing}
 use borrow.Author.Needs.{needs}
 use Rattle.trace.proofs.check_order.Statement.{statement}
 use Rattle.trace.proofs.check_order.Tie as tie
-use Rattle.trace.proofs.check_order.Reads as reads
-use Rattle.trace.proofs.check_order.Lts as lts
-use Rattle.trace.proofs.check_cycles.Reads as check-cycles-reads
-use Rattle.trace.proofs.leads_on.Reads as leads-on-reads
 
--- src/lib.rt:184:8
 leads-on-requires : tie.Need-leads-on-requires
 leads-on-requires c κs = search needs
 
--- src/lib.rt:185:9
 returns : tie.Need-returns
 returns c =
     let a = c .before .before .before .before in
@@ -32,15 +26,12 @@ returns c =
     answer-nothing 13 m (firstCyclic s) (firstCyclic s) (accept (chains s)) s (a .args .buffer .now) (Chains (a .args .ends)) refl f
     (record { answer = ap accept k; holds = a .pre .table })
 
--- src/lib.rt:187:5
 check-cycles-requires : tie.Need-check-cycles-requires
 check-cycles-requires c κs = search needs
 
--- src/lib.rt:180:1
 same-length : tie.Need-same-length
 same-length c = search needs
 
--- src/lib.rt:180:1
 returns-2 : tie.Need-returns-2
 returns-2 c = search needs
 

@@ -1,5 +1,5 @@
-use mathlib.Core.Path.{_≡_, sym, _∙_}
-use Prim.Native.Nat.{ℕ, _+_, _-_, _≤_, _<_}
+use mathlib.Core.Path.{sym}
+use Prim.Native.Nat.{ℕ, _-_, _≤_, _<_}
 use native.Mathlib.Omega.{arith}
 use borrow.Author.Count.{below-more}
 use Rattle.lists.specs.Count.{true-false}
@@ -8,9 +8,6 @@ use Rattle.trace.specs.Steps.{length-nexts, after-nexts}
 use borrow.Author.Needs.{needs}
 use Rattle.trace.proofs.leads_on.Statement.{statement}
 use Rattle.trace.proofs.leads_on.Tie as tie
-use Rattle.trace.proofs.leads_on.Reads as reads
-use Rattle.trace.proofs.leads_on.Lts as lts
-use Rattle.trace.proofs.next_at.Reads as next-at-reads
 
 abbrev Inv-loop : tie.InvT-loop
 Inv-loop section entries i₀ i = (i ≤ entries) × ((k : ℕ) → k < i → k < after (nexts section entries) k)
@@ -18,27 +15,21 @@ Inv-loop section entries i₀ i = (i ≤ entries) × ((k : ℕ) → k < i → k 
 abbrev μ-loop : tie.MeasureT-loop
 μ-loop section entries i₀ i = entries - i
 
--- src/lib.rt:170:5
 loop-holds : tie.Need-loop-holds Inv-loop μ-loop
 loop-holds c = (omega arith, λ k l. absurd (omega arith))
 
--- src/lib.rt:171:12
 next-at-requires : tie.Need-next-at-requires Inv-loop μ-loop
 next-at-requires c κs = search needs
 
--- src/lib.rt:172:13
 returns : tie.Need-returns Inv-loop μ-loop
 returns c = λ e. absurd (true-false (sym e))
 
--- src/lib.rt:174:9
 add-i : tie.Need-add-i Inv-loop μ-loop
 add-i c = search needs
 
--- src/lib.rt:170:5
 loop-less : tie.Need-loop-less Inv-loop μ-loop
 loop-less c = search needs
 
--- src/lib.rt:170:5
 loop-again : tie.Need-loop-again Inv-loop μ-loop
 loop-again c =
     let b = c .before .before .before in
@@ -47,7 +38,6 @@ loop-again c =
     let h : b .loop .i < after (nexts (a .section .now) (a .entries)) (b .loop .i) = omega (arith, e, c .before .next-at .ensures) in
     (omega arith, below-more _ _ (b .loop .inv .1) h)
 
--- src/lib.rt:166:1
 returns-2 : tie.Need-returns-2 Inv-loop μ-loop
 returns-2 c =
     let b = c .before in

@@ -3,30 +3,22 @@ use Rattle.layout.specs.Versions.{layoutOf}
 use borrow.Author.Needs.{needs}
 use Rattle.layout.proofs.Layout.of.Statement.{statement}
 use Rattle.layout.proofs.Layout.of.Tie as tie
-use Rattle.layout.proofs.Layout.of.Reads as reads
-use Rattle.layout.proofs.Layout.of.Lts as lts
 
--- src/lib.rt:75:29
 enum-told : tie.Need-enum-told
 enum-told c = search needs
 
--- src/lib.rt:76:29
 enum-told-2 : tie.Need-enum-told-2
 enum-told-2 c = search needs
 
--- src/lib.rt:77:29
 enum-told-3 : tie.Need-enum-told-3
 enum-told-3 c = search needs
 
--- src/lib.rt:71:5
 returns : tie.Need-returns
 returns c = sym (ap layoutOf (c .enum-told .given .1))
 
--- src/lib.rt:71:5
 returns-2 : tie.Need-returns-2
 returns-2 c = sym (ap layoutOf (c .enum-told2 .given .1))
 
--- src/lib.rt:71:5
 returns-3 : tie.Need-returns-3
 returns-3 c = sym (ap layoutOf (c .enum-told3 .given .1))
 

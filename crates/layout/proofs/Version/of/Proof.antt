@@ -1,27 +1,20 @@
 use borrow.Author.Tests.{ne-eqb}
 use Rattle.layout.specs.Versions.{versionOf}
-use borrow.Author.Needs.{needs}
 use Rattle.layout.proofs.Version.of.Statement.{statement}
 use Rattle.layout.proofs.Version.of.Tie as tie
-use Rattle.layout.proofs.Version.of.Reads as reads
-use Rattle.layout.proofs.Version.of.Lts as lts
 
--- src/lib.rt:93:5
 returns : tie.Need-returns
 unfolding versionOf
 returns c = rw (c .match .keys1)
 
--- src/lib.rt:93:5
 returns-2 : tie.Need-returns-2
 unfolding versionOf
 returns-2 c = rw (c .match .keys2)
 
--- src/lib.rt:93:5
 returns-3 : tie.Need-returns-3
 unfolding versionOf
 returns-3 c = rw (c .match .keys3)
 
--- src/lib.rt:93:5
 returns-4 : tie.Need-returns-4
 unfolding versionOf
 returns-4 c = let r = c .match .rest in rw (ne-eqb _ _ (r .0 .0 .1), ne-eqb _ _ (r .0 .1), ne-eqb _ _ (r .1))

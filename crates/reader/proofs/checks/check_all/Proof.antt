@@ -2,56 +2,36 @@ use Rattle.head.specs.Checks.{openPlan}
 use Rattle.head.specs.Facts.{open-met}
 use Rattle.head.specs.Steps.{open-on, open-refused, open-wanted}
 use Rattle.reader.specs.Checks.{readPlan, restPlan}
-use Rattle.trace.specs.Links.{filled}
-use mathlib.Core.Path.{_≡_, refl, sym, ap, _∙_}
-use mathlib.Core.List.{List}
-use Prim.Native.Nat.{ℕ}
-use native.Mathlib.Omega.{arith}
-use lib.ListN.{length-take}
-use Rattle.layout.specs.declared.Layout.{Layout}
 use borrow.Author.Needs.{needs}
 use Rattle.reader.proofs.checks.check_all.Statement.{statement}
 use Rattle.reader.proofs.checks.check_all.Tie as tie
-use Rattle.reader.proofs.checks.check_all.Reads as reads
-use Rattle.reader.proofs.checks.check_all.Lts as lts
-use Rattle.head.proofs.read_open.Reads as read-open-reads
-use Rattle.reader.proofs.checks.check_rest.Reads as check-rest-reads
 
--- src/checks.rt:164:11
 read-open-requires : tie.Need-read-open-requires
 read-open-requires c κs = search needs
 
--- src/checks.rt:165:28
 enum-known-o : tie.Need-enum-known-o
 enum-known-o c = search needs
 
--- src/checks.rt:165:34
 check-rest-requires : tie.Need-check-rest-requires
 check-rest-requires c κs = open-met _ _ _ (c .before .before .before .before .read-open .ensures) (c .before .before .o .given .1)
 
--- src/checks.rt:166:29
 enum-known-r : tie.Need-enum-known-r
 enum-known-r c = search needs
 
--- src/checks.rt:167:28
 enum-known-k : tie.Need-enum-known-k
 enum-known-k c = search needs
 
--- src/checks.rt:161:1
 same-length : tie.Need-same-length
 same-length c = search needs
 
--- src/checks.rt:161:1
 returns : tie.Need-returns
 unfolding readPlan
 returns c = open-on openPlan (restPlan _) _ _ _ _ (c .before .before .before .before .before .before .before .read-open .ensures) (c .before .before .before .before .before .o .given .1) (c .before .before .check-rest .ensures)
 
--- src/checks.rt:161:1
 returns-2 : tie.Need-returns-2
 unfolding readPlan
 returns-2 c = open-refused openPlan (restPlan _) _ _ _ (c .before .before .before .read-open .ensures) (c .before .r .given .1)
 
--- src/checks.rt:161:1
 returns-3 : tie.Need-returns-3
 unfolding readPlan
 returns-3 c = open-wanted openPlan (restPlan _) _ _ _ (c .before .before .before .read-open .ensures) (c .before .k .given .1)

@@ -1,68 +1,46 @@
 use Rattle.reader.specs.Stages.{names-short, names-hit, names-miss}
-use mathlib.Core.Path.{_≡_, refl, sym, ap, _∙_}
-use mathlib.Core.List.{List}
-use Prim.Native.Nat.{ℕ}
 use native.Mathlib.Omega.{arith}
 use lib.ListN.{length-take}
-use Rattle.layout.specs.declared.Layout.{Layout}
 use borrow.Author.Needs.{needs}
 use Rattle.reader.proofs.checks.check_names.Statement.{statement}
 use Rattle.reader.proofs.checks.check_names.Tie as tie
-use Rattle.reader.proofs.checks.check_names.Reads as reads
-use Rattle.reader.proofs.checks.check_names.Lts as lts
-use Rattle.head.proofs.part_of.Reads as part-of-reads
-use Rattle.names.proofs.first_unsound.Reads as first-unsound-reads
-use Rattle.reader.proofs.checks.check_trace.Reads as check-trace-reads
-use Rattle.reader.proofs.checks.names_reach.Reads as names-reach-reads
 
--- src/checks.rt:94:9
 names-reach-requires : tie.Need-names-reach-requires
 names-reach-requires c κs = search needs
 
--- src/checks.rt:99:9
 returns : tie.Need-returns
 returns c = names-short _ (c .before .before .before .before .before .before .args .o) _ _ _ (c .before .before .before .names-reach .ensures) (c .if1 .taken)
 
--- src/checks.rt:101:33
 slice-aggregate-part-of : tie.Need-slice-aggregate-part-of
 slice-aggregate-part-of c = simp length-take (omega arith)
 
--- src/checks.rt:101:9
 part-of-requires : tie.Need-part-of-requires
 part-of-requires c κs = search needs
 
--- src/checks.rt:102:30
 slice-aggregate-part-of-2 : tie.Need-slice-aggregate-part-of-2
 slice-aggregate-part-of-2 c = simp length-take (omega arith)
 
--- src/checks.rt:102:9
 part-of-requires-2 : tie.Need-part-of-requires-2
 part-of-requires-2 c κs = search needs
 
--- src/checks.rt:103:27
 first-unsound-requires : tie.Need-first-unsound-requires
 first-unsound-requires c κs = search needs
 
--- src/checks.rt:103:22
 enum-known-i : tie.Need-enum-known-i
 enum-known-i c = search needs
 
--- src/checks.rt:104:9
 returns-2 : tie.Need-returns-2
 returns-2 c = names-hit _ (c .before .before .before .before .before .before .before .before .before .before .before .before .before .before .args .o) _ _ _ (c .before .before .before .before .before .before .before .before .before .before .before .names-reach .ensures) _ _ _ _ (c .before .before .before .before .before .before .before .before .if1 .left) (c .before .before .before .before .before .before .part-of .ensures) (c .before .before .before .before .part-of2 .ensures) (c .before .before .before .first-unsound .ensures) (c .before .i .given .1)
 
 enum-told : tie.Need-enum-told
 enum-told c = search needs
 
--- src/checks.rt:109:5
 check-trace-requires : tie.Need-check-trace-requires
 check-trace-requires c κs = search needs
 
--- src/checks.rt:89:1
 same-length : tie.Need-same-length
 same-length c = search needs
 
--- src/checks.rt:89:1
 returns-3 : tie.Need-returns-3
 returns-3 c = names-miss _ (c .before .before .before .before .before .before .before .before .before .before .before .before .before .before .before .before .before .args .o) _ _ _ (c .before .before .before .before .before .before .before .before .before .before .before .before .before .before .names-reach .ensures) _ _ _ _ (c .before .before .before .before .before .before .before .before .before .before .before .if1 .left) (c .before .before .before .before .before .before .before .before .before .part-of .ensures) (c .before .before .before .before .before .before .before .part-of2 .ensures) (c .before .before .before .before .before .before .first-unsound .ensures) (c .before .before .before .before .enum-told .given .1) (c .before .before .check-trace .ensures)
 

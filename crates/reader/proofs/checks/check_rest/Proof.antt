@@ -1,41 +1,27 @@
 use Rattle.reader.specs.Stages.{few-places, few-bytes, room-enough}
-use mathlib.Core.Path.{_≡_, refl, sym, ap, _∙_}
-use Prim.Native.Nat.{ℕ}
 use native.Mathlib.Omega.{arith}
-use Rattle.trace.specs.Links.{filled}
 use borrow.Author.Needs.{needs}
 use Rattle.reader.proofs.checks.check_rest.Statement.{statement}
 use Rattle.reader.proofs.checks.check_rest.Tie as tie
-use Rattle.reader.proofs.checks.check_rest.Reads as reads
-use Rattle.reader.proofs.checks.check_rest.Lts as lts
-use Rattle.reader.proofs.checks.check_metrics.Reads as check-metrics-reads
-use Rattle.reader.proofs.checks.entries_len.Reads as entries-len-reads
 
--- src/checks.rt:151:29
 cast-if1 : tie.Need-cast-if1
 cast-if1 c = search needs
 
--- src/checks.rt:152:9
 returns : tie.Need-returns
 returns c = few-places _ (c .before .before .before .before .args .o) _ (c .before .before .before .before .pre .whole) (c .if1 .taken)
 
--- src/checks.rt:157:14
 entries-len-requires : tie.Need-entries-len-requires
 entries-len-requires c κs = search needs
 
--- src/checks.rt:158:9
 returns-2 : tie.Need-returns-2
 returns-2 c = few-bytes _ (c .before .before .before .before .before .before .args .o) _ (c .before .before .before .before .before .before .pre .whole) (c .before .before .if1 .left) (omega (arith, c .before .entries-len .ensures))
 
--- src/checks.rt:163:5
 check-metrics-requires : tie.Need-check-metrics-requires
 check-metrics-requires c κs = search needs
 
--- src/checks.rt:144:1
 same-length : tie.Need-same-length
 same-length c = search needs
 
--- src/checks.rt:144:1
 returns-3 : tie.Need-returns-3
 returns-3 c = room-enough _ (c .before .before .before .before .before .before .before .before .before .before .args .o) _ (c .before .before .before .before .before .before .before .before .before .before .pre .whole) _ (record { places = c .before .before .before .before .before .before .if1 .left; entries = omega (arith, c .before .before .before .before .before .entries-len .ensures) }) (c .before .before .check-metrics .ensures)
 

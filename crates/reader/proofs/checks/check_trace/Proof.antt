@@ -1,81 +1,58 @@
-use Rattle.reader.specs.Checks.{recordOf, headEnd}
+use Rattle.reader.specs.Checks.{recordOf}
 use Rattle.reader.specs.Stages.{trace-short, trace-passed, trace-refused, head-reach}
 use lib.ListN.{take}
-use mathlib.Core.Path.{_≡_, refl, sym, ap, _∙_}
-use mathlib.Core.List.{List}
-use Prim.Native.Nat.{ℕ}
+use mathlib.Core.Path.{ap, _∙_}
 use native.Mathlib.Omega.{arith}
 use lib.ListN.{length-take}
 use Rattle.layout.specs.declared.Layout.{Layout}
 use borrow.Author.Needs.{needs}
 use Rattle.reader.proofs.checks.check_trace.Statement.{statement}
 use Rattle.reader.proofs.checks.check_trace.Tie as tie
-use Rattle.reader.proofs.checks.check_trace.Reads as reads
-use Rattle.reader.proofs.checks.check_trace.Lts as lts
-use Rattle.head.proofs.part_of.Reads as part-of-reads
-use Rattle.layout.proofs.Layout.of.Reads as of-reads
-use Rattle.reader.proofs.checks.check_volumes.Reads as check-volumes-reads
-use Rattle.reader.proofs.verdict.record_of.Reads as record-of-reads
-use Rattle.trace.proofs.check_links.Reads as check-links-reads
 
--- src/checks.rt:59:13
 of-requires : tie.Need-of-requires
 of-requires c κs = search needs
 
--- src/checks.rt:61:9
 returns : tie.Need-returns
 returns c = trace-short _ (c .before .before .before .before .before .args .o) _ _ (c .if1 .taken)
 
--- src/checks.rt:63:31
 slice-aggregate-part-of : tie.Need-slice-aggregate-part-of
 slice-aggregate-part-of c = simp length-take (omega arith)
 
--- src/checks.rt:63:9
 part-of-requires : tie.Need-part-of-requires
 part-of-requires c κs = search needs
 
--- src/checks.rt:64:11
 check-links-requires : tie.Need-check-links-requires
 check-links-requires c κs = search needs
 
--- src/checks.rt:65:23
 enum-known-n : tie.Need-enum-known-n
 enum-known-n c = search needs
 
--- src/checks.rt:66:50
 slice-aggregate-record-of : tie.Need-slice-aggregate-record-of
 slice-aggregate-record-of c =
     let h = head-reach _ (c .before .before .before .before .before .before .before .before .before .before .before .before .before .before .before .args .o) _ (c .before .before .before .before .before .before .before .before .before .before .before .before .before .before .before .pre .0) (c .before .before .before .before .before .before .before .before .before .before .before .of .ensures) in
     simp length-take (omega arith)
 
--- src/checks.rt:66:17
 record-of-requires : tie.Need-record-of-requires
 record-of-requires c κs = search needs
 
--- src/checks.rt:67:13
 check-volumes-requires : tie.Need-check-volumes-requires
 check-volumes-requires c κs = search needs
 
--- src/checks.rt:69:24
 enum-known-r : tie.Need-enum-known-r
 enum-known-r c = search needs
 
--- src/checks.rt:51:1
 same-length : tie.Need-same-length
 same-length c = search needs
 
--- src/checks.rt:51:1
 returns-2 : tie.Need-returns-2
 returns-2 c =
     let s = c .before .before .before .before .before .before .before .before .before .before .before .before .before .before .before .before .before in
     trace-passed _ (s .args .o) _ _ _ (c .before .before .before .before .before .before .before .before .before .before .before .before .if1 .left) (c .before .before .before .before .before .before .before .before .before .before .part-of .ensures) (s .pre .1 .places) _ _ (c .before .before .before .before .before .before .before .before .check-links .ensures) _ _ (c .check-volumes .result) (c .before .before .before .before .n .given .1)
     (c .before .record-of .ensures ∙ ap (λ (l : Layout). recordOf (s .args .o) (take (l .head) (s .args .file .now)) (c .before .before .before .before .n .given .0 .0)) (c .before .before .before .before .before .before .before .before .before .before .before .before .before .of .ensures)) (c .check-volumes .ensures)
 
--- src/checks.rt:51:1
 same-length-2 : tie.Need-same-length-2
 same-length-2 c = search needs
 
--- src/checks.rt:51:1
 returns-3 : tie.Need-returns-3
 returns-3 c =
     let s = c .before .before .before .before .before .before .before .before .before .before .before .before .before .before in

@@ -1,48 +1,31 @@
 use Rattle.reader.specs.Stages.{volumes-short, volumes-passed, volumes-refused, volumes-all}
-use mathlib.Core.Path.{_≡_, refl, sym, ap, _∙_}
-use mathlib.Core.List.{List}
-use Prim.Native.Nat.{ℕ}
 use native.Mathlib.Omega.{arith}
 use lib.ListN.{length-take}
-use Rattle.layout.specs.declared.Layout.{Layout}
 use borrow.Author.Needs.{needs}
 use Rattle.reader.proofs.checks.check_volumes.Statement.{statement}
 use Rattle.reader.proofs.checks.check_volumes.Tie as tie
-use Rattle.reader.proofs.checks.check_volumes.Reads as reads
-use Rattle.reader.proofs.checks.check_volumes.Lts as lts
-use Rattle.head.proofs.part_of.Reads as part-of-reads
-use Rattle.reader.proofs.checks.volumes_reach.Reads as volumes-reach-reads
-use Rattle.volumes.proofs.check_volumes.Reads as check-volumes-reads
 
--- src/checks.rt:38:9
 volumes-reach-requires : tie.Need-volumes-reach-requires
 volumes-reach-requires c κs = search needs
 
--- src/checks.rt:42:9
 returns : tie.Need-returns
 returns c = λ t. volumes-short (c .before .before .before .before .args .o) _ _ (c .before .before .volumes-reach .ensures) _ (c .if1 .taken)
 
--- src/checks.rt:44:48
 slice-aggregate-part-of : tie.Need-slice-aggregate-part-of
 slice-aggregate-part-of c = simp length-take (omega arith)
 
--- src/checks.rt:44:34
 part-of-requires : tie.Need-part-of-requires
 part-of-requires c κs = search needs
 
--- src/checks.rt:44:11
 check-volumes-requires : tie.Need-check-volumes-requires
 check-volumes-requires c κs = search needs
 
--- src/checks.rt:45:28
 enum-told : tie.Need-enum-told
 enum-told c = search needs
 
--- src/checks.rt:46:26
 enum-known-r : tie.Need-enum-known-r
 enum-known-r c = search needs
 
--- src/checks.rt:33:1
 returns-2 : tie.Need-returns-2
 returns-2 c =
     let s = c .before .before .before .before .before .before .before .before .before in
@@ -50,7 +33,6 @@ returns-2 c =
     let h = c .before .before .before .before .before .if1 .left in
     λ t. volumes-passed (s .args .o) _ _ e _ _ _ h (c .before .before .before .part-of .ensures) (volumes-all _ _ _ (s .pre .0) e h (s .pre .1)) (c .before .before .check-volumes .ensures) (c .enum-told .given .1)
 
--- src/checks.rt:33:1
 returns-3 : tie.Need-returns-3
 returns-3 c =
     let s = c .before .before .before .before .before .before .before .before .before .before in

@@ -1,21 +1,16 @@
 use mathlib.Core.Path.{ap}
-use Prim.Native.Nat.{ℕ, _*_, _≤_}
+use Prim.Native.Nat.{_*_, _≤_}
 use native.Mathlib.Nat.{mul-le-mul-left}
 use native.Mathlib.Omega.{arith}
-use Rattle.layout.specs.Versions.{layoutOf, layout-sound}
+use Rattle.layout.specs.Versions.{layout-sound}
 use Rattle.layout.specs.declared.Layout.{Layout}
 use borrow.Author.Needs.{needs}
 use Rattle.reader.proofs.checks.entries_len.Statement.{statement}
 use Rattle.reader.proofs.checks.entries_len.Tie as tie
-use Rattle.reader.proofs.checks.entries_len.Reads as reads
-use Rattle.reader.proofs.checks.entries_len.Lts as lts
-use Rattle.layout.proofs.Layout.of.Reads as of-reads
 
--- src/checks.rt:140:22
 of-requires : tie.Need-of-requires
 of-requires c κs = search needs
 
--- src/checks.rt:140:5
 mul-result : tie.Need-mul-result
 mul-result c =
     let a = c .before .before .args in
@@ -24,7 +19,6 @@ mul-result c =
     let m = mul-le-mul-left (a .count) h in
     omega arith
 
--- src/checks.rt:137:1
 returns : tie.Need-returns
 returns c = ap (λ (l : Layout). c .before .before .args .count * l .volume) (c .before .of .ensures)
 

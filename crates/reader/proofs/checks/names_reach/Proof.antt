@@ -1,27 +1,20 @@
-use mathlib.Core.Path.{ap, _∙_, sym}
+use mathlib.Core.Path.{ap}
 use native.Mathlib.Omega.{arith}
 use borrow.Author.Tests.{eq-eqb, ne-eqb}
 use Rattle.layout.specs.declared.Layout.{Layout}
 use borrow.Author.Needs.{needs}
 use Rattle.reader.proofs.checks.names_reach.Statement.{statement}
 use Rattle.reader.proofs.checks.names_reach.Tie as tie
-use Rattle.reader.proofs.checks.names_reach.Reads as reads
-use Rattle.reader.proofs.checks.names_reach.Lts as lts
-use Rattle.layout.proofs.Layout.of.Reads as of-reads
 
--- src/checks.rt:79:16
 of-requires : tie.Need-of-requires
 of-requires c κs = search needs
 
--- src/checks.rt:79:9
 returns : tie.Need-returns
 returns c = rw (eq-eqb _ _ (c .before .if1 .taken)) (ap (λ (l : Layout). l .head) (c .of .ensures))
 
--- src/checks.rt:74:1
 returns-2 : tie.Need-returns-2
 returns-2 c = rw (ne-eqb _ _ (c .before .before .if1 .left)) (omega arith)
 
--- src/checks.rt:74:1
 returns-3 : tie.Need-returns-3
 returns-3 c = rw (ne-eqb _ _ (c .before .before .if1 .left)) (omega arith)
 

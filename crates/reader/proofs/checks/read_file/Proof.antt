@@ -1,85 +1,59 @@
 use Rattle.reader.specs.Stages.{whole-short, whole-long, whole-exact, whole-refused, whole-wanted, reads-same}
-use mathlib.Core.Path.{_≡_, refl, sym, ap, _∙_}
-use Prim.Native.Nat.{ℕ}
-use native.Mathlib.Omega.{arith}
-use Rattle.trace.specs.Links.{filled}
 use borrow.Author.Needs.{needs}
 use Rattle.reader.proofs.checks.read_file.Statement.{statement}
 use Rattle.reader.proofs.checks.read_file.Tie as tie
-use Rattle.reader.proofs.checks.read_file.Reads as reads
-use Rattle.reader.proofs.checks.read_file.Lts as lts
-use Rattle.reader.proofs.checks.misfit.Reads as misfit-reads
-use Rattle.reader.proofs.checks.read_prefix.Reads as read-prefix-reads
 
--- src/checks.rt:203:11
 read-prefix-requires : tie.Need-read-prefix-requires
 read-prefix-requires c κs = search needs
 
--- src/checks.rt:204:27
 enum-known-a : tie.Need-enum-known-a
 enum-known-a c = search needs
 
--- src/checks.rt:205:24
 cast-size : tie.Need-cast-size
 cast-size c = search needs
 
--- src/checks.rt:207:17
 misfit-requires : tie.Need-misfit-requires
 misfit-requires c κs = search needs
 
--- src/checks.rt:207:17
 same-length : tie.Need-same-length
 same-length c = search needs
 
--- src/checks.rt:207:17
 returns : tie.Need-returns
 returns c = reads-same _ _ _ _ _ _ (c .before .before .misfit .ensures) (c .before .before .before .before .before .before .before .before .before .before .before .read-prefix .kept .1 .0) (whole-short _ _ _ _ _ (c .before .before .before .before .before .before .before .before .before .before .before .read-prefix .ensures) _ (c .before .before .before .before .before .before .before .a .given .1) (c .before .before .before .before .if1 .taken))
 
--- src/checks.rt:210:17
 misfit-requires-2 : tie.Need-misfit-requires-2
 misfit-requires-2 c κs = search needs
 
--- src/checks.rt:210:17
 same-length-2 : tie.Need-same-length-2
 same-length-2 c = search needs
 
--- src/checks.rt:210:17
 returns-2 : tie.Need-returns-2
 returns-2 c = reads-same _ _ _ _ _ _ (c .before .before .misfit2 .ensures) (c .before .before .before .before .before .before .before .before .before .before .before .before .read-prefix .kept .1 .0) (whole-long _ _ _ _ _ (c .before .before .before .before .before .before .before .before .before .before .before .before .read-prefix .ensures) _ (c .before .before .before .before .before .before .before .before .a .given .1) (c .before .before .before .before .before .if1 .left) (c .before .before .before .before .if2 .taken))
 
--- src/checks.rt:214:26
 enum-known-r : tie.Need-enum-known-r
 enum-known-r c = search needs
 
--- src/checks.rt:215:42
 enum-told : tie.Need-enum-told
 enum-told c = search needs
 
--- src/checks.rt:215:31
 misfit-requires-3 : tie.Need-misfit-requires-3
 misfit-requires-3 c κs = search needs
 
--- src/checks.rt:200:1
 same-length-3 : tie.Need-same-length-3
 same-length-3 c = search needs
 
--- src/checks.rt:200:1
 returns-3 : tie.Need-returns-3
 returns-3 c = whole-exact _ _ _ _ _ (c .before .before .before .before .before .before .before .before .read-prefix .ensures) _ (c .before .before .before .before .a .given .1) (c .before .if1 .left) (c .if2 .left)
 
--- src/checks.rt:200:1
 same-length-4 : tie.Need-same-length-4
 same-length-4 c = search needs
 
--- src/checks.rt:200:1
 returns-4 : tie.Need-returns-4
 returns-4 c = whole-refused _ _ _ _ _ (c .before .before .before .before .before .read-prefix .ensures) _ (c .before .r .given .1)
 
--- src/checks.rt:200:1
 same-length-5 : tie.Need-same-length-5
 same-length-5 c = search needs
 
--- src/checks.rt:200:1
 returns-5 : tie.Need-returns-5
 returns-5 c = reads-same _ _ _ _ _ _ (c .before .before .misfit3 .ensures) (c .before .before .before .before .before .before .before .before .read-prefix .kept .1 .0) (whole-wanted _ _ _ _ _ (c .before .before .before .before .before .before .before .before .read-prefix .ensures) _ (c .before .before .before .before .enum-told .given .1))
 
