@@ -6,7 +6,7 @@ use Prim.Native.Nat.{ℕ, _≤_, _<_}
 use lib.Dec.{leb, eqb}
 use lib.ListN.{length, getD, drop}
 use borrow.Author.Tests.{eq-eqb, ne-eqb, eqb-true, not-false, le-leb, lt-leb}
-use Rattle.lists.specs.Count.{pick, pickList, some, some-yes, some-no, some-false, true-false}
+use Rattle.lists.specs.Count.{pick, some, some-yes, some-no, some-false, true-false}
 use Rattle.layout.specs.Versions.{versionOf, layoutOf, sizeLimit}
 use Rattle.layout.specs.declared.Version.{Version}
 use Rattle.layout.specs.declared.KnownVersion.{KnownVersion}
@@ -57,13 +57,9 @@ pub record Answer : Type 0 where
 abbrev pub zeros : Fields
 zeros = record { size = 0; hash = 0; runs = 0; version = 0 }
 
-abbrev pub pickAnswer : Bool → Answer → Answer → Answer
-pickAnswer true a b = a
-pickAnswer false a b = b
-
 -- reading: the fields of a good line, and refusal 18 with zeros for any other bytes
 unfoldable pub reading : List ℕ → Answer
-reading s = pickAnswer (isLine s) (record { number = 0; fields = fieldsIn s }) (record { number = 18; fields = zeros })
+reading s = pick (isLine s) (record { number = 0; fields = fieldsIn s }) (record { number = 18; fields = zeros })
 
 -- what each case of `ReadLine` says
 abbrev pub readAnswer : ReadLine → Answer
@@ -82,7 +78,7 @@ writtenNumber writtenLine.Refused = 19
 -- writing: 0, and the first 25 bytes of the output are the line; or 19, and the output is as it was
 pub record Writing (f : Fields) (before : List ℕ) (r : WrittenLine) (after : List ℕ) : Type 0 where
   pub number : writtenNumber r ≡ pick (canWrite f (length before)) 0 19
-  pub output : after ≡ pickList (canWrite f (length before)) (lineOf f ++ drop 25 before) before
+  pub output : after ≡ pick (canWrite f (length before)) (lineOf f ++ drop 25 before) before
 
 -- ---- laws of the frame
 

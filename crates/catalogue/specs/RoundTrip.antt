@@ -8,16 +8,16 @@ use native.Mathlib.Omega.{arith}
 use lib.ListN.{length, getD, take, drop, set, length-append, List·getD-append, take-append-drop, drop-of-length-le}
 use lib.Seq.{paste, take-at, drop-at, drop-drop, take-all, drop-cons, set-at, getD-append-add}
 use borrow.Author.Tests.{leb-true, eqb-true}
-use Rattle.lists.specs.Count.{true-false}
+use Rattle.lists.specs.Count.{pick, true-false}
 use native.Mathlib.Decide.{decLt}
 use lib.Dec.{leb, eqb}
-use Rattle.layout.specs.Versions.{versionOf, layoutOf, sizeLimit, pickVersion}
+use Rattle.layout.specs.Versions.{versionOf, layoutOf, sizeLimit}
 use Rattle.layout.specs.declared.Version.{Version}
 use Rattle.layout.specs.declared.Version.the-variants.{V17, V23, V26}
 use Rattle.layout.specs.declared.KnownVersion.the-variants.{Known, Unknown}
 use Rattle.catalogue.specs.declared.Fields.{Fields}
 use Rattle.catalogue.specs.Hex.{isDigit, hexAt, hexDigits, Digits, length-digits, digits-are, hex-digits, digits-hex}
-use Rattle.catalogue.specs.Line.{lineOf, fieldsIn, canForm, isFrame, isLine, Frame, frame-is, frame-true, Answer, zeros, pickAnswer, reading, read-good, sizeInRange}
+use Rattle.catalogue.specs.Line.{lineOf, fieldsIn, canForm, isFrame, isLine, Frame, frame-is, frame-true, Answer, zeros, reading, read-good, sizeInRange}
 
 -- what stands after a start of a list is replaced
 pub paste-after : (a b ds : List ℕ) (at w : ℕ) → length a ≡ at → length ds ≡ w → paste (a ++ b) at ds w ≡ (a ++ ds) ++ drop w b
@@ -174,7 +174,7 @@ form-small f e = go (eqb (f .version) 17) (eqb (f .version) 23) (eqb (f .version
         go false b q e = absurd (true-false (sym e))
 
     go : (a b c : Bool) → eqb (f .version) 17 ≡ a → eqb (f .version) 23 ≡ b → eqb (f .version) 26 ≡ c
-        → sizeInRange (pickVersion a (Known V17) (pickVersion b (Known V23) (pickVersion c (Known V26) Unknown))) (f .size) ≡ true
+        → sizeInRange (pick a (Known V17) (pick b (Known V23) (pick c (Known V26) Unknown))) (f .size) ≡ true
         → (f .size < 16 ^ 6) × (f .version < 16 ^ 2)
     go true b c x y z e = (ranged V17 e, omega (arith, eqb-true (f .version) 17 x))
     go false true c x y z e = (ranged V23 e, omega (arith, eqb-true (f .version) 23 y))
@@ -216,7 +216,7 @@ unfolding reading isLine
 read-written s f e = go (isFrame s) (canForm (fieldsIn s)) refl refl e
   where
     go : (a b : Bool) → isFrame s ≡ a → canForm (fieldsIn s) ≡ b
-        → pickAnswer (a && b) (record { number = 0; fields = fieldsIn s }) (record { number = 18; fields = zeros }) ≡ record { number = 0; fields = f }
+        → pick {A = Answer} (a && b) (record { number = 0; fields = fieldsIn s }) (record { number = 18; fields = zeros }) ≡ record { number = 0; fields = f }
         → (s ≡ lineOf f) × (canForm f ≡ true)
     go true true p q e =
         let g : fieldsIn s ≡ f = ap (λ (x : Answer). x .fields) e in

@@ -8,9 +8,9 @@ use native.Mathlib.Nat.{mul-le-mul-left}
 use mir.Syntax.{w64}
 use mir.Val.{Fits}
 use borrow.Author.Tests.{eq-eqb, ne-eqb, lt-ltb, le-ltb}
+use Rattle.lists.specs.Count.{pick}
 use Rattle.lists.specs.declared.Found.{Found}
 use Rattle.lists.specs.declared.Found.the-variants.{At, Nothing}
-use Rattle.lists.specs.First.{pickFound}
 use Rattle.little_endian.specs.Number.{le}
 use Rattle.layout.specs.Versions.{layoutOf, sizeLimit, layout-sound}
 use Rattle.layout.specs.declared.Version.{Version}
@@ -19,16 +19,16 @@ use Rattle.head.specs.declared.fields.Section.{Section}
 use Rattle.head.specs.Fields.{signatureFault, sizeFault, sectionOf, headOf, outside}
 
 -- the first section that fails a test
-pub pick-hit : (t r : Bool) (a b : Found) → r ≡ t → r ≡ true → a ≡ pickFound t a b
+pub pick-hit : (t r : Bool) (a b : Found) → r ≡ t → r ≡ true → a ≡ pick t a b
 pick-hit t r a b p q = rw (sym p ∙ q)
 
-pub pick-miss : (t r : Bool) (x a b : Found) → r ≡ t → r ≡ false → x ≡ b → x ≡ pickFound t a b
+pub pick-miss : (t r : Bool) (x a b : Found) → r ≡ t → r ≡ false → x ≡ b → x ≡ pick t a b
 pick-miss t r x a b p q e = rw (sym p ∙ q) e
 
-pub outside-hit : (v : Version) (l : Layout) (size : ℕ) (s : Section) (r : Bool) (a b : Found) → l ≡ layoutOf v → r ≡ outside (l .head) size s → r ≡ true → a ≡ pickFound (outside (layoutOf v .head) size s) a b
+pub outside-hit : (v : Version) (l : Layout) (size : ℕ) (s : Section) (r : Bool) (a b : Found) → l ≡ layoutOf v → r ≡ outside (l .head) size s → r ≡ true → a ≡ pick (outside (layoutOf v .head) size s) a b
 outside-hit v l size s r a b e p q = pick-hit _ r a b (p ∙ ap (λ (k : Layout). outside (k .head) size s) e) q
 
-pub outside-miss : (v : Version) (l : Layout) (size : ℕ) (s : Section) (r : Bool) (x a b : Found) → l ≡ layoutOf v → r ≡ outside (l .head) size s → r ≡ false → x ≡ b → x ≡ pickFound (outside (layoutOf v .head) size s) a b
+pub outside-miss : (v : Version) (l : Layout) (size : ℕ) (s : Section) (r : Bool) (x a b : Found) → l ≡ layoutOf v → r ≡ outside (l .head) size s → r ≡ false → x ≡ b → x ≡ pick (outside (layoutOf v .head) size s) a b
 outside-miss v l size s r x a b e p q h = pick-miss _ r x a b (p ∙ ap (λ (k : Layout). outside (k .head) size s) e) q h
 
 pub ruleset picks = (outside-hit, outside-miss, pick-hit, pick-miss)

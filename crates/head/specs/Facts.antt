@@ -12,7 +12,7 @@ use lib.Seq.{take-take}
 use borrow.Author.Tests.{eq-eqb, le-ltb, ltb-false, eqb-true, eqb-false}
 use Rattle.lists.specs.Count.{pick, true-false}
 use Rattle.lists.specs.Parts.{drop-take}
-use Rattle.lists.specs.First.{pickFound, at-nothing, first-at}
+use Rattle.lists.specs.First.{at-nothing, first-at}
 use Rattle.lists.specs.declared.Found.{Found}
 use Rattle.lists.specs.declared.Found.the-variants.{At, Nothing}
 use Rattle.little_endian.specs.Number.{le, le-take}
@@ -98,7 +98,7 @@ none-outside : (v : Version) (h : Head) → firstOutside v h ≡ Nothing → (ou
 unfolding firstOutside
 none-outside v h e = go (outside (layoutOf v .head) (h .size) (h .metrics)) (outside (layoutOf v .head) (h .size) (h .trace)) (outside (layoutOf v .head) (h .size) (h .strings)) (outside (layoutOf v .head) (h .size) (h .volumes)) e
   where
-    go : (a b c d : Bool) → pickFound a (At 1) (pickFound b (At 2) (pickFound c (At 3) (pickFound d (At 4) Nothing))) ≡ Nothing → (a ≡ false) × (b ≡ false) × (c ≡ false) × (d ≡ false)
+    go : (a b c d : Bool) → pick a (At 1) (pick b (At 2) (pick c (At 3) (pick d (At 4) Nothing))) ≡ Nothing → (a ≡ false) × (b ≡ false) × (c ≡ false) × (d ≡ false)
     go true b c d e = absurd (at-nothing 1 e)
     go false true c d e = absurd (at-nothing 2 e)
     go false false true d e = absurd (at-nothing 3 e)
@@ -161,7 +161,7 @@ pub record Apart (h : Head) : Type 0 where
   pub trace-volumes : Separate (h .trace) (h .volumes)
   pub strings-volumes : Separate (h .strings) (h .volumes)
 
-none-shared : (a b c d e f : Bool) → pickFound a (At 2) (pickFound b (At 3) (pickFound c (At 3) (pickFound d (At 4) (pickFound e (At 4) (pickFound f (At 4) Nothing))))) ≡ Nothing → (a ≡ false) × (b ≡ false) × (c ≡ false) × (d ≡ false) × (e ≡ false) × (f ≡ false)
+none-shared : (a b c d e f : Bool) → pick a (At 2) (pick b (At 3) (pick c (At 3) (pick d (At 4) (pick e (At 4) (pick f (At 4) Nothing))))) ≡ Nothing → (a ≡ false) × (b ≡ false) × (c ≡ false) × (d ≡ false) × (e ≡ false) × (f ≡ false)
 none-shared true b c d e f q = absurd (at-nothing 2 q)
 none-shared false true c d e f q = absurd (at-nothing 3 q)
 none-shared false false true d e f q = absurd (at-nothing 3 q)

@@ -4,7 +4,7 @@ use mathlib.Core.Bool.{Bool, _&&_, _||_, not}
 use Prim.Native.Nat.{ℕ, _+_, _*_}
 use lib.Dec.{eqb, ltb}
 use lib.ListN.{take, drop}
-use Rattle.lists.specs.First.{first, pickFound}
+use Rattle.lists.specs.First.{first}
 use Rattle.lists.specs.Count.{pick}
 use Rattle.lists.specs.declared.Found.{Found}
 use Rattle.lists.specs.declared.Found.the-variants.{At, Nothing}
@@ -16,7 +16,7 @@ use Rattle.head.specs.declared.fields.Head.{Head}
 
 -- a fault of index i, where the test holds
 abbrev pub faultAt : ℕ → Bool → Found
-faultAt i test = pickFound test (At i) Nothing
+faultAt i test = pick test (At i) Nothing
 
 -- 2: the signature differs from 53 43 43 41
 unfoldable pub signatureFault : List ℕ → Found
@@ -60,10 +60,10 @@ outside h size s = not (eqb (s .len) 0) && (ltb (s .at) h || ltb size (s .end))
 -- 5: the first such section
 unfoldable pub firstOutside : Version → Head → Found
 firstOutside v h =
-    pickFound (outside (layoutOf v .head) (h .size) (h .metrics)) (At 1)
-    (pickFound (outside (layoutOf v .head) (h .size) (h .trace)) (At 2)
-    (pickFound (outside (layoutOf v .head) (h .size) (h .strings)) (At 3)
-    (pickFound (outside (layoutOf v .head) (h .size) (h .volumes)) (At 4)
+    pick (outside (layoutOf v .head) (h .size) (h .metrics)) (At 1)
+    (pick (outside (layoutOf v .head) (h .size) (h .trace)) (At 2)
+    (pick (outside (layoutOf v .head) (h .size) (h .strings)) (At 3)
+    (pick (outside (layoutOf v .head) (h .size) (h .volumes)) (At 4)
     Nothing)))
 
 -- two sections of nonzero length share a byte
@@ -73,10 +73,10 @@ shares s t = (not (eqb (s .len) 0) && not (eqb (t .len) 0)) && (ltb (s .at) (t .
 -- 6: the smallest section that shares a byte with a lower section
 unfoldable pub firstShared : Head → Found
 firstShared h =
-    pickFound (shares (h .metrics) (h .trace)) (At 2)
-    (pickFound (shares (h .metrics) (h .strings)) (At 3)
-    (pickFound (shares (h .trace) (h .strings)) (At 3)
-    (pickFound (shares (h .metrics) (h .volumes)) (At 4)
-    (pickFound (shares (h .trace) (h .volumes)) (At 4)
-    (pickFound (shares (h .strings) (h .volumes)) (At 4)
+    pick (shares (h .metrics) (h .trace)) (At 2)
+    (pick (shares (h .metrics) (h .strings)) (At 3)
+    (pick (shares (h .trace) (h .strings)) (At 3)
+    (pick (shares (h .metrics) (h .volumes)) (At 4)
+    (pick (shares (h .trace) (h .volumes)) (At 4)
+    (pick (shares (h .strings) (h .volumes)) (At 4)
     Nothing)))))

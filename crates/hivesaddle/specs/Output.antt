@@ -7,7 +7,7 @@ use native.Mathlib.Nat.{zero-add}
 use native.Mathlib.Omega.{arith}
 use lib.ListN.{length, take, drop, drop-of-length-le}
 use lib.Seq.{paste, take-all}
-use Rattle.lists.specs.Count.{pick, pickList}
+use Rattle.lists.specs.Count.{pick}
 use Rattle.incremental.specs.Plan.{Answer}
 use Rattle.volumes.specs.declared.Reference.{Reference}
 use Rattle.query.specs.Questions.{placeOf, volumeValues, referenceValues}
@@ -58,7 +58,7 @@ fieldsOf size hash runs version = record { size = size; hash = hash; runs = runs
 -- writing a line: 0 or 19, and the output afterwards
 pub record LineWriting (f : Fields) (before : List ℕ) (r : ℕ) (after : List ℕ) : Type 0 where
   pub number : r ≡ pick (canWrite f (length before)) 0 19
-  pub output : after ≡ pickList (canWrite f (length before)) (lineOf f ++ drop 25 before) before
+  pub output : after ≡ pick (canWrite f (length before)) (lineOf f ++ drop 25 before) before
 
 pub writing-is : (f : Fields) (before after : List ℕ) (w : WrittenLine) (r : ℕ) → Writing f before w after → writtenNumber w ≡ r → LineWriting f before r after
 writing-is f before after w r h e = record { number = sym e ∙ h .number; output = h .output }

@@ -10,6 +10,7 @@ use lib.Dec.{leb}
 use lib.ListN.{length, take, length-take}
 use lib.Seq.{take-take}
 use borrow.Author.Tests.{leb-true, leb-false, le-leb, lt-leb}
+use Rattle.lists.specs.Count.{pick}
 use Rattle.incremental.specs.Decision.{Decision, accept, refuse}
 use Rattle.incremental.specs.declared.Refusal.{Refusal}
 
@@ -22,14 +23,10 @@ pub data Answer (A : Type 0) : Type 0 where
   decided : Decision A → Answer A
   wants : ℕ → Answer A
 
-abbrev pub pickAnswer : {A : Type 0} → Bool → Answer A → Answer A → Answer A
-pickAnswer true a b = a
-pickAnswer false a b = b
-
 -- what a plan answers on a prefix
 unfoldable pub run : {A : Type 0} → Plan A → List ℕ → Answer A
 run (decide d) p = decided d
-run (await k next) p = pickAnswer (leb k (length p)) (run (next (take k p)) p) (wants k)
+run (await k next) p = pick (leb k (length p)) (run (next (take k p)) p) (wants k)
 
 -- one plan after another
 unfoldable pub andThen : {A B : Type 0} → Plan A → (A → Plan B) → Plan B
@@ -63,7 +60,7 @@ run-then (decide (accept a)) f p = refl
 run-then (decide (refuse r)) f p = refl
 run-then (await k next) f p = go (leb k (length p)) (run-then (next (take k p)) f p)
   where
-    go : (b : Bool) → run (andThen (next (take k p)) f) p ≡ onward (run (next (take k p)) p) (λ a. run (f a) p) → pickAnswer b (run (andThen (next (take k p)) f) p) (wants k) ≡ onward (pickAnswer b (run (next (take k p)) p) (wants k)) (λ a. run (f a) p)
+    go : (b : Bool) → run (andThen (next (take k p)) f) p ≡ onward (run (next (take k p)) p) (λ a. run (f a) p) → pick b (run (andThen (next (take k p)) f) p) (wants k) ≡ onward (pick b (run (next (take k p)) p) (wants k)) (λ a. run (f a) p)
     go true ih = ih
     go false ih = refl
 

@@ -3,6 +3,7 @@ use mathlib.Core.Bool.{Bool, true, false}
 use Prim.Native.Nat.{ℕ, _+_, _≤_}
 use native.Mathlib.Omega.{arith}
 use lib.Dec.{eqb}
+use Rattle.lists.specs.Count.{pick}
 use Rattle.layout.specs.declared.Version.{Version}
 use Rattle.layout.specs.declared.Version.the-variants.{V17, V23, V26}
 use Rattle.layout.specs.declared.Layout.{Layout}
@@ -29,13 +30,9 @@ versionNumber V17 = 17
 versionNumber V23 = 23
 versionNumber V26 = 26
 
-abbrev pub pickVersion : Bool → KnownVersion → KnownVersion → KnownVersion
-pickVersion true a b = a
-pickVersion false a b = b
-
 -- the version of a number, for 17, 23 and 26
 unfoldable pub versionOf : ℕ → KnownVersion
-versionOf v = pickVersion (eqb v 17) (Known V17) (pickVersion (eqb v 23) (Known V23) (pickVersion (eqb v 26) (Known V26) Unknown))
+versionOf v = pick (eqb v 17) (Known V17) (pick (eqb v 23) (Known V23) (pick (eqb v 26) (Known V26) Unknown))
 
 -- what holds of the constants of every version
 pub record Sound (l : Layout) : Type 0 where

@@ -9,8 +9,8 @@ use lib.ListN.{length, getD, take, length-take, List·getD-eq-default}
 use lib.Seq.{getD-take}
 use borrow.Author.Tests.{leb-true, leb-false}
 use native.Mathlib.Decide.{decLt}
-use Rattle.lists.specs.First.{first, pickFound, first-at, at-nothing}
-use Rattle.lists.specs.Count.{count-le}
+use Rattle.lists.specs.First.{first, first-at, at-nothing}
+use Rattle.lists.specs.Count.{pick, count-le}
 use Rattle.lists.specs.declared.Found.{Found}
 use Rattle.lists.specs.declared.Found.the-variants.{At, Nothing}
 use Rattle.little_endian.specs.Number.{le, le-lt}
@@ -67,7 +67,7 @@ low-none = record { low = λ i e. absurd (at-nothing i (sym e)) }
 low-at : (i : ℕ) → i < 2 ^ 32 → LowFault (At i)
 low-at i l = record { low = λ j e. let q : i ≡ j = cc in omega arith }
 
-low-pick : (b : Bool) (f g : Found) → LowFault f → LowFault g → LowFault (pickFound b f g)
+low-pick : (b : Bool) (f g : Found) → LowFault f → LowFault g → LowFault (pick b f g)
 low-pick true f g h k = h
 low-pick false f g h k = k
 

@@ -7,7 +7,7 @@ use borrow.Author.Tests.{ltb-false, lt-ltb, le-ltb}
 use mathlib.Core.Bool.{Bool, true, false}
 use lib.Dec.{ltb}
 use Rattle.lists.specs.Table.{tabulate}
-use Rattle.lists.specs.Count.{pickList}
+use Rattle.lists.specs.Count.{pick}
 use Rattle.listing_text.specs.Decimal.{decimal, decimalIn}
 
 -- more turns than there are digits change nothing
@@ -18,7 +18,7 @@ turns-enough (suc a) zero n h l = absurd (omega arith)
 turns-enough (suc a) (suc b) n h l = go (ltb n 10) refl (turns-enough a b (n / 10))
   where
     go : (t : Bool) → ltb n 10 ≡ t → (n / 10 < a → n / 10 < b → decimalIn a (n / 10) ≡ decimalIn b (n / 10))
-        → pickList t ((48 + n) ∷ []) (decimalIn a (n / 10) ++ ((48 + n % 10) ∷ [])) ≡ pickList t ((48 + n) ∷ []) (decimalIn b (n / 10) ++ ((48 + n % 10) ∷ []))
+        → pick t ((48 + n) ∷ []) (decimalIn a (n / 10) ++ ((48 + n % 10) ∷ [])) ≡ pick t ((48 + n) ∷ []) (decimalIn b (n / 10) ++ ((48 + n % 10) ∷ []))
     go true e ih = refl
     go false e ih = let m = ltb-false n 10 e in rw (ih (omega arith) (omega arith))
 

@@ -5,7 +5,7 @@ use mathlib.Core.List.{List, [], _∷_, _++_}
 use Prim.Native.Nat.{ℕ, _+_, _-_, _*_, _≤_}
 use lib.Dec.{leb, ltb}
 use lib.ListN.{length, take, drop, replicate}
-use Rattle.lists.specs.Count.{pickList, pick}
+use Rattle.lists.specs.Count.{pick}
 use Rattle.lists.specs.Table.{tabulate}
 use Rattle.little_endian.specs.Number.{le}
 use Rattle.catalogue.specs.Hex.{hexDigits}
@@ -104,7 +104,7 @@ fileLimit = 49151
 
 -- THE LISTING of the bytes read, with a working buffer of m places
 unfoldable pub listing : List ℕ → ℕ → List ℕ
-listing p m = pickList (ltb fileLimit (length p)) (line too-long) (answerText (fileAnswer p m) p)
+listing p m = pick (ltb fileLimit (length p)) (line too-long) (answerText (fileAnswer p m) p)
 
 -- ---- the text that the program builds
 
@@ -126,4 +126,4 @@ pub record Sound (t : Text) : Type 0 where
 pub record Listed (p buffer : List ℕ) (t : Text) (after : List ℕ) : Type 0 where
   pub sound : Sound t
   pub text : textOf t ≡ listing p (length buffer)
-  pub places : after ≡ pickList (ltb fileLimit (length p)) buffer (bufferAfter (fileAnswer p (length buffer)) (length buffer))
+  pub places : after ≡ pick (ltb fileLimit (length p)) buffer (bufferAfter (fileAnswer p (length buffer)) (length buffer))

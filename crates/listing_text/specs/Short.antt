@@ -27,7 +27,7 @@ use Rattle.query.specs.Search.{storedHash, reportOf, entryNumbers, firstMatch, 
 use Rattle.query.specs.declared.search.Report.{Report}
 use Rattle.query.specs.declared.search.Report.the-variants as report
 use Rattle.query.specs.declared.search.PathAnswer.the-variants as pathAnswer
-use Rattle.lists.specs.Count.{pickList}
+use Rattle.lists.specs.Count.{pick}
 use Rattle.listing_text.specs.Decimal.{decimal}
 use Rattle.listing_text.specs.DecimalLaws.{decimal-digit, decimal-more}
 use Rattle.listing_text.specs.Listing.{line, too-long, reportWord, pathText, acceptedText, refusedText, answerText, fileLimit, listing, room}
@@ -92,7 +92,7 @@ module _ (p : List ℕ) (h : Bytes p) where
   unfolding refusedText
   refused-short r s = simp length-append (omega (arith, two-digits (r .number) (s .number), ten-digits (r .index) (s .index)))
 
-  answer-short : (b : Bool) (x : Answer Acceptable) → Each (λ y. SmallFields (y .fields)) x → length (pickList b (line too-long) (answerText x p)) ≤ room
+  answer-short : (b : Bool) (x : Answer Acceptable) → Each (λ y. SmallFields (y .fields)) x → length (pick b (line too-long) (answerText x p)) ≤ room
   answer-short true x k = omega arith
   answer-short false (decided (accept y)) k = accepted-short (y .fields) (k .accepts y refl)
   answer-short false (decided (refuse r)) k = refused-short r (k .refuses r refl)

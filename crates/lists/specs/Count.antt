@@ -7,13 +7,10 @@ use Prim.Native.Nat.{ℕ, zero, suc, _+_, _≤_, _<_}
 use native.Mathlib.Nat.{le-of-suc-le-suc, not-suc-le-zero, eq-or-lt-of-le, le-refl}
 use native.Mathlib.Omega.{arith}
 
-abbrev pub pick : Bool → ℕ → ℕ → ℕ
+-- one of two, by a test
+abbrev pub pick : {A : Type 0} → Bool → A → A → A
 pick true a b = a
 pick false a b = b
-
-abbrev pub pickList : Bool → List ℕ → List ℕ → List ℕ
-pickList true a b = a
-pickList false a b = b
 
 -- true is not false
 pub true-false : _≡_ {A = Bool} true false → ⊥

@@ -8,12 +8,9 @@ use native.Mathlib.Nat.{sub-zero, zero-add, add-zero, eq-or-lt-of-le}
 use native.Mathlib.Numerals.{add-one}
 use lib.Dec.{ltb}
 use borrow.Author.Tests.{ltb-true, ltb-false}
+use Rattle.lists.specs.Count.{pick}
 use Rattle.lists.specs.declared.Found.{Found}
 use Rattle.lists.specs.declared.Found.the-variants.{At, Nothing}
-
-abbrev pub pickFound : Bool → Found → Found → Found
-pickFound true a b = a
-pickFound false a b = b
 
 pub at-nothing : (i : ℕ) → At i ≡ Nothing → ⊥
 at-nothing i e = let z : _≡_ {A = ℕ} 0 1 = cc in omega arith
@@ -21,7 +18,7 @@ at-nothing i e = let z : _≡_ {A = ℕ} 0 1 = cc in omega arith
 -- the first of the n indexes from i that passes the test
 unfoldable pub firstFrom : (ℕ → Bool) → ℕ → ℕ → Found
 firstFrom test zero i = Nothing
-firstFrom test (suc n) i = pickFound (test i) (At i) (firstFrom test n (suc i))
+firstFrom test (suc n) i = pick (test i) (At i) (firstFrom test n (suc i))
 
 -- the first of the indexes below n that passes the test
 abbrev pub first : (ℕ → Bool) → ℕ → Found
@@ -56,10 +53,10 @@ first-clear test zero i e k l = absurd (omega arith)
 first-clear test (suc n) i e k l = go (test i) refl k l (first-clear test n (suc i))
   where
     go : (b : Bool) → test i ≡ b → (k : ℕ) → k < suc n → (firstFrom test n (suc i) ≡ Nothing → (k : ℕ) → k < n → test (suc i + k) ≡ false) → test (i + k) ≡ false
-    go true q k l ih = let z : pickFound (test i) (At i) (firstFrom test n (suc i)) ≡ Nothing = e in let w : At i ≡ Nothing = rw q at z in cc
+    go true q k l ih = let z : pick (test i) (At i) (firstFrom test n (suc i)) ≡ Nothing = e in let w : At i ≡ Nothing = rw q at z in cc
     go false q zero l ih = rw (add-zero i) q
     go false q (suc k) l ih =
-        let z : pickFound (test i) (At i) (firstFrom test n (suc i)) ≡ Nothing = e in
+        let z : pick (test i) (At i) (firstFrom test n (suc i)) ≡ Nothing = e in
         let w : firstFrom test n (suc i) ≡ Nothing = rw q at z in
         let s : suc i + k ≡ i + suc k = omega arith in
         rw (← s) (ih w k (omega arith))
@@ -73,7 +70,7 @@ unfolding firstFrom
 first-at test zero i u e = absurd (at-nothing u (sym e))
 first-at test (suc n) i u e = go (test i) refl e (first-at test n (suc i) u)
   where
-    go : (t : Bool) → test i ≡ t → pickFound t (At i) (firstFrom test n (suc i)) ≡ At u
+    go : (t : Bool) → test i ≡ t → pick t (At i) (firstFrom test n (suc i)) ≡ At u
         → (firstFrom test n (suc i) ≡ At u → (suc i ≤ u) × (u < suc i + n) × (test u ≡ true) × ((k : ℕ) → suc i ≤ k → k < u → test k ≡ false))
         → (i ≤ u) × (u < i + suc n) × (test u ≡ true) × ((k : ℕ) → i ≤ k → k < u → test k ≡ false)
     go true q e ih =
@@ -104,11 +101,11 @@ pub record Least (test : ℕ → Bool) (n r : ℕ) : Type 0 where
 
 -- what such a number says
 abbrev pub foundBelow : ℕ → ℕ → Found
-foundBelow n r = pickFound (ltb r n) (At r) Nothing
+foundBelow n r = pick (ltb r n) (At r) Nothing
 
 pub least-first : (test : ℕ → Bool) (n r : ℕ) → Least test n r → foundBelow n r ≡ first test n
 least-first test n r q = go (ltb r n) refl
   where
-    go : (b : Bool) → ltb r n ≡ b → pickFound b (At r) Nothing ≡ first test n
+    go : (b : Bool) → ltb r n ≡ b → pick b (At r) Nothing ≡ first test n
     go true e = sym (first-is-at test n r (ltb-true r n e) (q .here (ltb-true r n e)) (q .below))
     go false e = sym (first-is-nothing test n (λ k h. q .below k (omega (arith, ltb-false r n e))))

@@ -4,6 +4,7 @@ use mathlib.Core.List.{List}
 use Prim.Native.Nat.{ℕ, _*_, _/_}
 use lib.Dec.{eqb, leb, ltb}
 use lib.ListN.{length}
+use Rattle.lists.specs.Count.{pick}
 use Rattle.lists.specs.First.{first}
 use Rattle.lists.specs.declared.Found.{Found}
 use Rattle.lists.specs.declared.Found.the-variants.{At, Nothing}
@@ -14,7 +15,7 @@ use Rattle.head.specs.declared.fields.Section.{Section}
 use Rattle.head.specs.declared.checks.Opening.{Opening}
 use Rattle.names.specs.Names.{sound, nameAt, nameUnits}
 use Rattle.volumes.specs.Volumes.{volumeChecks, referenceOf, entryAt}
-use Rattle.query.specs.Questions.{bytesAt, pickPlace, entryShown, namePlace, accepts, pickVolume, volumeShown, volumeFacts, pickReference, referenceShown}
+use Rattle.query.specs.Questions.{bytesAt, entryShown, namePlace, accepts, volumeShown, volumeFacts, referenceShown}
 use Rattle.query.specs.Search.{numbersOf, matches, pickReport, reportOf}
 use Rattle.query.specs.declared.questions.Place.{Place}
 use Rattle.query.specs.declared.questions.PlaceAnswer.{PlaceAnswer}
@@ -32,14 +33,14 @@ use Rattle.query.specs.declared.search.Match.the-variants as match
 -- ---- where checks 1 to 6 pass
 
 abbrev pub entryIn : Opening → List ℕ → ℕ → PlaceAnswer
-entryIn o p i = pickPlace (entryShown o p i) (placeAnswer.Shown (namePlace o p i)) placeAnswer.NotShown
+entryIn o p i = pick (entryShown o p i) (placeAnswer.Shown (namePlace o p i)) placeAnswer.NotShown
 
 abbrev pub volumeIn : Opening → List ℕ → ℕ → VolumeAnswer
-volumeIn o p i = pickVolume (volumeShown o p i) (volumeAnswer.Shown (volumeFacts o p i)) volumeAnswer.NotShown
+volumeIn o p i = pick (volumeShown o p i) (volumeAnswer.Shown (volumeFacts o p i)) volumeAnswer.NotShown
 
 abbrev pub referenceIn : Opening → List ℕ → ℕ → ℕ → ReferenceAnswer
 referenceIn o p i k =
-    pickReference (referenceShown o p i k)
+    pick (referenceShown o p i k)
     (referenceAnswer.Shown (referenceOf (part (o .head .volumes) p) (entryAt (o .version) i) k))
     referenceAnswer.NotShown
 
@@ -52,7 +53,7 @@ abbrev pub nameIn : Version → List ℕ → ℕ → Place
 nameIn v metrics i = record { at = nameAt v metrics i; len = 2 * nameUnits v metrics i }
 
 abbrev pub nameShown : Version → List ℕ → List ℕ → ℕ → PlaceAnswer
-nameShown v metrics strings i = pickPlace (nameSound v metrics strings i) (placeAnswer.Shown (nameIn v metrics i)) placeAnswer.NotShown
+nameShown v metrics strings i = pick (nameSound v metrics strings i) (placeAnswer.Shown (nameIn v metrics i)) placeAnswer.NotShown
 
 -- ---- volume i on the bytes of its section
 
@@ -62,27 +63,23 @@ sectionShown s v b i =
 
 -- ---- the search on the metrics and the strings
 
-abbrev pub pickMatch : Bool → Match → Match → Match
-pickMatch true a b = a
-pickMatch false a b = b
-
 -- a hash, or the two of version 23, against the stored one
 abbrev pub oneHash : ℕ → ℕ → Match
-oneHash h hash = pickMatch (eqb h hash) (match.Equal report.Silent) match.Differs
+oneHash h hash = pick (eqb h hash) (match.Equal report.Silent) match.Differs
 
 abbrev pub twoHashes : ℕ → ℕ → ℕ → Match
-twoHashes a b hash = pickMatch (eqb a hash || eqb b hash) (match.Equal (pickReport (eqb a hash) (eqb b hash))) match.Differs
+twoHashes a b hash = pick (eqb a hash || eqb b hash) (match.Equal (pickReport (eqb a hash) (eqb b hash))) match.Differs
 
 -- a name's numbers match the stored hash, with the report, or not
 unfoldable pub matchOf : Version → List ℕ → ℕ → Match
-matchOf v numbers hash = pickMatch (matches v numbers hash) (match.Equal (reportOf v numbers hash)) match.Differs
+matchOf v numbers hash = pick (matches v numbers hash) (match.Equal (reportOf v numbers hash)) match.Differs
 
 abbrev pub numbersIn : Version → List ℕ → List ℕ → ℕ → List ℕ
 numbersIn v metrics strings i = numbersOf (bytesAt (nameIn v metrics i) strings)
 
 unfoldable pub matchIn : Version → List ℕ → List ℕ → ℕ → ℕ → Match
 matchIn v metrics strings hash i =
-    pickMatch (nameSound v metrics strings i) (matchOf v (numbersIn v metrics strings i) hash) match.Differs
+    pick (nameSound v metrics strings i) (matchOf v (numbersIn v metrics strings i) hash) match.Differs
 
 unfoldable pub testIn : Version → List ℕ → List ℕ → ℕ → ℕ → Bool
 testIn v metrics strings hash i = nameSound v metrics strings i && matches v (numbersIn v metrics strings i) hash

@@ -39,7 +39,7 @@ use Rattle.volumes.specs.Volumes.{entryAt, volumeChecks, volumeOf, referenceOf,
 use Rattle.volumes.specs.SoundVolume.{SoundReferences, SoundVolume, sound-volume}
 use Rattle.volumes.specs.declared.Volume.{Volume}
 use Rattle.volumes.specs.declared.Reference.{Reference}
-use Rattle.query.specs.Questions.{asked, bytesAt, placeOf, pickPlace, entryShown, namePlace, accepts, volumeShown, volumeFacts, volumeValues, referenceShown}
+use Rattle.query.specs.Questions.{asked, bytesAt, placeOf, entryShown, namePlace, accepts, volumeShown, volumeFacts, volumeValues, referenceShown}
 use Rattle.query.specs.Parts.{entryIn, nameSound, nameIn, nameShown, sectionShown, volumeIn, referenceIn}
 use Rattle.query.specs.declared.questions.Place.{Place}
 use Rattle.query.specs.declared.questions.PlaceAnswer.{PlaceAnswer}
@@ -105,14 +105,14 @@ pub record NameShown (v : Version) (metrics strings : List ℕ) (i : ℕ) (w : P
 pub name-shown : (v : Version) (metrics strings : List ℕ) (i : ℕ) {r : PlaceAnswer} (w : Place) → r ≡ nameShown v metrics strings i → r ≡ placeAnswer.Shown w → NameShown v metrics strings i w
 name-shown v metrics strings i w e q = go (nameSound v metrics strings i) refl (sym q ∙ e)
   where
-    go : (b : Bool) → nameSound v metrics strings i ≡ b → placeAnswer.Shown w ≡ pickPlace b (placeAnswer.Shown (nameIn v metrics i)) placeAnswer.NotShown → NameShown v metrics strings i w
+    go : (b : Bool) → nameSound v metrics strings i ≡ b → placeAnswer.Shown w ≡ pick b (placeAnswer.Shown (nameIn v metrics i)) placeAnswer.NotShown → NameShown v metrics strings i w
     go true s h = record { sound = s; place = cc }
     go false s h = let z : _≡_ {A = ℕ} 0 1 = cc in absurd (omega arith)
 
 pub name-hidden : (v : Version) (metrics strings : List ℕ) (i : ℕ) {r : PlaceAnswer} → r ≡ nameShown v metrics strings i → r ≡ placeAnswer.NotShown → nameSound v metrics strings i ≡ false
 name-hidden v metrics strings i e q = go (nameSound v metrics strings i) (sym q ∙ e)
   where
-    go : (b : Bool) → placeAnswer.NotShown ≡ pickPlace b (placeAnswer.Shown (nameIn v metrics i)) placeAnswer.NotShown → b ≡ false
+    go : (b : Bool) → placeAnswer.NotShown ≡ pick b (placeAnswer.Shown (nameIn v metrics i)) placeAnswer.NotShown → b ≡ false
     go true h = let z : _≡_ {A = ℕ} 0 1 = cc in absurd (omega arith)
     go false h = refl
 

@@ -4,6 +4,7 @@ use mathlib.Core.List.{List}
 use Prim.Native.Nat.{ℕ, _+_, _*_}
 use lib.Dec.{leb, ltb}
 use lib.ListN.{length, take, drop}
+use Rattle.lists.specs.Count.{pick}
 use Rattle.layout.specs.Versions.{layoutOf}
 use Rattle.incremental.specs.Decision.{Decision, accept, refuse}
 use Rattle.incremental.specs.Plan.{Answer, decided, wants, run}
@@ -37,10 +38,6 @@ abbrev pub placeOf : PlaceAnswer → Place
 placeOf (placeAnswer.Shown w) = w
 placeOf placeAnswer.NotShown = record { at = 0; len = 0 }
 
-abbrev pub pickPlace : Bool → PlaceAnswer → PlaceAnswer → PlaceAnswer
-pickPlace true a b = a
-pickPlace false a b = b
-
 -- ---- the program name: checks 1 to 4 pass; the units before its first zero, from byte 16
 
 abbrev pub programPlace : List ℕ → PlaceAnswer
@@ -69,7 +66,7 @@ namePlace o p i =
 -- checks 1 to 6 pass on the bytes lent, and the entry can be shown
 abbrev pub entryPlace : List ℕ → ℕ → PlaceAnswer
 entryPlace p i =
-    asked (run openPlan p) placeAnswer.NotShown (λ o. pickPlace (entryShown o p i) (placeAnswer.Shown (namePlace o p i)) placeAnswer.NotShown)
+    asked (run openPlan p) placeAnswer.NotShown (λ o. pick (entryShown o p i) (placeAnswer.Shown (namePlace o p i)) placeAnswer.NotShown)
 
 -- ---- volume i
 
@@ -97,13 +94,9 @@ volumeFacts o p i =
       path = record { at = o .head .volumes .at + v .path; len = 2 * v .units };
     }
 
-abbrev pub pickVolume : Bool → VolumeAnswer → VolumeAnswer → VolumeAnswer
-pickVolume true a b = a
-pickVolume false a b = b
-
 abbrev pub volumeAsked : List ℕ → ℕ → VolumeAnswer
 volumeAsked p i =
-    asked (run openPlan p) volumeAnswer.NotShown (λ o. pickVolume (volumeShown o p i) (volumeAnswer.Shown (volumeFacts o p i)) volumeAnswer.NotShown)
+    asked (run openPlan p) volumeAnswer.NotShown (λ o. pick (volumeShown o p i) (volumeAnswer.Shown (volumeFacts o p i)) volumeAnswer.NotShown)
 
 -- no: zeros and an empty part
 abbrev pub volumeValues : VolumeAnswer → VolumeFacts
@@ -116,15 +109,11 @@ volumeValues volumeAnswer.NotShown =
 unfoldable pub referenceShown : Opening → List ℕ → ℕ → ℕ → Bool
 referenceShown o p i k = volumeShown o p i && ltb k (volumeOf (part (o .head .volumes) p) (entryAt (o .version) i) .references)
 
-abbrev pub pickReference : Bool → ReferenceAnswer → ReferenceAnswer → ReferenceAnswer
-pickReference true a b = a
-pickReference false a b = b
-
 abbrev pub referenceAsked : List ℕ → ℕ → ℕ → ReferenceAnswer
 referenceAsked p i k =
     asked (run openPlan p) referenceAnswer.NotShown
     (λ o.
-    pickReference (referenceShown o p i k)
+    pick (referenceShown o p i k)
     (referenceAnswer.Shown (referenceOf (part (o .head .volumes) p) (entryAt (o .version) i) k))
     referenceAnswer.NotShown)
 

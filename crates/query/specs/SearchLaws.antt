@@ -9,7 +9,7 @@ use native.Mathlib.Omega.{arith}
 use lib.Dec.{ltb}
 use lib.ListN.{length, take, drop}
 use borrow.Author.Tests.{lt-ltb, le-leb, lt-leb, ltb-true, ltb-false}
-use Rattle.lists.specs.Count.{true-false}
+use Rattle.lists.specs.Count.{pick, true-false}
 use Rattle.lists.specs.First.{first, first-at, first-nothing, first-is-at, first-is-nothing}
 use Rattle.lists.specs.declared.Found.{Found}
 use Rattle.lists.specs.declared.Found.the-variants.{At, Nothing}
@@ -27,7 +27,7 @@ use Rattle.head.specs.declared.checks.Opening.{Opening}
 use Rattle.names.specs.Names.{sound}
 use Rattle.query.specs.Questions.{bytesAt, entryShown, namePlace}
 use Rattle.query.specs.Search.{numbersOf, storedHash, matches, reportOf, entryNumbers, firstMatch, reported, pathFound}
-use Rattle.query.specs.Parts.{nameSound, nameIn, nameShown, pickMatch, oneHash, twoHashes, matchOf, numbersIn, matchIn, testIn, entriesIn, reportedIn, searched}
+use Rattle.query.specs.Parts.{nameSound, nameIn, nameShown, oneHash, twoHashes, matchOf, numbersIn, matchIn, testIn, entriesIn, reportedIn, searched}
 use Rattle.query.specs.QuestionLaws.{both, name-shown, name-hidden, name-inside, part-there, part-low, part-bytes}
 use Rattle.query.specs.declared.questions.Place.{Place}
 use Rattle.query.specs.declared.questions.PlaceAnswer.{PlaceAnswer}
@@ -78,7 +78,7 @@ unfolding matchIn matchOf testIn
 entry-equals v metrics strings hash i {x = x} e q = go (nameSound v metrics strings i) (matches v (numbersIn v metrics strings i) hash) refl refl (sym q ∙ e)
   where
     go : (a b : Bool) → nameSound v metrics strings i ≡ a → matches v (numbersIn v metrics strings i) hash ≡ b
-        → match.Equal x ≡ pickMatch a (pickMatch b (match.Equal (reportOf v (numbersIn v metrics strings i) hash)) match.Differs) match.Differs → Equals v metrics strings hash i x
+        → match.Equal x ≡ pick a (pick b (match.Equal (reportOf v (numbersIn v metrics strings i) hash)) match.Differs) match.Differs → Equals v metrics strings hash i x
     go true true y z h = record { passes = rw (y, z); reports = cc }
     go true false y z h = let f : _≡_ {A = ℕ} 0 1 = cc in absurd (omega arith)
     go false b y z h = let f : _≡_ {A = ℕ} 0 1 = cc in absurd (omega arith)
@@ -87,7 +87,7 @@ pub entry-differs : (v : Version) (metrics strings : List ℕ) (hash i : ℕ) {r
 unfolding matchIn matchOf testIn
 entry-differs v metrics strings hash i e q = go (nameSound v metrics strings i) (matches v (numbersIn v metrics strings i) hash) (sym q ∙ e)
   where
-    go : (a b : Bool) → match.Differs ≡ pickMatch a (pickMatch b (match.Equal (reportOf v (numbersIn v metrics strings i) hash)) match.Differs) match.Differs → (a && b) ≡ false
+    go : (a b : Bool) → match.Differs ≡ pick a (pick b (match.Equal (reportOf v (numbersIn v metrics strings i) hash)) match.Differs) match.Differs → (a && b) ≡ false
     go true true h = let f : _≡_ {A = ℕ} 0 1 = cc in absurd (omega arith)
     go true false h = refl
     go false b h = refl

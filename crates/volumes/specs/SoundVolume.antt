@@ -15,7 +15,7 @@ use Rattle.incremental.specs.Decision.{Decision, accept}
 use Rattle.volumes.specs.declared.Cursor.{Cursor}
 use Rattle.volumes.specs.declared.Step.{Step}
 use Rattle.volumes.specs.declared.Step.the-variants.{Next, Past, Unended}
-use Rattle.volumes.specs.Volumes.{entryAt, pathAt, pathCount, pathFits, referencesAt, referencesSize, referenceCount, referencesFit, stepAt, pickStep, onStep, directoryCount, directoriesAt, directoryChecks, entryChecks, unless, volumesFrom}
+use Rattle.volumes.specs.Volumes.{entryAt, pathAt, pathCount, pathFits, referencesAt, referencesSize, referenceCount, referencesFit, stepAt, onStep, directoryCount, directoriesAt, directoryChecks, entryChecks, unless, volumesFrom}
 use Rattle.volumes.specs.VolumeLaws.{entry-directories, volumes-each}
 
 -- references of a size above 0: size is at least 8, offset + size fits the section, and 8 + 8 x n doesn't exceed size
@@ -88,7 +88,7 @@ unfolding stepAt
 step-is s at next = go (leb (at + 2) (length s)) (leb (at + 4 + 2 * le 2 s at) (length s)) (eqb (le 2 s (at + 2 + 2 * le 2 s at)) 0) refl refl
   where
     go : (a b c : Bool) → leb (at + 4 + 2 * le 2 s at) (length s) ≡ b → eqb (le 2 s (at + 2 + 2 * le 2 s at)) 0 ≡ c
-        → pickStep a (pickStep b (pickStep c (Next (record { at = at + 4 + 2 * le 2 s at })) Unended) Past) Past ≡ Next next
+        → pick a (pick b (pick c (Next (record { at = at + 4 + 2 * le 2 s at })) Unended) Past) Past ≡ Next next
         → SoundDirectory s at × (next .at ≡ at + 2 + 2 * le 2 s at + 2)
     go true true true q x e =
         let n : at + 4 + 2 * le 2 s at ≡ next .at = ap (λ (c : Cursor). c .at) (cc) in

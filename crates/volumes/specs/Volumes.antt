@@ -62,16 +62,12 @@ referencesFit s e =
     && (leb (referencesAt s e + referencesSize s e) (length s)
     && leb (8 + 8 * referenceCount s e) (referencesSize s e)))
 
-abbrev pub pickStep : Bool → Step → Step → Step
-pickStep true a b = a
-pickStep false a b = b
-
 -- the directory string at a position: 2 bytes of length, that many units, a zero unit; then the position after it
 unfoldable pub stepAt : List ℕ → ℕ → Step
 stepAt s at =
-    pickStep (leb (at + 2) (length s))
-    (pickStep (leb (at + 4 + 2 * le 2 s at) (length s))
-    (pickStep (eqb (le 2 s (at + 2 + 2 * le 2 s at)) 0)
+    pick (leb (at + 2) (length s))
+    (pick (leb (at + 4 + 2 * le 2 s at) (length s))
+    (pick (eqb (le 2 s (at + 2 + 2 * le 2 s at)) 0)
     (Next (record { at = at + 4 + 2 * le 2 s at }))
     Unended)
     Past)
