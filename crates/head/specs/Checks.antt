@@ -24,9 +24,9 @@ abbrev pub stop : {A : Type 0} → ℕ → Found → Plan A → Plan A
 stop n (At i) later = decide (refuse (refusal n i))
 stop n Nothing later = later
 
--- a row of the table: number, reach, what is at fault in the bytes up to the reach; then the later rows
+-- a row of the table: number, required length (document 01: reach), what is at fault in the bytes up to it; then the later rows
 abbrev pub row : {A : Type 0} → ℕ → ℕ → (List ℕ → Found) → Plan A → Plan A
-row n reach fault later = await reach (λ b. stop n (fault b) later)
+row n required fault later = await required (λ b. stop n (fault b) later)
 
 -- 4, refused where none of the 30 units is zero
 abbrev pub byName : Version → Found → Plan Start

@@ -15,7 +15,7 @@ use Rattle.lists.specs.Parts.{drop-take}
 use Rattle.lists.specs.First.{at-nothing, first-at}
 use Rattle.lists.specs.declared.Found.{Found}
 use Rattle.lists.specs.declared.Found.the-variants.{At, Nothing}
-use Rattle.little_endian.specs.Number.{le, le-take}
+use Rattle.little_endian.specs.Number.{le, zeroUnit, le-take}
 use Rattle.layout.specs.Versions.{versionOf, layoutOf, sizeLimit, layout-sound}
 use Rattle.layout.specs.declared.Version.{Version}
 use Rattle.layout.specs.declared.Layout.{Layout}
@@ -62,7 +62,7 @@ pub record NameEnds (b : List ℕ) (u : ℕ) : Type 0 where
 pub name-law : (b : List ℕ) (u : ℕ) → nameEnd b ≡ At u → NameEnds b u
 unfolding nameEnd
 name-law b u e =
-    let r = first-at (λ i. eqb (le 2 b (16 + 2 * i)) 0) 30 0 u e in
+    let r = first-at (λ i. zeroUnit b (16 + 2 * i)) 30 0 u e in
     record { short = omega (arith, r .1); zero-unit = eqb-true _ _ (r .2); before = λ k l. eqb-false _ _ (r .3 k (omega arith) l) }
 
 -- a section is empty, or it starts at H or later and ends by S

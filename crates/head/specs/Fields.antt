@@ -8,7 +8,7 @@ use Rattle.lists.specs.First.{first}
 use Rattle.lists.specs.Count.{pick}
 use Rattle.lists.specs.declared.Found.{Found}
 use Rattle.lists.specs.declared.Found.the-variants.{At, Nothing}
-use Rattle.little_endian.specs.Number.{le}
+use Rattle.little_endian.specs.Number.{le, zeroUnit}
 use Rattle.layout.specs.Versions.{layoutOf, sizeLimit}
 use Rattle.layout.specs.declared.Version.{Version}
 use Rattle.head.specs.declared.fields.Section.{Section}
@@ -32,7 +32,7 @@ sizeFault v b = faultAt 0 (ltb (declaredSize b) (layoutOf v .head) || ltb sizeLi
 
 -- 4: the first zero unit of the program name's 30
 unfoldable pub nameEnd : List ℕ → Found
-nameEnd b = first (λ i. eqb (le 2 b (16 + 2 * i)) 0) 30
+nameEnd b = first (λ i. zeroUnit b (16 + 2 * i)) 30
 
 -- a section: its offset, length, count of entries, and its end, which is H where it is empty
 abbrev pub sectionOf : ℕ → ℕ → ℕ → ℕ → Section

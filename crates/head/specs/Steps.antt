@@ -48,11 +48,11 @@ unfolding run
 version-miss m n r p k e q = rw (← k, sym e ∙ q)
 
 -- the head is required: `l` is the layout that a call gave
-pub reach-short : {A : Type 0} (v : Version) (l : Layout) (next : List ℕ → Plan A) (p : List ℕ) → l ≡ layoutOf v → length p < l .head → wants (l .head) ≡ run (await (layoutOf v .head) next) p
-reach-short v l next p e h = rw (← e) (sym (run-short (l .head) next p h))
+pub head-short : {A : Type 0} (v : Version) (l : Layout) (next : List ℕ → Plan A) (p : List ℕ) → l ≡ layoutOf v → length p < l .head → wants (l .head) ≡ run (await (layoutOf v .head) next) p
+head-short v l next p e h = rw (← e) (sym (run-short (l .head) next p h))
 
-pub reach-here : {A : Type 0} (v : Version) (l : Layout) (next : List ℕ → Plan A) (p : List ℕ) (x : Answer A) → l ≡ layoutOf v → l .head ≤ length p → x ≡ run (next (take (l .head) p)) p → x ≡ run (await (layoutOf v .head) next) p
-reach-here v l next p x e h q = rw (← e, run-here (l .head) next p h) q
+pub head-here : {A : Type 0} (v : Version) (l : Layout) (next : List ℕ → Plan A) (p : List ℕ) (x : Answer A) → l ≡ layoutOf v → l .head ≤ length p → x ≡ run (next (take (l .head) p)) p → x ≡ run (await (layoutOf v .head) next) p
+head-here v l next p x e h q = rw (← e, run-here (l .head) next p h) q
 
 -- the head that a call gave
 pub head-on : (s : Start) (h r : Head) (p : List ℕ) (v : Answer Opening) → r ≡ h → v ≡ run (sectionPlan s r) p → v ≡ run (sectionPlan s h) p
@@ -78,4 +78,4 @@ open-refused t f p r x e q = rw (run-then t f p, ← e, q)
 pub open-wanted : {B : Type 0} (t : Plan Opening) (f : Opening → Plan B) (p : List ℕ) (r : OpenAnswer) (k : ℕ) → openOf r ≡ run t p → r ≡ openAnswer.Wanted k → wants k ≡ run (andThen t f) p
 open-wanted t f p r k e q = rw (run-then t f p, ← e, q)
 
-pub ruleset steps = (head-on, reach-short, reach-here, run-steps, stop-hit, stop-miss, name-hit, name-miss, version-hit, version-miss, start-on, start-refused, start-wanted, open-on, open-refused, open-wanted)
+pub ruleset steps = (head-on, head-short, head-here, run-steps, stop-hit, stop-miss, name-hit, name-miss, version-hit, version-miss, start-on, start-refused, start-wanted, open-on, open-refused, open-wanted)

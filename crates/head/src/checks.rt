@@ -125,11 +125,11 @@ fn check_head(file: &[u8], s: Start) -> OpenAnswer
     ensures { λ r. ⌜ openOf r ≡ run (headPlan s) (now (file .entry)) ⌝ }
 {
     let v = s.version;
-    let reach = Layout::of(v).head;
-    if file.len() < reach {
-        return OpenAnswer::Wanted(reach);
+    let required = Layout::of(v).head;
+    if file.len() < required {
+        return OpenAnswer::Wanted(required);
     }
-    let h = crate::fields::head_of(v, &file[..reach]);
+    let h = crate::fields::head_of(v, &file[..required]);
     check_sections(file, s, h)
 }
 

@@ -57,14 +57,7 @@ pub fn size_fault(b: &[u8], v: Version) -> Found
 pub fn name_end(b: &[u8]) -> Found
     ensures { λ r. ⌜ r ≡ nameEnd (now (b .entry)) ⌝ }
 {
-    let mut i = 0;
-    while i < 30 {
-        if little_endian::u16_at(b, 16 + 2 * i) == 0 {
-            return Found::At(i);
-        }
-        i += 1;
-    }
-    Found::Nothing
+    little_endian::first_zero_unit(b, 16, 30)
 }
 
 pub fn section_of(h: usize, at: u32, len: usize, count: u32) -> Section

@@ -10,15 +10,15 @@ use lib.Seq.{paste, take-all}
 use Rattle.lists.specs.Count.{pick}
 use Rattle.incremental.specs.Plan.{Answer}
 use Rattle.volumes.specs.declared.Reference.{Reference}
-use Rattle.query.specs.Questions.{placeOf, volumeValues, referenceValues}
+use Rattle.query.specs.Queries.{placeOf, volumeValues, referenceValues}
 use Rattle.query.specs.Search.{reportNumber}
-use Rattle.query.specs.declared.questions.PlaceAnswer.{PlaceAnswer}
-use Rattle.query.specs.declared.questions.PlaceAnswer.the-variants as placeAnswer
-use Rattle.query.specs.declared.questions.VolumeFacts.{VolumeFacts}
-use Rattle.query.specs.declared.questions.VolumeAnswer.{VolumeAnswer}
-use Rattle.query.specs.declared.questions.VolumeAnswer.the-variants as volumeAnswer
-use Rattle.query.specs.declared.questions.ReferenceAnswer.{ReferenceAnswer}
-use Rattle.query.specs.declared.questions.ReferenceAnswer.the-variants as referenceAnswer
+use Rattle.query.specs.declared.entries.PlaceAnswer.{PlaceAnswer}
+use Rattle.query.specs.declared.entries.PlaceAnswer.the-variants as placeAnswer
+use Rattle.query.specs.declared.entries.VolumeFacts.{VolumeFacts}
+use Rattle.query.specs.declared.entries.VolumeAnswer.{VolumeAnswer}
+use Rattle.query.specs.declared.entries.VolumeAnswer.the-variants as volumeAnswer
+use Rattle.query.specs.declared.entries.ReferenceAnswer.{ReferenceAnswer}
+use Rattle.query.specs.declared.entries.ReferenceAnswer.the-variants as referenceAnswer
 use Rattle.query.specs.declared.search.PathAnswer.{PathAnswer}
 use Rattle.query.specs.declared.search.PathAnswer.the-variants as pathAnswer
 use Rattle.reader.specs.Verdict.{Acceptable, Values, Reads, valuesOf, answerValues, bufferAfter}

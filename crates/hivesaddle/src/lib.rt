@@ -6,7 +6,7 @@ ghost use Rattle.catalogue.specs.Line.{reading};
 ghost use lib.ListN.{length};
 ghost use Rattle.reader.specs.Verdict.{valuesOf, zeros};
 ghost use Rattle.reader.specs.Checks.{prefixAnswer, fileAnswer};
-ghost use Rattle.query.specs.Questions.{programPlace, entryPlace, volumeAsked, volumeValues, referenceAsked, referenceValues};
+ghost use Rattle.query.specs.Queries.{programPlace, entryPlace, volumeAsked, volumeValues, referenceAsked, referenceValues};
 ghost use Rattle.query.specs.Search.{pathFound, reportNumber};
 ghost use Rattle.hivesaddle.specs.Output.{Answered, placeYes, placeValues, volumeYes, volumeList, referenceYes, referenceList, pathYes, pathValues, overlay, lineValues, fieldsOf, LineWriting, verdictValues, ReadOut};
 use catalogue::Fields;

@@ -28,14 +28,14 @@ use Rattle.head.specs.Facts.{OpenFacts, open-facts, name-law}
 use Rattle.head.specs.declared.checks.Opening.{Opening}
 use Rattle.head.specs.declared.fields.Head.{Head}
 use Rattle.names.specs.Names.{firstMisfit, firstUnsound}
-use Rattle.trace.specs.Links.{nexts, namers, astray, shared, cyclic, linkChecks, chains}
+use Rattle.trace.specs.Links.{namers, astray, shared, cyclic, linkChecks, chains}
 use Rattle.trace.specs.Accepted.{accepted}
 use Rattle.trace.specs.Steps.{length-nexts}
 use Rattle.volumes.specs.declared.Step.{Step}
 use Rattle.volumes.specs.declared.Step.the-variants.{Next, Past, Unended}
 use Rattle.volumes.specs.Volumes.{stepAt, onStep, directoryChecks, unless, entryChecks, entryAt, volumeChecks, also, volumesFrom, pathFits, referencesFit, directoryCount, directoriesAt}
 use Rattle.reader.specs.Verdict.{Acceptable, Values, Reads, valuesOf, answerValues, acceptedValues}
-use Rattle.reader.specs.Checks.{headEnd, recordOf, volumesReach, volumesPlan, tracePlan, namesReach, namesPlan, metricsPlan, restPlan, readPlan, prefixAnswer, sized, whole, fileAnswer}
+use Rattle.reader.specs.Checks.{nextsIn, headEnd, recordOf, volumesRequired, volumesPlan, tracePlan, namesRequired, namesPlan, metricsPlan, restPlan, readPlan, prefixAnswer, sized, whole, fileAnswer}
 use Rattle.reader.specs.declared.verdict.Acceptance.{Acceptance}
 use Rattle.reader.specs.declared.verdict.Verdict.{Verdict}
 use Rattle.reader.specs.declared.verdict.Verdict.the-variants.{Accepted}
@@ -287,8 +287,8 @@ module _ (p : List ℕ) (m : ℕ) (h : Bytes p) where
     each-volumes : (x : Acceptable) → SmallFields (x .fields) → Each SmallRecord (run (volumesPlan o x) p)
     unfolding volumesPlan
     each-volumes x s =
-        each-await SmallRecord (volumesReach o) _ p λ _.
-        each-made SmallRecord (volumesFrom (part (o .head .volumes) (take (volumesReach o) p)) (o .version) (o .head .volumes .count) 0) _ p
+        each-await SmallRecord (volumesRequired o) _ p λ _.
+        each-made SmallRecord (volumesFrom (part (o .head .volumes) (take (volumesRequired o) p)) (o .version) (o .head .volumes .count) 0) _ p
         (fair-volumes _ _ _ 0 (omega (arith, c .volumes))) λ _ e.
         each-decide SmallRecord (accept x) p (fair-accept x) (λ y q. let i : x ≡ y = cc in rw (← i) s)
 
@@ -301,7 +301,7 @@ module _ (p : List ℕ) (m : ℕ) (h : Bytes p) where
     unfolding tracePlan recordOf
     each-trace =
         each-await SmallRecord (o .head .trace .end) _ p λ _.
-        let s = nexts (part (o .head .trace) (take (o .head .trace .end) p)) (o .head .trace .count) in
+        let s = nextsIn o (take (o .head .trace .end) p) in
         let e : length s ≡ o .head .trace .count = length-nexts _ _ in
         each-made SmallRecord (linkChecks s) _ p (fair-links s (omega (arith, c .trace))) λ n q.
         each-volumes _
@@ -322,8 +322,8 @@ module _ (p : List ℕ) (m : ℕ) (h : Bytes p) where
         (each-stop SmallRecord 8 (faultAt 0 (ltb (o .head .volumes .len) (o .head .volumes .count * layoutOf (o .version) .volume))) _ p (omega arith) (low-fault (ltb (o .head .volumes .len) (o .head .volumes .count * layoutOf (o .version) .volume)))
         (each-await SmallRecord (o .head .metrics .end) _ p λ _.
         each-stop SmallRecord 9 (firstMisfit (o .version) (part (o .head .metrics) (take (o .head .metrics .end) p)) (o .head .metrics .count) (o .head .strings .len)) _ p (omega arith) (low-first _ _ (c .metrics))
-        (each-await SmallRecord (namesReach o) _ p λ _.
-        each-stop SmallRecord 10 (firstUnsound (o .version) (part (o .head .metrics) (take (namesReach o) p)) (o .head .metrics .count) (part (o .head .strings) (take (namesReach o) p))) _ p (omega arith) (low-first _ _ (c .metrics))
+        (each-await SmallRecord (namesRequired o) _ p λ _.
+        each-stop SmallRecord 10 (firstUnsound (o .version) (part (o .head .metrics) (take (namesRequired o) p)) (o .head .metrics .count) (part (o .head .strings) (take (namesRequired o) p))) _ p (omega arith) (low-first _ _ (c .metrics))
         each-trace)))
 
   each-read : Each SmallRecord (prefixAnswer p m)

@@ -22,7 +22,7 @@ use Rattle.head.specs.declared.checks.Opening.{Opening}
 use Rattle.reader.specs.Verdict.{Acceptable}
 use Rattle.reader.specs.Checks.{fileAnswer}
 use Rattle.reader.specs.declared.verdict.Acceptance.{Acceptance}
-use Rattle.query.specs.Questions.{asked}
+use Rattle.query.specs.Queries.{asked}
 use Rattle.query.specs.Search.{storedHash, reportOf, entryNumbers, firstMatch, reported, pathFound}
 use Rattle.query.specs.declared.search.Report.{Report}
 use Rattle.query.specs.declared.search.Report.the-variants as report

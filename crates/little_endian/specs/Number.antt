@@ -1,9 +1,11 @@
 -- Little-endian numbers in a list of bytes: one definition over the width, and its laws.
 use mathlib.Core.Path.{_≡_, refl, ap, _∙_}
+use mathlib.Core.Bool.{Bool}
 use mathlib.Core.List.{List}
 use Prim.Native.Nat.{ℕ, zero, suc, _+_, _*_, _^_, _≤_, _<_}
 use native.Mathlib.Nat.{add-zero, zero-add, one-mul, pow-zero, pow-suc, suc-add}
 use native.Mathlib.Omega.{arith}
+use lib.Dec.{eqb}
 use lib.ListN.{length, getD, take, drop, List·getD-eq-default}
 use lib.Seq.{getD-take, getD-drop}
 
@@ -11,6 +13,10 @@ use lib.Seq.{getD-take, getD-drop}
 unfoldable pub le : ℕ → List ℕ → ℕ → ℕ
 le zero bytes at = 0
 le (suc width) bytes at = getD bytes at 0 + 256 * le width bytes (at + 1)
+
+-- the 16-bit unit at an offset is zero
+abbrev pub zeroUnit : List ℕ → ℕ → Bool
+zeroUnit s at = eqb (le 2 s at) 0
 
 -- the first `m` bytes, and the `n` bytes after them
 pub le-split : (m n : ℕ) (s : List ℕ) (at : ℕ) → le (m + n) s at ≡ le m s at + 256 ^ m * le n s (at + m)

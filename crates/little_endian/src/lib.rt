@@ -1,8 +1,10 @@
 // Little-endian reads at an offset of a slice of bytes. A byte past the end counts as 0, so every read is total.
 ghost use mathlib.Core.Path.{_≡_};
-ghost use Prim.Native.Nat.{_+_, _≤_};
+ghost use Prim.Native.Nat.{_+_, _*_, _≤_};
 ghost use lib.ListN.{length};
-ghost use Rattle.little_endian.specs.Number.{le};
+ghost use Rattle.lists.specs.First.{first};
+ghost use Rattle.little_endian.specs.Number.{le, zeroUnit};
+use lists::Found;
 
 fn whole_u16(s: &[u8], at: usize) -> u16
     requires { ⌜ at + 2 ≤ length (now s) ⌝ }
@@ -68,4 +70,18 @@ pub fn u64_at(s: &[u8], at: usize) -> u64
         return u32_at(s, at) as u64 + 4294967296 * (u32_at(s, at + 4) as u64);
     }
     whole_u64(s, at)
+}
+
+// The first zero unit among so many units from an offset.
+pub fn first_zero_unit(s: &[u8], at: u32, count: u32) -> Found
+    ensures { λ r. ⌜ r ≡ first (λ k. zeroUnit (now (s .entry)) (at + 2 * k)) count ⌝ }
+{
+    let mut k = 0;
+    while k < count {
+        if u16_at(s, at as usize + 2 * (k as usize)) == 0 {
+            return Found::At(k as usize);
+        }
+        k += 1;
+    }
+    Found::Nothing
 }

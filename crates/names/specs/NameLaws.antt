@@ -12,73 +12,73 @@ use borrow.Author.Tests.{leb-true, le-leb, ltb-true, ltb-false, eqb-true, eqb-fa
 use Rattle.lists.specs.Count.{some, some-yes, some-no, some-true, some-eight, true-false}
 use Rattle.lists.specs.Count.{some-false}
 use Rattle.lists.specs.First.{first}
-use Rattle.little_endian.specs.Number.{le}
+use Rattle.little_endian.specs.Number.{le, zeroUnit}
 use Rattle.layout.specs.Versions.{layoutOf, Sound, layout-sound}
 use Rattle.layout.specs.declared.Layout.{Layout}
 use Rattle.layout.specs.declared.Version.{Version}
-use Rattle.names.specs.Names.{fits, zeroAt, sound, firstMisfit, firstUnsound}
+use Rattle.names.specs.Names.{fits, sound, firstMisfit, firstUnsound}
 
 -- a zero unit among so many units from an offset
 abbrev pub zeroIn : List ℕ → ℕ → ℕ → Bool
-zeroIn s at units = some (λ k. zeroAt s (at + 2 * k)) units
+zeroIn s at units = some (λ k. zeroUnit s (at + 2 * k)) units
 
 -- the part of `sound` that looks at the text: no zero unit among the units, and one directly after them
 abbrev pub soundText : List ℕ → ℕ → ℕ → Bool
-soundText s at units = not (zeroIn s at units) && zeroAt s (at + 2 * units)
+soundText s at units = not (zeroIn s at units) && zeroUnit s (at + 2 * units)
 
 -- One unit, by its bytes
-pub unit-zero : (s : List ℕ) (at : ℕ) → eqb (getD s at 0 + 256 * getD s (at + 1) 0) 0 ≡ zeroAt s at
+pub unit-zero : (s : List ℕ) (at : ℕ) → eqb (getD s at 0 + 256 * getD s (at + 1) 0) 0 ≡ zeroUnit s at
 unfolding le
 unit-zero s at = let e : getD s at 0 + 256 * getD s (at + 1) 0 ≡ le 2 s at = omega arith in ap (λ x. eqb x 0) e
 
 -- A text, by a loop that stops at the first zero unit
-pub text-zero : (s : List ℕ) (at units k : ℕ) → k < units → zeroAt s (at + 2 * k) ≡ true → false ≡ soundText s at units
-text-zero s at units k l e = rw (some-yes (λ j. zeroAt s (at + 2 * j)) units k l e)
+pub text-zero : (s : List ℕ) (at units k : ℕ) → k < units → zeroUnit s (at + 2 * k) ≡ true → false ≡ soundText s at units
+text-zero s at units k l e = rw (some-yes (λ j. zeroUnit s (at + 2 * j)) units k l e)
 
-pub text-end : (s : List ℕ) (at units : ℕ) → ((k : ℕ) → k < units → zeroAt s (at + 2 * k) ≡ false) → zeroAt s (at + 2 * units) ≡ soundText s at units
-text-end s at units f = rw (some-no (λ j. zeroAt s (at + 2 * j)) units f)
+pub text-end : (s : List ℕ) (at units : ℕ) → ((k : ℕ) → k < units → zeroUnit s (at + 2 * k) ≡ false) → zeroUnit s (at + 2 * units) ≡ soundText s at units
+text-end s at units f = rw (some-no (λ j. zeroUnit s (at + 2 * j)) units f)
 
 -- A text, by a loop that takes eight units at a time
 pub text-start : (s : List ℕ) (at units : ℕ) → soundText s (at + 2 * 0) (units - 0) ≡ soundText s at units
 text-start s at units = let e : at + 2 * 0 ≡ at = omega arith in let f : units - 0 ≡ units = omega arith in rw (e, f)
 
 pub zero-in-eight : (s : List ℕ) (at : ℕ) {a b c d e f g h : Bool}
-    → a ≡ zeroAt s at
-    → b ≡ zeroAt s (at + 2)
-    → c ≡ zeroAt s (at + 4)
-    → d ≡ zeroAt s (at + 6)
-    → e ≡ zeroAt s (at + 8)
-    → f ≡ zeroAt s (at + 10)
-    → g ≡ zeroAt s (at + 12)
-    → h ≡ zeroAt s (at + 14)
+    → a ≡ zeroUnit s at
+    → b ≡ zeroUnit s (at + 2)
+    → c ≡ zeroUnit s (at + 4)
+    → d ≡ zeroUnit s (at + 6)
+    → e ≡ zeroUnit s (at + 8)
+    → f ≡ zeroUnit s (at + 10)
+    → g ≡ zeroUnit s (at + 12)
+    → h ≡ zeroUnit s (at + 14)
     → (((((((a || b) || c) || d) || e) || f) || g) || h) ≡ zeroIn s at 8
 zero-in-eight s at i j k l m n o q =
     let z : at ≡ at + 2 * 0 = omega arith in
-    rw (i ∙ ap (zeroAt s) z, j, k, l, m, n, o, q) (some-eight (λ k. zeroAt s (at + 2 * k)))
+    rw (i ∙ ap (zeroUnit s) z, j, k, l, m, n, o, q) (some-eight (λ k. zeroUnit s (at + 2 * k)))
 
 pub eight-zero : (s : List ℕ) (at units : ℕ) → 8 ≤ units → zeroIn s at 8 ≡ true → false ≡ soundText s at units
-eight-zero s at units h e = let t = some-true (λ k. zeroAt s (at + 2 * k)) 8 e in text-zero s at units (t .0) (omega (arith, t .1)) (t .2)
+eight-zero s at units h e = let t = some-true (λ k. zeroUnit s (at + 2 * k)) 8 e in text-zero s at units (t .0) (omega (arith, t .1)) (t .2)
 
 pub eight-clear : (s : List ℕ) (at units : ℕ) → 8 ≤ units → zeroIn s at 8 ≡ false → soundText s (at + 16) (units - 8) ≡ soundText s at units
 eight-clear s at units h e = go (zeroIn s (at + 16) (units - 8)) refl
   where
     p : ℕ → Bool
-    p k = zeroAt s (at + 2 * k)
+    p k = zeroUnit s (at + 2 * k)
 
     clear : zeroIn s (at + 16) (units - 8) ≡ false → (k : ℕ) → k < units → (b : Bool) → ltb k 8 ≡ b → p k ≡ false
     clear q k l true w = some-false p 8 e k (ltb-true k 8 w)
     clear q k l false w =
         let v : at + 2 * k ≡ at + 16 + 2 * (k - 8) = omega (arith, ltb-false k 8 w) in
-        ap (zeroAt s) v ∙ some-false (λ j. zeroAt s (at + 16 + 2 * j)) (units - 8) q (k - 8) (omega (arith, ltb-false k 8 w))
+        ap (zeroUnit s) v ∙ some-false (λ j. zeroUnit s (at + 16 + 2 * j)) (units - 8) q (k - 8) (omega (arith, ltb-false k 8 w))
 
-    go : (b : Bool) → zeroIn s (at + 16) (units - 8) ≡ b → (not b && zeroAt s (at + 16 + 2 * (units - 8))) ≡ soundText s at units
+    go : (b : Bool) → zeroIn s (at + 16) (units - 8) ≡ b → (not b && zeroUnit s (at + 16 + 2 * (units - 8))) ≡ soundText s at units
     go true q =
-        let t = some-true (λ j. zeroAt s (at + 16 + 2 * j)) (units - 8) q in
+        let t = some-true (λ j. zeroUnit s (at + 16 + 2 * j)) (units - 8) q in
         let v : at + 2 * (8 + t .0) ≡ at + 16 + 2 * t .0 = omega arith in
-        text-zero s at units (8 + t .0) (omega (arith, t .1)) (ap (zeroAt s) v ∙ t .2)
+        text-zero s at units (8 + t .0) (omega (arith, t .1)) (ap (zeroUnit s) v ∙ t .2)
     go false q =
         let v : at + 16 + 2 * (units - 8) ≡ at + 2 * units = omega arith in
-        ap (zeroAt s) v ∙ text-end s at units (λ k l. clear q k l (ltb k 8) refl)
+        ap (zeroUnit s) v ∙ text-end s at units (λ k l. clear q k l (ltb k 8) refl)
 
 pub eight-again : (s : List ℕ) (at units k : ℕ) → k + 8 ≤ units → zeroIn s (at + 2 * k) 8 ≡ false → soundText s (at + 2 * (k + 8)) (units - (k + 8)) ≡ soundText s (at + 2 * k) (units - k)
 eight-again s at units k h e =
@@ -149,10 +149,10 @@ sound-text false b e = (refl, e)
 sound-is : (s : List ℕ) (at units : ℕ) → sound s at units ≡ true → SoundName s at units
 sound-is s at units e =
     let f = sound-fits s at units e in
-    let t = sound-text (some (λ k. zeroAt s (at + 2 * k)) units) (zeroAt s (at + 2 * units)) (name-inside s at units f ∙ e) in
+    let t = sound-text (some (λ k. zeroUnit s (at + 2 * k)) units) (zeroUnit s (at + 2 * units)) (name-inside s at units f ∙ e) in
     record {
       inside = fits-le (length s) at units f;
-      text = λ k l. eqb-false _ _ (some-false (λ k. zeroAt s (at + 2 * k)) units (t .0) k l);
+      text = λ k l. eqb-false _ _ (some-false (λ k. zeroUnit s (at + 2 * k)) units (t .0) k l);
       end = eqb-true _ _ (t .1);
     }
 

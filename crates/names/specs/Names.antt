@@ -2,12 +2,12 @@
 use mathlib.Core.Bool.{Bool, not, _&&_}
 use mathlib.Core.List.{List}
 use Prim.Native.Nat.{ℕ, _+_, _*_}
-use lib.Dec.{leb, eqb}
+use lib.Dec.{leb}
 use lib.ListN.{length}
 use Rattle.lists.specs.First.{first}
 use Rattle.lists.specs.Count.{some}
 use Rattle.lists.specs.declared.Found.{Found}
-use Rattle.little_endian.specs.Number.{le}
+use Rattle.little_endian.specs.Number.{le, zeroUnit}
 use Rattle.layout.specs.Versions.{layoutOf}
 use Rattle.layout.specs.declared.Version.{Version}
 
@@ -22,14 +22,10 @@ nameUnits v metrics i = le 4 metrics (i * layoutOf v .metric + layoutOf v .units
 unfoldable pub fits : ℕ → ℕ → ℕ → Bool
 fits size at units = leb (at + 2 * units + 2) size
 
--- the unit at an offset is zero
-abbrev pub zeroAt : List ℕ → ℕ → Bool
-zeroAt s at = eqb (le 2 s at) 0
-
 -- a name that fits has no zero unit among its units, and a zero unit directly after them
 unfoldable pub sound : List ℕ → ℕ → ℕ → Bool
 sound strings at units =
-    fits (length strings) at units && (not (some (λ k. zeroAt strings (at + 2 * k)) units) && zeroAt strings (at + 2 * units))
+    fits (length strings) at units && (not (some (λ k. zeroUnit strings (at + 2 * k)) units) && zeroUnit strings (at + 2 * units))
 
 -- 9: the first of the entries whose name doesn't fit a strings section of that size
 unfoldable pub firstMisfit : Version → List ℕ → ℕ → ℕ → Found

@@ -2,9 +2,9 @@
 ghost use mathlib.Core.Path.{_≡_};
 ghost use Prim.Native.Nat.{_+_, _*_, _≤_};
 ghost use lib.ListN.{length};
-ghost use Rattle.little_endian.specs.Number.{le};
+ghost use Rattle.little_endian.specs.Number.{le, zeroUnit};
 ghost use Rattle.layout.specs.Versions.{Sound};
-ghost use Rattle.names.specs.Names.{fits, sound, nameAt, nameUnits, firstMisfit, firstUnsound, zeroAt};
+ghost use Rattle.names.specs.Names.{fits, sound, nameAt, nameUnits, firstMisfit, firstUnsound};
 ghost use Rattle.names.specs.NameLaws.{zeroIn, soundText};
 use layout::Layout;
 use layout::Version;
@@ -20,7 +20,7 @@ pub fn name_fits(size: usize, at: u32, units: u32) -> bool
 // Whether the unit at an offset is zero, with no test of the section's end.
 fn zero_unit(strings: &[u8], at: usize) -> bool
     requires { ⌜ at + 2 ≤ length (now strings) ⌝ }
-    ensures { λ r. ⌜ r ≡ zeroAt (now (strings .entry)) at ⌝ }
+    ensures { λ r. ⌜ r ≡ zeroUnit (now (strings .entry)) at ⌝ }
 {
     strings[at] as u32 + 256 * (strings[at + 1] as u32) == 0
 }

@@ -1,5 +1,5 @@
-pub mod Questions
+pub mod Queries
 pub mod Search
 pub mod Parts
-pub mod QuestionLaws
+pub mod QueryLaws
 pub mod SearchLaws

@@ -1,5 +1,5 @@
 -- The questions and the search on an opening, and on the bytes of the sections that they look at: what the private functions give.
-use mathlib.Core.Bool.{Bool, true, false, _&&_, _||_}
+use mathlib.Core.Bool.{Bool, _&&_, _||_}
 use mathlib.Core.List.{List}
 use Prim.Native.Nat.{ℕ, _*_, _/_}
 use lib.Dec.{eqb, leb, ltb}
@@ -15,15 +15,15 @@ use Rattle.head.specs.declared.fields.Section.{Section}
 use Rattle.head.specs.declared.checks.Opening.{Opening}
 use Rattle.names.specs.Names.{sound, nameAt, nameUnits}
 use Rattle.volumes.specs.Volumes.{volumeChecks, referenceOf, entryAt}
-use Rattle.query.specs.Questions.{bytesAt, entryShown, namePlace, accepts, volumeShown, volumeFacts, referenceShown}
+use Rattle.query.specs.Queries.{bytesAt, entryShown, namePlace, accepts, volumeShown, volumeFacts, referenceShown}
 use Rattle.query.specs.Search.{numbersOf, matches, pickReport, reportOf}
-use Rattle.query.specs.declared.questions.Place.{Place}
-use Rattle.query.specs.declared.questions.PlaceAnswer.{PlaceAnswer}
-use Rattle.query.specs.declared.questions.PlaceAnswer.the-variants as placeAnswer
-use Rattle.query.specs.declared.questions.VolumeAnswer.{VolumeAnswer}
-use Rattle.query.specs.declared.questions.VolumeAnswer.the-variants as volumeAnswer
-use Rattle.query.specs.declared.questions.ReferenceAnswer.{ReferenceAnswer}
-use Rattle.query.specs.declared.questions.ReferenceAnswer.the-variants as referenceAnswer
+use Rattle.query.specs.declared.entries.Place.{Place}
+use Rattle.query.specs.declared.entries.PlaceAnswer.{PlaceAnswer}
+use Rattle.query.specs.declared.entries.PlaceAnswer.the-variants as placeAnswer
+use Rattle.query.specs.declared.entries.VolumeAnswer.{VolumeAnswer}
+use Rattle.query.specs.declared.entries.VolumeAnswer.the-variants as volumeAnswer
+use Rattle.query.specs.declared.entries.ReferenceAnswer.{ReferenceAnswer}
+use Rattle.query.specs.declared.entries.ReferenceAnswer.the-variants as referenceAnswer
 use Rattle.query.specs.declared.search.Report.the-variants as report
 use Rattle.query.specs.declared.search.PathAnswer.{PathAnswer}
 use Rattle.query.specs.declared.search.PathAnswer.the-variants as pathAnswer

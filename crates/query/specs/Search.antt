@@ -13,7 +13,7 @@ use Rattle.incremental.specs.Plan.{run}
 use Rattle.path_hash.specs.Hash.{xp, vista, hash2008, units}
 use Rattle.head.specs.Checks.{openPlan}
 use Rattle.head.specs.declared.checks.Opening.{Opening}
-use Rattle.query.specs.Questions.{asked, bytesAt, entryShown, namePlace}
+use Rattle.query.specs.Queries.{asked, bytesAt, entryShown, namePlace}
 use Rattle.query.specs.declared.search.Report.{Report}
 use Rattle.query.specs.declared.search.Report.the-variants as report
 use Rattle.query.specs.declared.search.PathAnswer.{PathAnswer}

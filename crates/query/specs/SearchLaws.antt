@@ -25,13 +25,13 @@ use Rattle.head.specs.Checks.{openPlan}
 use Rattle.head.specs.Facts.{OpenFacts, open-shapes}
 use Rattle.head.specs.declared.checks.Opening.{Opening}
 use Rattle.names.specs.Names.{sound}
-use Rattle.query.specs.Questions.{bytesAt, entryShown, namePlace}
+use Rattle.query.specs.Queries.{bytesAt, entryShown, namePlace}
 use Rattle.query.specs.Search.{numbersOf, storedHash, matches, reportOf, entryNumbers, firstMatch, reported, pathFound}
 use Rattle.query.specs.Parts.{nameSound, nameIn, nameShown, oneHash, twoHashes, matchOf, numbersIn, matchIn, testIn, entriesIn, reportedIn, searched}
-use Rattle.query.specs.QuestionLaws.{both, name-shown, name-hidden, name-inside, part-there, part-low, part-bytes}
-use Rattle.query.specs.declared.questions.Place.{Place}
-use Rattle.query.specs.declared.questions.PlaceAnswer.{PlaceAnswer}
-use Rattle.query.specs.declared.questions.PlaceAnswer.the-variants as placeAnswer
+use Rattle.query.specs.QueryLaws.{both, name-shown, name-hidden, name-inside, part-there, part-low, part-bytes}
+use Rattle.query.specs.declared.entries.Place.{Place}
+use Rattle.query.specs.declared.entries.PlaceAnswer.{PlaceAnswer}
+use Rattle.query.specs.declared.entries.PlaceAnswer.the-variants as placeAnswer
 use Rattle.query.specs.declared.search.Report.{Report}
 use Rattle.query.specs.declared.search.PathAnswer.{PathAnswer}
 use Rattle.query.specs.declared.search.PathAnswer.the-variants as pathAnswer

@@ -5,7 +5,7 @@ ghost use Rattle.layout.specs.Versions.{sizeLimit};
 ghost use Rattle.head.specs.Facts.{OpenFacts};
 ghost use Rattle.query.specs.Search.{numbersOf, pathFound, reported, firstMatch};
 ghost use Rattle.query.specs.Parts.{oneHash, twoHashes, matchOf, matchIn, searched};
-use crate::questions::PlaceAnswer;
+use crate::entries::PlaceAnswer;
 use head::OpenAnswer;
 use head::Opening;
 use layout::Layout;
@@ -74,7 +74,7 @@ fn name_matches(name: &[u8], version: Version, stored: u32) -> Match
 fn entry_matches(metrics: &[u8], strings: &[u8], version: Version, i: u32, stored: u32) -> Match
     ensures { λ r. ⌜ r ≡ matchIn version (now (metrics .entry)) (now (strings .entry)) stored i ⌝ }
 {
-    match crate::questions::name_shown(metrics, strings, version, i) {
+    match crate::entries::name_shown(metrics, strings, version, i) {
         PlaceAnswer::Shown(w) => {
             let at = w.at;
             let end = at + w.len;

@@ -19,20 +19,16 @@ use Rattle.head.specs.declared.fields.Head.{Head}
 use Rattle.head.specs.declared.checks.Opening.{Opening}
 use Rattle.names.specs.Names.{nameAt, nameUnits}
 use Rattle.names.specs.NameLaws.{SoundName}
-use Rattle.trace.specs.Links.{end, nexts, after, Cyclic, chains, predecessors}
+use Rattle.trace.specs.Links.{end, after, Cyclic, chains, predecessors}
 use Rattle.volumes.specs.Volumes.{entryAt}
 use Rattle.volumes.specs.SoundVolume.{SoundVolume}
 use Rattle.reader.specs.declared.verdict.Acceptance.{Acceptance}
 use Rattle.reader.specs.declared.verdict.Verdict.{Verdict}
 use Rattle.reader.specs.declared.verdict.Verdict.the-variants.{Accepted}
 use Rattle.reader.specs.Verdict.{Acceptable, valuesOf, answerValues, bufferAfter}
-use Rattle.reader.specs.Checks.{recordOf, prefixAnswer, fileAnswer, ReadsFile}
+use Rattle.reader.specs.Checks.{nextsIn, recordOf, prefixAnswer, fileAnswer, ReadsFile}
 use Rattle.reader.specs.Early.{same-kind}
 use Rattle.reader.specs.AllowedLaws.{head-take, name-ends, RestFacts, read-facts, read-complete, whole-accepted, whole-accepts, accepted-answer}
-
--- the next indexes of the trace section
-abbrev pub nextsIn : Opening → List ℕ → List ℕ
-nextsIn o p = nexts (part (o .head .trace) p) (o .head .trace .count)
 
 -- what the layout allows of the bytes `p`: the version, the name's length and the sections are those of `o`
 pub record Allowed (p : List ℕ) (o : Opening) : Type 0 where

@@ -14,7 +14,7 @@ use lib.ListN.{length, take}
 use Rattle.lists.specs.First.{firstFrom, first-nothing, first-is-nothing, first-is-at}
 use Rattle.lists.specs.Count.{pick, count, count-yes, count-no, count-zero, true-false}
 use Rattle.lists.specs.declared.Found.the-variants.{At, Nothing}
-use Rattle.little_endian.specs.Number.{le, le-take}
+use Rattle.little_endian.specs.Number.{le, zeroUnit, le-take}
 use Rattle.layout.specs.Versions.{layoutOf, layout-sound}
 use Rattle.layout.specs.declared.Version.{Version}
 use Rattle.incremental.specs.Decision.{Decision, accept, refuse}
@@ -26,7 +26,7 @@ use Rattle.head.specs.Facts.{OpenFacts, open-facts, open-complete, NameEnds, na
 use Rattle.head.specs.declared.checks.Opening.{Opening}
 use Rattle.names.specs.Names.{nameAt, nameUnits, firstMisfit, firstUnsound}
 use Rattle.names.specs.NameLaws.{SoundName, sound-name, le-fits}
-use Rattle.trace.specs.Links.{end, nexts, after, Cyclic, cyclic, namers, shared, astray, chains, predecessors, linkChecks}
+use Rattle.trace.specs.Links.{end, after, Cyclic, cyclic, namers, shared, astray, chains, predecessors, linkChecks}
 use Rattle.trace.specs.Steps.{length-nexts}
 use Rattle.trace.specs.Accepted.{accepted, astray-end, astray-below}
 use Rattle.trace.specs.Cycles.{cycle-law}
@@ -34,9 +34,9 @@ use Rattle.volumes.specs.Volumes.{entryAt, volumesFrom}
 use Rattle.volumes.specs.SoundVolume.{SoundVolume, volumes-sound}
 use Rattle.reader.specs.declared.verdict.Acceptance.{Acceptance}
 use Rattle.reader.specs.Verdict.{Acceptable, Values, acceptedValues, answerValues}
-use Rattle.reader.specs.Checks.{headEnd, recordOf, volumesReach, namesReach, volumesPlan, tracePlan, namesPlan, metricsPlan, restPlan, readPlan, prefixAnswer, sized, whole}
+use Rattle.reader.specs.Checks.{nextsIn, headEnd, recordOf, volumesRequired, namesRequired, volumesPlan, tracePlan, namesPlan, metricsPlan, restPlan, readPlan, prefixAnswer, sized, whole}
 use Rattle.reader.specs.Stages.{room-enough}
-use Rattle.reader.specs.Early.{names-reach-low, volumes-reach-low}
+use Rattle.reader.specs.Early.{names-required-low, volumes-required-low}
 
 -- ---- the head's fields lie before H
 
@@ -90,7 +90,7 @@ name-ends p u = (there, back)
 
     back : NameEnds p u → nameEnd (take 76 p) ≡ At u
     back n =
-        first-is-at (λ i. eqb (le 2 (take 76 p) (16 + 2 * i)) 0) 30 u (n .short)
+        first-is-at (λ i. zeroUnit (take 76 p) (16 + 2 * i)) 30 u (n .short)
         (eq-eqb _ _ (unit-take p u (n .short) ∙ n .zero-unit))
         (λ k l. ne-eqb _ _ (λ z. n .before k l (sym (unit-take p k (omega (arith, n .short))) ∙ z)))
 
@@ -161,37 +161,37 @@ module _ (p : List ℕ) (o : Opening) (f : OpenFacts p o) where
   misfit-take = rw (metrics-take (o .head .metrics .end) (le-refl _))
 
   -- with no metrics entry nothing is looked at
-  unsound-take : firstUnsound (o .version) (part (o .head .metrics) (take (namesReach o) p)) (o .head .metrics .count) (part (o .head .strings) (take (namesReach o) p))
+  unsound-take : firstUnsound (o .version) (part (o .head .metrics) (take (namesRequired o) p)) (o .head .metrics .count) (part (o .head .strings) (take (namesRequired o) p))
       ≡ firstUnsound (o .version) (part (o .head .metrics) p) (o .head .metrics .count) (part (o .head .strings) p)
   unfolding firstUnsound firstFrom
   unsound-take = go (ℕ-discrete (o .head .metrics .count) 0)
     where
       go : Dec (o .head .metrics .count ≡ 0)
-          → firstUnsound (o .version) (part (o .head .metrics) (take (namesReach o) p)) (o .head .metrics .count) (part (o .head .strings) (take (namesReach o) p))
+          → firstUnsound (o .version) (part (o .head .metrics) (take (namesRequired o) p)) (o .head .metrics .count) (part (o .head .strings) (take (namesRequired o) p))
           ≡ firstUnsound (o .version) (part (o .head .metrics) p) (o .head .metrics .count) (part (o .head .strings) p)
       go (yes z) = rw z
       go (no z) =
-          let r : namesReach o ≡ max (o .head .metrics .end) (o .head .strings .end) = rw (ne-eqb _ _ z) in
+          let r : namesRequired o ≡ max (o .head .metrics .end) (o .head .strings .end) = rw (ne-eqb _ _ z) in
           rw (
-            metrics-take (namesReach o) (omega (arith, r)),
-            part-take (o .head .strings) (headEnd o) (namesReach o) p (open-shapes p o f .strings-end) (omega (arith, r)),
+            metrics-take (namesRequired o) (omega (arith, r)),
+            part-take (o .head .strings) (headEnd o) (namesRequired o) p (open-shapes p o f .strings-end) (omega (arith, r)),
           )
 
   trace-take : part (o .head .trace) (take (o .head .trace .end) p) ≡ part (o .head .trace) p
   trace-take = part-take (o .head .trace) (headEnd o) (o .head .trace .end) p (open-shapes p o f .trace-end) (le-refl _)
 
-  volumes-take : volumesFrom (part (o .head .volumes) (take (volumesReach o) p)) (o .version) (o .head .volumes .count) 0
+  volumes-take : volumesFrom (part (o .head .volumes) (take (volumesRequired o) p)) (o .version) (o .head .volumes .count) 0
       ≡ volumesFrom (part (o .head .volumes) p) (o .version) (o .head .volumes .count) 0
   unfolding volumesFrom
   volumes-take = go (ℕ-discrete (o .head .volumes .count) 0)
     where
       go : Dec (o .head .volumes .count ≡ 0)
-          → volumesFrom (part (o .head .volumes) (take (volumesReach o) p)) (o .version) (o .head .volumes .count) 0
+          → volumesFrom (part (o .head .volumes) (take (volumesRequired o) p)) (o .version) (o .head .volumes .count) 0
           ≡ volumesFrom (part (o .head .volumes) p) (o .version) (o .head .volumes .count) 0
       go (yes z) = rw z
       go (no z) =
-          let r : volumesReach o ≡ o .head .volumes .end = rw (ne-eqb _ _ z) in
-          rw (part-take (o .head .volumes) (headEnd o) (volumesReach o) p (open-shapes p o f .volumes-end) (omega (arith, r)))
+          let r : volumesRequired o ≡ o .head .volumes .end = rw (ne-eqb _ _ z) in
+          rw (part-take (o .head .volumes) (headEnd o) (volumesRequired o) p (open-shapes p o f .volumes-end) (omega (arith, r)))
 
   -- no more trace entries than S has bytes
   pub trace-few : o .head .trace .count ≤ end
@@ -211,11 +211,11 @@ pub record RestFacts (m : ℕ) (p : List ℕ) (o : Opening) (x : Acceptable) : T
   pub entries : o .head .volumes .count * layoutOf (o .version) .volume ≤ o .head .volumes .len
   pub names : (i : ℕ) → i < o .head .metrics .count
       → SoundName (part (o .head .strings) p) (nameAt (o .version) (part (o .head .metrics) p) i) (nameUnits (o .version) (part (o .head .metrics) p) i)
-  pub free : Free (nexts (part (o .head .trace) p) (o .head .trace .count)) (o .head .trace .count)
+  pub free : Free (nextsIn o p) (o .head .trace .count)
   pub volumes : (i : ℕ) → i < o .head .volumes .count → SoundVolume (part (o .head .volumes) p) (entryAt (o .version) i)
   -- what they give
-  pub fields : x .fields ≡ recordOf o p (chains (nexts (part (o .head .trace) p) (o .head .trace .count)))
-  pub table : x .table ≡ predecessors (nexts (part (o .head .trace) p) (o .head .trace .count)) m
+  pub fields : x .fields ≡ recordOf o p (chains (nextsIn o p))
+  pub table : x .table ≡ predecessors (nextsIn o p) m
 
 -- a test that finds no fault
 clear : (a b : ℕ) → faultAt 0 (ltb a b) ≡ Nothing → b ≤ a
@@ -239,29 +239,29 @@ module _ (m : ℕ) (p : List ℕ) (o : Opening) (f : OpenFacts p o) where
   pub rest-facts : Holds (RestFacts m p o) (run (restPlan m o) p)
   unfolding restPlan metricsPlan namesPlan tracePlan volumesPlan
   rest-facts =
-      let s = nexts (part (o .head .trace) (take (o .head .trace .end) p)) (o .head .trace .count) in
+      let s = nextsIn o (take (o .head .trace .end) p) in
       holds-await _ (headEnd o) _ p λ _.
       holds-stop _ 7 (faultAt 0 (ltb m (o .head .trace .count))) _ p λ e7.
       holds-stop _ 8 (faultAt 0 (ltb (o .head .volumes .len) (o .head .volumes .count * layoutOf (o .version) .volume))) _ p λ e8.
       holds-await _ (o .head .metrics .end) _ p λ _.
       holds-stop _ 9 (firstMisfit (o .version) (part (o .head .metrics) (take (o .head .metrics .end) p)) (o .head .metrics .count) (o .head .strings .len)) _ p λ _.
-      holds-await _ (namesReach o) _ p λ _.
-      holds-stop _ 10 (firstUnsound (o .version) (part (o .head .metrics) (take (namesReach o) p)) (o .head .metrics .count) (part (o .head .strings) (take (namesReach o) p))) _ p λ e10.
+      holds-await _ (namesRequired o) _ p λ _.
+      holds-stop _ 10 (firstUnsound (o .version) (part (o .head .metrics) (take (namesRequired o) p)) (o .head .metrics .count) (part (o .head .strings) (take (namesRequired o) p))) _ p λ e10.
       holds-await _ (o .head .trace .end) _ p λ _.
       holds-then _ (decide (linkChecks s)) _ p λ n e11.
-      holds-await _ (volumesReach o) _ p λ _.
-      holds-then _ (decide (volumesFrom (part (o .head .volumes) (take (volumesReach o) p)) (o .version) (o .head .volumes .count) 0)) _ p λ t e14.
+      holds-await _ (volumesRequired o) _ p λ _.
+      holds-then _ (decide (volumesFrom (part (o .head .volumes) (take (volumesRequired o) p)) (o .version) (o .head .volumes .count) 0)) _ p λ t e14.
       holds-accept _ _ p (accepts n (clear _ _ e7) (clear _ _ e8) (sym (unsound-take p o f) ∙ e10) (decision _ n p e11) (decision _ t p e14))
     where
       accepts : (n : ℕ)
           → o .head .trace .count ≤ m
           → o .head .volumes .count * layoutOf (o .version) .volume ≤ o .head .volumes .len
           → firstUnsound (o .version) (part (o .head .metrics) p) (o .head .metrics .count) (part (o .head .strings) p) ≡ Nothing
-          → linkChecks (nexts (part (o .head .trace) (take (o .head .trace .end) p)) (o .head .trace .count)) ≡ accept n
-          → volumesFrom (part (o .head .volumes) (take (volumesReach o) p)) (o .version) (o .head .volumes .count) 0 ≡ accept tt
-          → RestFacts m p o (record { fields = recordOf o (take (headEnd o) p) n; table = predecessors (nexts (part (o .head .trace) (take (o .head .trace .end) p)) (o .head .trace .count)) m })
+          → linkChecks (nextsIn o (take (o .head .trace .end) p)) ≡ accept n
+          → volumesFrom (part (o .head .volumes) (take (volumesRequired o) p)) (o .version) (o .head .volumes .count) 0 ≡ accept tt
+          → RestFacts m p o (record { fields = recordOf o (take (headEnd o) p) n; table = predecessors (nextsIn o (take (o .head .trace .end) p)) m })
       accepts n places entries names links volumes =
-          let s = nexts (part (o .head .trace) p) (o .head .trace .count) in
+          let s = nextsIn o p in
           let e : linkChecks s ≡ accept n = rw (trace-take p o f) at links in
           record {
             places = places;
@@ -275,7 +275,7 @@ module _ (m : ℕ) (p : List ℕ) (o : Opening) (f : OpenFacts p o) where
 
   module _ (d : declaredSize p ≤ length p) (x : Acceptable) (r : RestFacts m p o x) where
     abbrev allNexts : List ℕ
-    allNexts = nexts (part (o .head .trace) p) (o .head .trace .count)
+    allNexts = nextsIn o p
 
     -- a name that is sound fits the strings section, which has all its bytes
     none-misfit : firstMisfit (o .version) (part (o .head .metrics) p) (o .head .metrics .count) (o .head .strings .len) ≡ Nothing
@@ -291,7 +291,7 @@ module _ (m : ℕ) (p : List ℕ) (o : Opening) (f : OpenFacts p o) where
     volumes-complete : (y : Acceptable) → decided (accept y) ≡ run (volumesPlan o y) p
     unfolding volumesPlan andThen
     volumes-complete y =
-        await-here (volumesReach o) _ p _ (le-trans (volumes-reach-low p o f) d)
+        await-here (volumesRequired o) _ p _ (le-trans (volumes-required-low p o f) d)
         (rw (volumes-take p o f ∙ volumes-sound (part (o .head .volumes) p) (o .version) (o .head .volumes .count) .1 (r .volumes)) (sym (run-decide _ p)))
 
     trace-complete : (fields : ℕ → Acceptance) → fields (chains allNexts) ≡ x .fields → decided (accept x) ≡ run (tracePlan m o fields) p
@@ -307,7 +307,7 @@ module _ (m : ℕ) (p : List ℕ) (o : Opening) (f : OpenFacts p o) where
         (room-enough m o p (f .whole) _ (record { places = r .places; entries = r .entries })
         (await-here (o .head .metrics .end) _ p _ (le-trans (f .metrics) d)
         (stop-miss 9 _ _ _ p _ refl (misfit-take p o f ∙ none-misfit)
-        (await-here (namesReach o) _ p _ (le-trans (names-reach-low p o f) d)
+        (await-here (namesRequired o) _ p _ (le-trans (names-required-low p o f) d)
         (stop-miss 10 _ _ _ p _ refl (unsound-take p o f ∙ none-unsound)
         (trace-complete (recordOf o (take (headEnd o) p)) (record-take o p _ ∙ sym (r .fields))))))))
 

@@ -1,4 +1,4 @@
--- All fifteen checks of document 01 in their order, each with its number, its reach and its index.
+-- All fifteen checks of document 01 in their order, each with its number, its required length (document 01: reach) and its index.
 use mathlib.Core.Bool.{Bool, true, false}
 use mathlib.Core.List.{List}
 use Prim.Native.Nat.{ℕ, _*_, max}
@@ -39,32 +39,36 @@ recordOf o b chains =
       chains = chains;
     }
 
--- 14 and 15: with no volume the reach is H, else the volumes end
-abbrev pub volumesReach : Opening → ℕ
-volumesReach o = pick (eqb (o .head .volumes .count) 0) (headEnd o) (o .head .volumes .end)
+-- 14 and 15, required length (document 01: reach): with no volume H, else the volumes end
+abbrev pub volumesRequired : Opening → ℕ
+volumesRequired o = pick (eqb (o .head .volumes .count) 0) (headEnd o) (o .head .volumes .end)
 
 -- what passes 14 and 15 is accepted
 unfoldable pub volumesPlan : Opening → Acceptable → Plan Acceptable
 volumesPlan o x =
-    await (volumesReach o) λ b.
+    await (volumesRequired o) λ b.
     andThen (decide (volumesFrom (part (o .head .volumes) b) (o .version) (o .head .volumes .count) 0)) λ _.
     decide (accept x)
+
+-- the next indexes of the trace section
+abbrev pub nextsIn : Opening → List ℕ → List ℕ
+nextsIn o b = nexts (part (o .head .trace) b) (o .head .trace .count)
 
 -- 11, 12 and 13: the trace end
 unfoldable pub tracePlan : ℕ → Opening → (ℕ → Acceptance) → Plan Acceptable
 tracePlan m o fields =
     await (o .head .trace .end) λ b.
-    let s = nexts (part (o .head .trace) b) (o .head .trace .count) in
+    let s = nextsIn o b in
     andThen (decide (linkChecks s)) λ chains.
     volumesPlan o (record { fields = fields chains; table = predecessors s m })
 
 -- 10: the greater of metrics end and strings end; with no metrics entry H
-abbrev pub namesReach : Opening → ℕ
-namesReach o = pick (eqb (o .head .metrics .count) 0) (headEnd o) (max (o .head .metrics .end) (o .head .strings .end))
+abbrev pub namesRequired : Opening → ℕ
+namesRequired o = pick (eqb (o .head .metrics .count) 0) (headEnd o) (max (o .head .metrics .end) (o .head .strings .end))
 
 unfoldable pub namesPlan : ℕ → Opening → (ℕ → Acceptance) → Plan Acceptable
 namesPlan m o fields =
-    row 10 (namesReach o)
+    row 10 (namesRequired o)
     (λ b. firstUnsound (o .version) (part (o .head .metrics) b) (o .head .metrics .count) (part (o .head .strings) b))
     (tracePlan m o fields)
 

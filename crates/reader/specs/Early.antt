@@ -20,42 +20,42 @@ use Rattle.head.specs.Checks.{openPlan}
 use Rattle.head.specs.Facts.{OpenFacts, open-facts, decided-open, decided-stop}
 use Rattle.head.specs.declared.checks.Opening.{Opening}
 use Rattle.names.specs.Names.{firstMisfit, firstUnsound}
-use Rattle.trace.specs.Links.{nexts, linkChecks}
+use Rattle.trace.specs.Links.{linkChecks}
 use Rattle.volumes.specs.Volumes.{volumesFrom}
 use Rattle.reader.specs.declared.verdict.Acceptance.{Acceptance}
 use Rattle.reader.specs.declared.verdict.Verdict.{Verdict}
 use Rattle.reader.specs.declared.verdict.Verdict.the-variants.{Accepted, Refused, Wanted}
 use Rattle.reader.specs.Verdict.{Acceptable, Reads, Values, valuesOf, answerValues, wantedValues, bufferAfter}
-use Rattle.reader.specs.Checks.{headEnd, volumesReach, namesReach, volumesPlan, tracePlan, namesPlan, metricsPlan, restPlan, readPlan, prefixAnswer, ReadsPrefix}
+use Rattle.reader.specs.Checks.{nextsIn, headEnd, volumesRequired, namesRequired, volumesPlan, tracePlan, namesPlan, metricsPlan, restPlan, readPlan, prefixAnswer, ReadsPrefix}
 
 -- ---- no required length exceeds the greater of sixteen and S
 
-pub names-reach-low : (p : List ℕ) (o : Opening) → OpenFacts p o → namesReach o ≤ declaredSize p
-names-reach-low p o f = go (ℕ-discrete (o .head .metrics .count) 0)
+pub names-required-low : (p : List ℕ) (o : Opening) → OpenFacts p o → namesRequired o ≤ declaredSize p
+names-required-low p o f = go (ℕ-discrete (o .head .metrics .count) 0)
   where
-    go : Dec (o .head .metrics .count ≡ 0) → namesReach o ≤ declaredSize p
+    go : Dec (o .head .metrics .count ≡ 0) → namesRequired o ≤ declaredSize p
     go (yes z) = rw (eq-eqb _ _ z) (f .start .least)
     go (no z) = rw (ne-eqb _ _ z) (omega (arith, f .metrics, f .strings))
 
-pub volumes-reach-low : (p : List ℕ) (o : Opening) → OpenFacts p o → volumesReach o ≤ declaredSize p
-volumes-reach-low p o f = go (ℕ-discrete (o .head .volumes .count) 0)
+pub volumes-required-low : (p : List ℕ) (o : Opening) → OpenFacts p o → volumesRequired o ≤ declaredSize p
+volumes-required-low p o f = go (ℕ-discrete (o .head .volumes .count) 0)
   where
-    go : Dec (o .head .volumes .count ≡ 0) → volumesReach o ≤ declaredSize p
+    go : Dec (o .head .volumes .count ≡ 0) → volumesRequired o ≤ declaredSize p
     go (yes z) = rw (eq-eqb _ _ z) (f .start .least)
     go (no z) = rw (ne-eqb _ _ z) (f .volumes)
 
 decided-volumes : (p : List ℕ) (o : Opening) (x : Acceptable) → OpenFacts p o → declaredSize p ≤ length p → Decided (run (volumesPlan o x) p)
 unfolding volumesPlan
 decided-volumes p o x f d =
-    decided-await (volumesReach o) _ p (le-trans (volumes-reach-low p o f) d)
-    (decided-then (decide (volumesFrom (part (o .head .volumes) (take (volumesReach o) p)) (o .version) (o .head .volumes .count) 0)) _ p
+    decided-await (volumesRequired o) _ p (le-trans (volumes-required-low p o f) d)
+    (decided-then (decide (volumesFrom (part (o .head .volumes) (take (volumesRequired o) p)) (o .version) (o .head .volumes .count) 0)) _ p
     (decided-decide _ p) λ a e. decided-decide _ p)
 
 decided-trace : (m : ℕ) (p : List ℕ) (o : Opening) (fields : ℕ → Acceptance) → OpenFacts p o → declaredSize p ≤ length p → Decided (run (tracePlan m o fields) p)
 unfolding tracePlan
 decided-trace m p o fields f d =
     decided-await (o .head .trace .end) _ p (le-trans (f .trace) d)
-    (decided-then (decide (linkChecks (nexts (part (o .head .trace) (take (o .head .trace .end) p)) (o .head .trace .count)))) _ p
+    (decided-then (decide (linkChecks (nextsIn o (take (o .head .trace .end) p)))) _ p
     (decided-decide _ p) λ chains e. decided-volumes p o _ f d)
 
 decided-rest : (m : ℕ) (p : List ℕ) (o : Opening) → OpenFacts p o → declaredSize p ≤ length p → Decided (run (restPlan m o) p)
@@ -66,8 +66,8 @@ decided-rest m p o f d =
     decided-stop 8 (faultAt 0 (ltb (o .head .volumes .len) (o .head .volumes .count * layoutOf (o .version) .volume))) _ p λ _.
     decided-await (o .head .metrics .end) _ p (le-trans (f .metrics) d)
     (decided-stop 9 (firstMisfit (o .version) (part (o .head .metrics) (take (o .head .metrics .end) p)) (o .head .metrics .count) (o .head .strings .len)) _ p λ _.
-    decided-await (namesReach o) _ p (le-trans (names-reach-low p o f) d)
-    (decided-stop 10 (firstUnsound (o .version) (part (o .head .metrics) (take (namesReach o) p)) (o .head .metrics .count) (part (o .head .strings) (take (namesReach o) p))) _ p λ _.
+    decided-await (namesRequired o) _ p (le-trans (names-required-low p o f) d)
+    (decided-stop 10 (firstUnsound (o .version) (part (o .head .metrics) (take (namesRequired o) p)) (o .head .metrics .count) (part (o .head .strings) (take (namesRequired o) p))) _ p λ _.
     decided-trace m p o _ f d)))
 
 pub decided-read : (m : ℕ) (p : List ℕ) → 16 ≤ length p → declaredSize p ≤ length p → Decided (prefixAnswer p m)

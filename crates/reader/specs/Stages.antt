@@ -33,7 +33,7 @@ use Rattle.reader.specs.declared.verdict.Acceptance.{Acceptance}
 use Rattle.reader.specs.declared.verdict.Verdict.{Verdict}
 use Rattle.reader.specs.declared.verdict.Verdict.the-variants.{Accepted, Refused, Wanted}
 use Rattle.reader.specs.Verdict.{Acceptable, Reads, Values, valuesOf, answerValues, acceptedValues, refusedValues, wantedValues, bufferAfter}
-use Rattle.reader.specs.Checks.{headEnd, recordOf, volumesReach, volumesPlan, tracePlan, namesReach, namesPlan, metricsPlan, restPlan, whole}
+use Rattle.reader.specs.Checks.{headEnd, recordOf, volumesRequired, volumesPlan, tracePlan, namesRequired, namesPlan, metricsPlan, restPlan, whole}
 
 -- a stage's verdict, where the working buffer ends as `after`
 abbrev pub verdictOf : Verdict → List ℕ → Answer Acceptable
@@ -47,21 +47,21 @@ pub record RoomFor (o : Opening) (m : ℕ) : Type 0 where
   pub entries : o .head .volumes .count * layoutOf (o .version) .volume ≤ o .head .volumes .len
 
 -- a file that is not as long as it says
-abbrev pub misfitAnswer : ℕ → Answer Acceptable
-misfitAnswer number = decided (refuse (refusal number 0))
+abbrev pub wrongLength : ℕ → Answer Acceptable
+wrongLength number = decided (refuse (refusal number 0))
 
 -- ---- 14 and 15
 
-module _ (o : Opening) (p : List ℕ) (k : ℕ) (e : k ≡ volumesReach o) where
+module _ (o : Opening) (p : List ℕ) (k : ℕ) (e : k ≡ volumesRequired o) where
   pub volumes-short : (x : Acceptable) → length p < k → wants k ≡ run (volumesPlan o x) p
   unfolding volumesPlan
-  volumes-short x h = rw (run-short (volumesReach o) _ p (rw (← e) h), ← e)
+  volumes-short x h = rw (run-short (volumesRequired o) _ p (rw (← e) h), ← e)
 
   -- what is decided where the section is there
   volumes-here : (x : Acceptable) (d : Decision Unit) → k ≤ length p → volumesFrom (part (o .head .volumes) (take k p)) (o .version) (o .head .volumes .count) 0 ≡ d
       → run (volumesPlan o x) p ≡ run (andThen (decide d) λ _. decide (accept x)) p
   unfolding volumesPlan
-  volumes-here x d h q = rw (run-here (volumesReach o) _ p (rw (← e) h), ← e, q)
+  volumes-here x d h q = rw (run-here (volumesRequired o) _ p (rw (← e) h), ← e, q)
 
   pub volumes-passed : (x : Acceptable) (r : Checked) (section : List ℕ) → k ≤ length p → section ≡ part (o .head .volumes) (take k p)
       → o .head .volumes .count * layoutOf (o .version) .volume ≤ length (part (o .head .volumes) (take k p))
@@ -125,16 +125,16 @@ module _ (m : ℕ) (o : Opening) (fields : ℕ → Acceptance) (p : List ℕ) wh
 
 -- ---- 10
 
-module _ (m : ℕ) (o : Opening) (fields : ℕ → Acceptance) (p : List ℕ) (k : ℕ) (e : k ≡ namesReach o) where
+module _ (m : ℕ) (o : Opening) (fields : ℕ → Acceptance) (p : List ℕ) (k : ℕ) (e : k ≡ namesRequired o) where
   pub names-short : length p < k → wants k ≡ run (namesPlan m o fields) p
   unfolding namesPlan
-  names-short h = rw (run-short (namesReach o) _ p (rw (← e) h), ← e)
+  names-short h = rw (run-short (namesRequired o) _ p (rw (← e) h), ← e)
 
   names-here : (metrics strings : List ℕ) (r : Found) → k ≤ length p → metrics ≡ part (o .head .metrics) (take k p) → strings ≡ part (o .head .strings) (take k p)
       → r ≡ firstUnsound (o .version) metrics (o .head .metrics .count) strings
       → run (namesPlan m o fields) p ≡ run (stop 10 r (tracePlan m o fields)) p
   unfolding namesPlan
-  names-here metrics strings r h a b q = rw (run-here (namesReach o) _ p (rw (← e) h), ← e, ← a, ← b, ← q)
+  names-here metrics strings r h a b q = rw (run-here (namesRequired o) _ p (rw (← e) h), ← e, ← a, ← b, ← q)
 
   pub names-hit : (metrics strings : List ℕ) (r : Found) (i : ℕ) → k ≤ length p → metrics ≡ part (o .head .metrics) (take k p) → strings ≡ part (o .head .strings) (take k p)
       → r ≡ firstUnsound (o .version) metrics (o .head .metrics .count) strings → r ≡ At i
@@ -206,7 +206,7 @@ reads-wanted answer m after last v k e q f =
 -- ---- what the opening's facts give the stages
 
 -- the volumes section, as far as its required length, has all its bytes
-pub volumes-all : (p : List ℕ) (o : Opening) (k : ℕ) → OpenFacts p o → k ≡ volumesReach o → k ≤ length p
+pub volumes-all : (p : List ℕ) (o : Opening) (k : ℕ) → OpenFacts p o → k ≡ volumesRequired o → k ≤ length p
     → o .head .volumes .count * layoutOf (o .version) .volume ≤ o .head .volumes .len
     → o .head .volumes .count * layoutOf (o .version) .volume ≤ length (part (o .head .volumes) (take k p))
 volumes-all p o k f e h room = go (ℕ-discrete (o .head .volumes .count) 0)
@@ -218,8 +218,8 @@ volumes-all p o k f e h room = go (ℕ-discrete (o .head .volumes .count) 0)
         let l : o .head .volumes .end ≤ length (take k p) = rw (length-take k p) (omega arith) in
         rw (part-length (o .head .volumes) (headEnd o) (take k p) (open-shapes p o f .volumes-end) l) room
 
-pub head-reach : (p : List ℕ) (o : Opening) (l : Layout) → OpenFacts p o → l ≡ layoutOf (o .version) → l .head ≤ length p
-head-reach p o l f e = rw e (f .whole)
+pub head-required : (p : List ℕ) (o : Opening) (l : Layout) → OpenFacts p o → l ≡ layoutOf (o .version) → l .head ≤ length p
+head-required p o l f e = rw e (f .whole)
 
 -- ---- the whole reader
 
@@ -240,10 +240,10 @@ module _ (n m : ℕ) (answer : Answer Acceptable) (v : Verdict) (after : List �
       let k : _≡_ {A = ℕ} 0 2 = ap (λ (w : Values). w .kind) z in
       absurd (omega arith)
 
-  pub whole-short : (a : Acceptance) → v ≡ Accepted a → n < a .size → whole n answer ≡ misfitAnswer 16
+  pub whole-short : (a : Acceptance) → v ≡ Accepted a → n < a .size → whole n answer ≡ wrongLength 16
   whole-short a q l = accepted-whole a answer refl q ∙ rw (lt-ltb _ _ l)
 
-  pub whole-long : (a : Acceptance) → v ≡ Accepted a → a .size ≤ n → a .size < n → whole n answer ≡ misfitAnswer 17
+  pub whole-long : (a : Acceptance) → v ≡ Accepted a → a .size ≤ n → a .size < n → whole n answer ≡ wrongLength 17
   whole-long a q l h = accepted-whole a answer refl q ∙ rw (le-ltb _ _ l, lt-ltb _ _ h)
 
   pub whole-exact : (a : Acceptance) → v ≡ Accepted a → a .size ≤ n → n ≤ a .size → Reads (whole n answer) m (Accepted a) after
@@ -263,7 +263,7 @@ module _ (n m : ℕ) (answer : Answer Acceptable) (v : Verdict) (after : List �
   pub whole-refused : (f : Refusal) → v ≡ Refused f → Reads (whole n answer) m (Refused f) after
   whole-refused f q = rw (refused-whole f answer refl q) (record { verdict = ap valuesOf (sym q) ∙ r .verdict; buffer = r .buffer })
 
-  wanted-whole : (k : ℕ) (x : Answer Acceptable) → answer ≡ x → v ≡ Wanted k → whole n x ≡ misfitAnswer 16
+  wanted-whole : (k : ℕ) (x : Answer Acceptable) → answer ≡ x → v ≡ Wanted k → whole n x ≡ wrongLength 16
   wanted-whole k (decided (accept x)) e q =
       let z : wantedValues k ≡ acceptedValues (x .fields) = ap valuesOf (sym q) ∙ r .verdict ∙ ap answerValues e in
       let k : _≡_ {A = ℕ} 2 0 = ap (λ (w : Values). w .kind) z in
@@ -274,7 +274,7 @@ module _ (n m : ℕ) (answer : Answer Acceptable) (v : Verdict) (after : List �
       absurd (omega arith)
   wanted-whole k (wants j) e q = refl
 
-  pub whole-wanted : (k : ℕ) → v ≡ Wanted k → whole n answer ≡ misfitAnswer 16
+  pub whole-wanted : (k : ℕ) → v ≡ Wanted k → whole n answer ≡ wrongLength 16
   whole-wanted k q = wanted-whole k answer refl q
 
 -- the promise of an answer that is another

@@ -6,8 +6,8 @@ ghost use Rattle.incremental.specs.Plan.{run};
 ghost use Rattle.layout.specs.Versions.{layoutOf};
 ghost use Rattle.head.specs.Facts.{OpenFacts};
 ghost use Rattle.reader.specs.Verdict.{Reads};
-ghost use Rattle.reader.specs.Checks.{headEnd, recordOf, volumesReach, namesReach, volumesPlan, tracePlan, namesPlan, metricsPlan, restPlan, prefixAnswer, ReadsPrefix, ReadsFile};
-ghost use Rattle.reader.specs.Stages.{verdictOf, RoomFor, misfitAnswer};
+ghost use Rattle.reader.specs.Checks.{headEnd, recordOf, volumesRequired, namesRequired, volumesPlan, tracePlan, namesPlan, metricsPlan, restPlan, prefixAnswer, ReadsPrefix, ReadsFile};
+ghost use Rattle.reader.specs.Stages.{verdictOf, RoomFor, wrongLength};
 use crate::verdict::Acceptance;
 use crate::verdict::Verdict;
 use head::OpenAnswer;
@@ -20,8 +20,8 @@ use lists::Found;
 use trace::Links;
 
 // Document 01: the reach of checks 14 and 15.
-fn volumes_reach(o: Opening) -> usize
-    ensures { λ r. ⌜ r ≡ volumesReach o ⌝ }
+fn volumes_required(o: Opening) -> usize
+    ensures { λ r. ⌜ r ≡ volumesRequired o ⌝ }
 {
     if o.head.volumes.count == 0 {
         let v = o.version;
@@ -36,13 +36,13 @@ fn check_volumes(file: &[u8], o: Opening, a: Acceptance) -> Verdict
     requires { ⌜ o .head .volumes .count * layoutOf (o .version) .volume ≤ o .head .volumes .len ⌝ }
     ensures { λ r. ⌜ ((t : List ℕ) → verdictOf r t ≡ run (volumesPlan o (record { fields = a; table = t })) (now (file .entry))) ⌝ }
 {
-    let reach = volumes_reach(o);
+    let required = volumes_required(o);
     let v = o.version;
     let section = o.head.volumes;
-    if file.len() < reach {
-        return Verdict::Wanted(reach);
+    if file.len() < required {
+        return Verdict::Wanted(required);
     }
-    match volumes::check_volumes(head::part_of(&file[..reach], section), v, section.count) {
+    match volumes::check_volumes(head::part_of(&file[..required], section), v, section.count) {
         Checked::Passed => Verdict::Accepted(a),
         Checked::Refused(r) => Verdict::Refused(r),
     }
@@ -55,13 +55,13 @@ fn check_trace(file: &[u8], o: Opening, predecessors: &mut [u32]) -> Verdict
     ensures { λ r. ⌜ verdictOf r (now (predecessors .exit)) ≡ run (tracePlan (length (now (predecessors .entry))) o (recordOf o (take (headEnd o) (now (file .entry))))) (now (file .entry)) ⌝ }
 {
     let section = o.head.trace;
-    let reach = section.end;
+    let required = section.end;
     let v = o.version;
     let h = Layout::of(v).head;
-    if file.len() < reach {
-        return Verdict::Wanted(reach);
+    if file.len() < required {
+        return Verdict::Wanted(required);
     }
-    let links = head::part_of(&file[..reach], section);
+    let links = head::part_of(&file[..required], section);
     match trace::check_links(links, section.count, predecessors) {
         Links::Chains(n) => {
             let a = crate::verdict::record_of(o, &file[..h], n);
@@ -72,8 +72,8 @@ fn check_trace(file: &[u8], o: Opening, predecessors: &mut [u32]) -> Verdict
 }
 
 // Document 01: the reach of check 10.
-fn names_reach(o: Opening) -> usize
-    ensures { λ r. ⌜ r ≡ namesReach o ⌝ }
+fn names_required(o: Opening) -> usize
+    ensures { λ r. ⌜ r ≡ namesRequired o ⌝ }
 {
     if o.head.metrics.count == 0 {
         let v = o.version;
@@ -92,15 +92,15 @@ fn check_names(file: &[u8], o: Opening, predecessors: &mut [u32]) -> Verdict
     requires { ⌜ RoomFor o (length (now predecessors)) ⌝ }
     ensures { λ r. ⌜ verdictOf r (now (predecessors .exit)) ≡ run (namesPlan (length (now (predecessors .entry))) o (recordOf o (take (headEnd o) (now (file .entry))))) (now (file .entry)) ⌝ }
 {
-    let reach = names_reach(o);
+    let required = names_required(o);
     let v = o.version;
     let metrics = o.head.metrics;
     let strings = o.head.strings;
-    if file.len() < reach {
-        return Verdict::Wanted(reach);
+    if file.len() < required {
+        return Verdict::Wanted(required);
     }
-    let entries = head::part_of(&file[..reach], metrics);
-    let text = head::part_of(&file[..reach], strings);
+    let entries = head::part_of(&file[..required], metrics);
+    let text = head::part_of(&file[..required], strings);
     if let Found::At(i) = names::first_unsound(entries, v, metrics.count, text) {
         return Verdict::Refused(Refusal {
             number: 10,
@@ -118,12 +118,12 @@ fn check_metrics(file: &[u8], o: Opening, predecessors: &mut [u32]) -> Verdict
 {
     let v = o.version;
     let metrics = o.head.metrics;
-    let reach = metrics.end;
+    let required = metrics.end;
     let size = o.head.strings.len;
-    if file.len() < reach {
-        return Verdict::Wanted(reach);
+    if file.len() < required {
+        return Verdict::Wanted(required);
     }
-    let entries = head::part_of(&file[..reach], metrics);
+    let entries = head::part_of(&file[..required], metrics);
     if let Found::At(i) = names::first_misfit(entries, v, metrics.count, size) {
         return Verdict::Refused(Refusal {
             number: 9,
@@ -192,8 +192,8 @@ pub fn read_prefix(file: &[u8], predecessors: &mut [u32]) -> Verdict
 }
 
 // Refusal 16 or 17 of a file that is not as long as it says.
-fn misfit(number: u32, predecessors: &mut [u32]) -> Verdict
-    ensures { λ r. ⌜ Reads (misfitAnswer number) (length (now (predecessors .entry))) r (now (predecessors .exit)) ⌝ }
+fn wrong_length(number: u32, predecessors: &mut [u32]) -> Verdict
+    ensures { λ r. ⌜ Reads (wrongLength number) (length (now (predecessors .entry))) r (now (predecessors .exit)) ⌝ }
 {
     trace::fill(predecessors);
     Verdict::Refused(Refusal {
@@ -210,14 +210,14 @@ pub fn read_file(file: &[u8], predecessors: &mut [u32]) -> Verdict
         Verdict::Accepted(a) => {
             let size = a.size as usize;
             if file.len() < size {
-                return misfit(16, predecessors);
+                return wrong_length(16, predecessors);
             }
             if size < file.len() {
-                return misfit(17, predecessors);
+                return wrong_length(17, predecessors);
             }
             Verdict::Accepted(a)
         }
         Verdict::Refused(r) => Verdict::Refused(r),
-        Verdict::Wanted(_) => misfit(16, predecessors),
+        Verdict::Wanted(_) => wrong_length(16, predecessors),
     }
 }

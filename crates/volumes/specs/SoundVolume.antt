@@ -9,7 +9,7 @@ use lib.Dec.{leb, eqb}
 use lib.ListN.{length}
 use borrow.Author.Tests.{leb-true, le-leb, eqb-true, eq-eqb, ne-eqb}
 use Rattle.lists.specs.Count.{pick, true-false}
-use Rattle.little_endian.specs.Number.{le}
+use Rattle.little_endian.specs.Number.{le, zeroUnit}
 use Rattle.layout.specs.declared.Version.{Version}
 use Rattle.incremental.specs.Decision.{Decision, accept}
 use Rattle.volumes.specs.declared.Cursor.{Cursor}
@@ -85,9 +85,9 @@ is-references s e (inr r) =
 -- a step that goes on has passed a directory string
 step-is : (s : List ℕ) (at : ℕ) (next : Cursor) → stepAt s at ≡ Next next → SoundDirectory s at × (next .at ≡ at + 2 + 2 * le 2 s at + 2)
 unfolding stepAt
-step-is s at next = go (leb (at + 2) (length s)) (leb (at + 4 + 2 * le 2 s at) (length s)) (eqb (le 2 s (at + 2 + 2 * le 2 s at)) 0) refl refl
+step-is s at next = go (leb (at + 2) (length s)) (leb (at + 4 + 2 * le 2 s at) (length s)) (zeroUnit s (at + 2 + 2 * le 2 s at)) refl refl
   where
-    go : (a b c : Bool) → leb (at + 4 + 2 * le 2 s at) (length s) ≡ b → eqb (le 2 s (at + 2 + 2 * le 2 s at)) 0 ≡ c
+    go : (a b c : Bool) → leb (at + 4 + 2 * le 2 s at) (length s) ≡ b → zeroUnit s (at + 2 + 2 * le 2 s at) ≡ c
         → pick a (pick b (pick c (Next (record { at = at + 4 + 2 * le 2 s at })) Unended) Past) Past ≡ Next next
         → SoundDirectory s at × (next .at ≡ at + 2 + 2 * le 2 s at + 2)
     go true true true q x e =

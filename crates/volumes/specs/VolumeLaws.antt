@@ -1,18 +1,18 @@
 -- Laws on the checks of a volumes section: what each way through the code decides, and what it means that all volumes pass.
 use mathlib.Core.Path.{_≡_, refl, sym}
-use mathlib.Core.Bool.{Bool, true, false}
+use mathlib.Core.Bool.{true, false}
 use mathlib.Core.List.{List}
 use mathlib.Core.Logic.{_↔_}
 use Prim.Native.Nat.{ℕ, zero, suc, _+_, _-_, _*_, _^_, _≤_, _<_}
 use native.Mathlib.Nat.{sub-zero, add-zero, zero-add}
 use native.Mathlib.Numerals.{add-one}
 use native.Mathlib.Omega.{arith}
-use lib.Dec.{leb, eqb}
+use lib.Dec.{leb}
 use lib.ListN.{length}
 use borrow.Author.Tests.{le-leb, lt-leb, eq-eqb, ne-eqb}
 use Rattle.lists.specs.First.{first}
 use Rattle.lists.specs.declared.Found.the-variants.{At, Nothing}
-use Rattle.little_endian.specs.Number.{le}
+use Rattle.little_endian.specs.Number.{le, zeroUnit}
 use Rattle.layout.specs.Versions.{layoutOf}
 use Rattle.layout.specs.declared.Version.{Version}
 use Rattle.layout.specs.declared.Version.the-variants.{V17, V23, V26}
@@ -183,14 +183,11 @@ volumes-each s v n =
     ((λ e i l. rw zero-add at (each-passes s v n 0 e i l)), λ f. all-pass s v n 0 (λ k l. rw (zero-add k) (f k l)))
 
 -- The units of a path, by a loop that stops at the first zero unit
-abbrev pub zeroUnit : List ℕ → ℕ → ℕ → Bool
-zeroUnit s at k = eqb (le 2 s (at + 2 * k)) 0
-
-pub units-hit : (s : List ℕ) (e k : ℕ) {start count : ℕ} → start ≡ pathAt s e → count ≡ pathCount s e → first (zeroUnit s start) count ≡ At k → k ≡ pathUnits s e
+pub units-hit : (s : List ℕ) (e k : ℕ) {start count : ℕ} → start ≡ pathAt s e → count ≡ pathCount s e → first (λ k. zeroUnit s (start + 2 * k)) count ≡ At k → k ≡ pathUnits s e
 unfolding pathUnits
 units-hit s e k a n h = rw (← a, ← n, h)
 
-pub units-none : (s : List ℕ) (e : ℕ) {start count : ℕ} → start ≡ pathAt s e → count ≡ pathCount s e → first (zeroUnit s start) count ≡ Nothing → count ≡ pathUnits s e
+pub units-none : (s : List ℕ) (e : ℕ) {start count : ℕ} → start ≡ pathAt s e → count ≡ pathCount s e → first (λ k. zeroUnit s (start + 2 * k)) count ≡ Nothing → count ≡ pathUnits s e
 unfolding pathUnits
 units-none s e a n h = rw (← a, ← n, h)
 

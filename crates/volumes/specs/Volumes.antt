@@ -8,7 +8,7 @@ use Rattle.lists.specs.First.{first}
 use Rattle.lists.specs.Count.{pick}
 use Rattle.lists.specs.declared.Found.{Found}
 use Rattle.lists.specs.declared.Found.the-variants.{At, Nothing}
-use Rattle.little_endian.specs.Number.{le}
+use Rattle.little_endian.specs.Number.{le, zeroUnit}
 use Rattle.layout.specs.Versions.{layoutOf}
 use Rattle.layout.specs.declared.Version.{Version}
 use Rattle.incremental.specs.Decision.{Decision, accept, refuse, refusal}
@@ -67,7 +67,7 @@ unfoldable pub stepAt : List ℕ → ℕ → Step
 stepAt s at =
     pick (leb (at + 2) (length s))
     (pick (leb (at + 4 + 2 * le 2 s at) (length s))
-    (pick (eqb (le 2 s (at + 2 + 2 * le 2 s at)) 0)
+    (pick (zeroUnit s (at + 2 + 2 * le 2 s at))
     (Next (record { at = at + 4 + 2 * le 2 s at }))
     Unended)
     Past)
@@ -119,7 +119,7 @@ orAll (At k) n = k
 orAll Nothing n = n
 
 unfoldable pub pathUnits : List ℕ → ℕ → ℕ
-pathUnits s e = orAll (first (λ k. eqb (le 2 s (pathAt s e + 2 * k)) 0) (pathCount s e)) (pathCount s e)
+pathUnits s e = orAll (first (λ k. zeroUnit s (pathAt s e + 2 * k)) (pathCount s e)) (pathCount s e)
 
 -- the facts of the volume whose entry is at e. The path starts at an offset of the section, 0 where its count is 0.
 unfoldable pub volumeOf : List ℕ → ℕ → Volume

@@ -10,6 +10,7 @@ use incremental::Checked;
 use incremental::Refusal;
 use layout::Layout;
 use layout::Version;
+use lists::Found;
 
 // A position in a run of directory strings.
 pub struct Cursor {
@@ -207,16 +208,12 @@ fn path_units(section: &[u8], entry: usize) -> usize
     requires { ⌜ entry < 2 ^ 40 ⌝ }
     ensures { λ r. ⌜ r ≡ pathUnits (now (section .entry)) entry ⌝ }
 {
-    let start = little_endian::u32_at(section, entry) as usize;
-    let count = little_endian::u32_at(section, entry + 4) as usize;
-    let mut k = 0;
-    while k < count {
-        if little_endian::u16_at(section, start + 2 * k) == 0 {
-            return k;
-        }
-        k += 1;
+    let start = little_endian::u32_at(section, entry);
+    let count = little_endian::u32_at(section, entry + 4);
+    match little_endian::first_zero_unit(section, start, count) {
+        Found::At(k) => k,
+        Found::Nothing => count as usize,
     }
-    count
 }
 
 // The facts of volume i, and of reference k of volume i.

@@ -4,13 +4,13 @@ use Prim.Native.Nat.{ℕ, _+_, _*_, _≤_, _<_, _-_}
 use native.Mathlib.Omega.{arith}
 use borrow.Author.Count.{below-more}
 use borrow.Author.Needs.{needs}
-use Rattle.names.specs.Names.{zeroAt}
+use Rattle.little_endian.specs.Number.{zeroUnit}
 use Rattle.names.specs.NameLaws.{text-zero, text-end}
 use Rattle.names.proofs.units_sound.Statement.{statement}
 use Rattle.names.proofs.units_sound.Tie as tie
 
 abbrev Inv-loop : tie.InvT-loop
-Inv-loop strings at units k₀ k = (k ≤ units) × ((j : ℕ) → j < k → zeroAt strings (at + 2 * j) ≡ false)
+Inv-loop strings at units k₀ k = (k ≤ units) × ((j : ℕ) → j < k → zeroUnit strings (at + 2 * j) ≡ false)
 
 abbrev μ-loop : tie.MeasureT-loop
 μ-loop strings at units k₀ k = units - k

@@ -1,6 +1,6 @@
 use native.Mathlib.Omega.{arith}
 use mathlib.Core.Path.{refl}
-use Rattle.query.specs.QuestionLaws.{name-end}
+use Rattle.query.specs.QueryLaws.{name-end}
 use Rattle.query.specs.SearchLaws.{match-hidden, match-given}
 use borrow.Author.Needs.{needs}
 use Rattle.query.proofs.search.entry_matches.Statement.{statement}

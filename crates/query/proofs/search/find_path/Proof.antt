@@ -1,4 +1,4 @@
-use Rattle.query.specs.QuestionLaws.{asking}
+use Rattle.query.specs.QueryLaws.{asking}
 use borrow.Author.Needs.{needs}
 use Rattle.query.proofs.search.find_path.Statement.{statement}
 use Rattle.query.proofs.search.find_path.Tie as tie

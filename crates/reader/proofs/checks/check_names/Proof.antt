@@ -5,11 +5,11 @@ use borrow.Author.Needs.{needs}
 use Rattle.reader.proofs.checks.check_names.Statement.{statement}
 use Rattle.reader.proofs.checks.check_names.Tie as tie
 
-names-reach-requires : tie.Need-names-reach-requires
-names-reach-requires c κs = search needs
+names-required-requires : tie.Need-names-required-requires
+names-required-requires c κs = search needs
 
 returns : tie.Need-returns
-returns c = names-short _ (c .before .before .before .before .before .before .args .o) _ _ _ (c .before .before .before .names-reach .ensures) (c .if1 .taken)
+returns c = names-short _ (c .before .before .before .before .before .before .args .o) _ _ _ (c .before .before .before .names-required .ensures) (c .if1 .taken)
 
 slice-aggregate-part-of : tie.Need-slice-aggregate-part-of
 slice-aggregate-part-of c = simp length-take (omega arith)
@@ -30,7 +30,7 @@ enum-known-i : tie.Need-enum-known-i
 enum-known-i c = search needs
 
 returns-2 : tie.Need-returns-2
-returns-2 c = names-hit _ (c .before .before .before .before .before .before .before .before .before .before .before .before .before .before .args .o) _ _ _ (c .before .before .before .before .before .before .before .before .before .before .before .names-reach .ensures) _ _ _ _ (c .before .before .before .before .before .before .before .before .if1 .left) (c .before .before .before .before .before .before .part-of .ensures) (c .before .before .before .before .part-of2 .ensures) (c .before .before .before .first-unsound .ensures) (c .before .i .given .1)
+returns-2 c = names-hit _ (c .before .before .before .before .before .before .before .before .before .before .before .before .before .before .args .o) _ _ _ (c .before .before .before .before .before .before .before .before .before .before .before .names-required .ensures) _ _ _ _ (c .before .before .before .before .before .before .before .before .if1 .left) (c .before .before .before .before .before .before .part-of .ensures) (c .before .before .before .before .part-of2 .ensures) (c .before .before .before .first-unsound .ensures) (c .before .i .given .1)
 
 enum-told : tie.Need-enum-told
 enum-told c = search needs
@@ -42,13 +42,13 @@ same-length : tie.Need-same-length
 same-length c = search needs
 
 returns-3 : tie.Need-returns-3
-returns-3 c = names-miss _ (c .before .before .before .before .before .before .before .before .before .before .before .before .before .before .before .before .before .args .o) _ _ _ (c .before .before .before .before .before .before .before .before .before .before .before .before .before .before .names-reach .ensures) _ _ _ _ (c .before .before .before .before .before .before .before .before .before .before .before .if1 .left) (c .before .before .before .before .before .before .before .before .before .part-of .ensures) (c .before .before .before .before .before .before .before .part-of2 .ensures) (c .before .before .before .before .before .before .first-unsound .ensures) (c .before .before .before .before .enum-told .given .1) (c .before .before .check-trace .ensures)
+returns-3 c = names-miss _ (c .before .before .before .before .before .before .before .before .before .before .before .before .before .before .before .before .before .args .o) _ _ _ (c .before .before .before .before .before .before .before .before .before .before .before .before .before .before .names-required .ensures) _ _ _ _ (c .before .before .before .before .before .before .before .before .before .before .before .if1 .left) (c .before .before .before .before .before .before .before .before .before .part-of .ensures) (c .before .before .before .before .before .before .before .part-of2 .ensures) (c .before .before .before .before .before .before .first-unsound .ensures) (c .before .before .before .before .enum-told .given .1) (c .before .before .check-trace .ensures)
 
 pub check-names-spec : {M : Type 1} → statement M
 check-names-spec =
     tie.close
     (tie.spec
-    names-reach-requires
+    names-required-requires
     returns
     slice-aggregate-part-of
     part-of-requires

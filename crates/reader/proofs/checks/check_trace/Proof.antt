@@ -1,5 +1,5 @@
 use Rattle.reader.specs.Checks.{recordOf}
-use Rattle.reader.specs.Stages.{trace-short, trace-passed, trace-refused, head-reach}
+use Rattle.reader.specs.Stages.{trace-short, trace-passed, trace-refused, head-required}
 use lib.ListN.{take}
 use mathlib.Core.Path.{ap, _∙_}
 use native.Mathlib.Omega.{arith}
@@ -29,7 +29,7 @@ enum-known-n c = search needs
 
 slice-aggregate-record-of : tie.Need-slice-aggregate-record-of
 slice-aggregate-record-of c =
-    let h = head-reach _ (c .before .before .before .before .before .before .before .before .before .before .before .before .before .before .before .args .o) _ (c .before .before .before .before .before .before .before .before .before .before .before .before .before .before .before .pre .0) (c .before .before .before .before .before .before .before .before .before .before .before .of .ensures) in
+    let h = head-required _ (c .before .before .before .before .before .before .before .before .before .before .before .before .before .before .before .args .o) _ (c .before .before .before .before .before .before .before .before .before .before .before .before .before .before .before .pre .0) (c .before .before .before .before .before .before .before .before .before .before .before .of .ensures) in
     simp length-take (omega arith)
 
 record-of-requires : tie.Need-record-of-requires

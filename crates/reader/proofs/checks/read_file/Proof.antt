@@ -12,23 +12,23 @@ enum-known-a c = search needs
 cast-size : tie.Need-cast-size
 cast-size c = search needs
 
-misfit-requires : tie.Need-misfit-requires
-misfit-requires c κs = search needs
+wrong-length-requires : tie.Need-wrong-length-requires
+wrong-length-requires c κs = search needs
 
 same-length : tie.Need-same-length
 same-length c = search needs
 
 returns : tie.Need-returns
-returns c = reads-same _ _ _ _ _ _ (c .before .before .misfit .ensures) (c .before .before .before .before .before .before .before .before .before .before .before .read-prefix .kept .1 .0) (whole-short _ _ _ _ _ (c .before .before .before .before .before .before .before .before .before .before .before .read-prefix .ensures) _ (c .before .before .before .before .before .before .before .a .given .1) (c .before .before .before .before .if1 .taken))
+returns c = reads-same _ _ _ _ _ _ (c .before .before .wrong-length .ensures) (c .before .before .before .before .before .before .before .before .before .before .before .read-prefix .kept .1 .0) (whole-short _ _ _ _ _ (c .before .before .before .before .before .before .before .before .before .before .before .read-prefix .ensures) _ (c .before .before .before .before .before .before .before .a .given .1) (c .before .before .before .before .if1 .taken))
 
-misfit-requires-2 : tie.Need-misfit-requires-2
-misfit-requires-2 c κs = search needs
+wrong-length-requires-2 : tie.Need-wrong-length-requires-2
+wrong-length-requires-2 c κs = search needs
 
 same-length-2 : tie.Need-same-length-2
 same-length-2 c = search needs
 
 returns-2 : tie.Need-returns-2
-returns-2 c = reads-same _ _ _ _ _ _ (c .before .before .misfit2 .ensures) (c .before .before .before .before .before .before .before .before .before .before .before .before .read-prefix .kept .1 .0) (whole-long _ _ _ _ _ (c .before .before .before .before .before .before .before .before .before .before .before .before .read-prefix .ensures) _ (c .before .before .before .before .before .before .before .before .a .given .1) (c .before .before .before .before .before .if1 .left) (c .before .before .before .before .if2 .taken))
+returns-2 c = reads-same _ _ _ _ _ _ (c .before .before .wrong-length2 .ensures) (c .before .before .before .before .before .before .before .before .before .before .before .before .read-prefix .kept .1 .0) (whole-long _ _ _ _ _ (c .before .before .before .before .before .before .before .before .before .before .before .before .read-prefix .ensures) _ (c .before .before .before .before .before .before .before .before .a .given .1) (c .before .before .before .before .before .if1 .left) (c .before .before .before .before .if2 .taken))
 
 enum-known-r : tie.Need-enum-known-r
 enum-known-r c = search needs
@@ -36,8 +36,8 @@ enum-known-r c = search needs
 enum-told : tie.Need-enum-told
 enum-told c = search needs
 
-misfit-requires-3 : tie.Need-misfit-requires-3
-misfit-requires-3 c κs = search needs
+wrong-length-requires-3 : tie.Need-wrong-length-requires-3
+wrong-length-requires-3 c κs = search needs
 
 same-length-3 : tie.Need-same-length-3
 same-length-3 c = search needs
@@ -55,7 +55,7 @@ same-length-5 : tie.Need-same-length-5
 same-length-5 c = search needs
 
 returns-5 : tie.Need-returns-5
-returns-5 c = reads-same _ _ _ _ _ _ (c .before .before .misfit3 .ensures) (c .before .before .before .before .before .before .before .before .read-prefix .kept .1 .0) (whole-wanted _ _ _ _ _ (c .before .before .before .before .before .before .before .before .read-prefix .ensures) _ (c .before .before .before .before .enum-told .given .1))
+returns-5 c = reads-same _ _ _ _ _ _ (c .before .before .wrong-length3 .ensures) (c .before .before .before .before .before .before .before .before .read-prefix .kept .1 .0) (whole-wanted _ _ _ _ _ (c .before .before .before .before .before .before .before .before .read-prefix .ensures) _ (c .before .before .before .before .enum-told .given .1))
 
 pub read-file-spec : {M : Type 1} → statement M
 read-file-spec =
@@ -64,15 +64,15 @@ read-file-spec =
     read-prefix-requires
     enum-known-a
     cast-size
-    misfit-requires
+    wrong-length-requires
     same-length
     returns
-    misfit-requires-2
+    wrong-length-requires-2
     same-length-2
     returns-2
     enum-known-r
     enum-told
-    misfit-requires-3
+    wrong-length-requires-3
     same-length-3
     returns-3
     same-length-4

@@ -1,0 +1,122 @@
+-- Document 01's "Questions about one entry".
+use mathlib.Core.Bool.{Bool, true, false, _&&_}
+use mathlib.Core.List.{List}
+use Prim.Native.Nat.{ℕ, _+_, _*_}
+use lib.Dec.{leb, ltb}
+use lib.ListN.{length, take, drop}
+use Rattle.lists.specs.Count.{pick}
+use Rattle.layout.specs.Versions.{layoutOf}
+use Rattle.incremental.specs.Decision.{Decision, accept, refuse}
+use Rattle.incremental.specs.Plan.{Answer, decided, wants, run}
+use Rattle.head.specs.Fields.{part}
+use Rattle.head.specs.Checks.{startPlan, openPlan}
+use Rattle.head.specs.declared.checks.Opening.{Opening}
+use Rattle.names.specs.Names.{sound, nameAt, nameUnits}
+use Rattle.volumes.specs.Volumes.{volumeChecks, volumeOf, referenceOf, entryAt}
+use Rattle.query.specs.declared.entries.Place.{Place}
+use Rattle.query.specs.declared.entries.PlaceAnswer.{PlaceAnswer}
+use Rattle.query.specs.declared.entries.PlaceAnswer.the-variants as placeAnswer
+use Rattle.query.specs.declared.entries.VolumeFacts.{VolumeFacts}
+use Rattle.query.specs.declared.entries.VolumeAnswer.{VolumeAnswer}
+use Rattle.query.specs.declared.entries.VolumeAnswer.the-variants as volumeAnswer
+use Rattle.query.specs.declared.entries.ReferenceAnswer.{ReferenceAnswer}
+use Rattle.query.specs.declared.entries.ReferenceAnswer.the-variants as referenceAnswer
+use Rattle.volumes.specs.declared.Reference.{Reference}
+
+-- what is asked of a file whose checks accept, and a no otherwise
+abbrev pub asked : {A B : Type 0} → Answer A → B → (A → B) → B
+asked (decided (accept a)) none some = some a
+asked (decided (refuse r)) none some = none
+asked (wants k) none some = none
+
+-- the bytes at a place of a file
+abbrev pub bytesAt : Place → List ℕ → List ℕ
+bytesAt w p = take (w .len) (drop (w .at) p)
+
+-- what each case says: yes or no, the place, zeros where the answer is no
+abbrev pub placeOf : PlaceAnswer → Place
+placeOf (placeAnswer.Shown w) = w
+placeOf placeAnswer.NotShown = record { at = 0; len = 0 }
+
+-- ---- the program name: checks 1 to 4 pass; the units before its first zero, from byte 16
+
+abbrev pub programPlace : List ℕ → PlaceAnswer
+programPlace p = asked (run startPlan p) placeAnswer.NotShown (λ s. placeAnswer.Shown (record { at = 16; len = 2 * s .units }))
+
+-- ---- metrics entry i
+
+-- i is below the count; the entry lies in the bytes lent and its section; its name, with its zero, lies in the bytes lent and
+-- its section, and its text is sound by rule 10
+unfoldable pub entryShown : Opening → List ℕ → ℕ → Bool
+entryShown o p i =
+    ltb i (o .head .metrics .count)
+    && (leb ((i + 1) * layoutOf (o .version) .metric) (length (part (o .head .metrics) p))
+    && sound (part (o .head .strings) p)
+    (nameAt (o .version) (part (o .head .metrics) p) i)
+    (nameUnits (o .version) (part (o .head .metrics) p) i))
+
+-- where the name stands in the file, without its zero
+abbrev pub namePlace : Opening → List ℕ → ℕ → Place
+namePlace o p i =
+    record {
+      at = o .head .strings .at + nameAt (o .version) (part (o .head .metrics) p) i;
+      len = 2 * nameUnits (o .version) (part (o .head .metrics) p) i;
+    }
+
+-- checks 1 to 6 pass on the bytes lent, and the entry can be shown
+abbrev pub entryPlace : List ℕ → ℕ → PlaceAnswer
+entryPlace p i =
+    asked (run openPlan p) placeAnswer.NotShown (λ o. pick (entryShown o p i) (placeAnswer.Shown (namePlace o p i)) placeAnswer.NotShown)
+
+-- ---- volume i
+
+abbrev pub accepts : Decision Unit → Bool
+accepts (accept t) = true
+accepts (refuse r) = false
+
+-- check 8 passes, i is below the volume count, the whole volumes section is lent, and volume i passes 14 and 15
+unfoldable pub volumeShown : Opening → List ℕ → ℕ → Bool
+volumeShown o p i =
+    leb (o .head .volumes .count * layoutOf (o .version) .volume) (o .head .volumes .len)
+    && (ltb i (o .head .volumes .count)
+    && (leb (o .head .volumes .len) (length (part (o .head .volumes) p))
+    && accepts (volumeChecks (part (o .head .volumes) p) (o .version) i)))
+
+-- creation time, serial number, the counts of references and directories, and the path as a place of the file
+unfoldable pub volumeFacts : Opening → List ℕ → ℕ → VolumeFacts
+volumeFacts o p i =
+    let v = volumeOf (part (o .head .volumes) p) (entryAt (o .version) i) in
+    record {
+      created = v .created;
+      serial = v .serial;
+      references = v .references;
+      directories = v .directories;
+      path = record { at = o .head .volumes .at + v .path; len = 2 * v .units };
+    }
+
+abbrev pub volumeAsked : List ℕ → ℕ → VolumeAnswer
+volumeAsked p i =
+    asked (run openPlan p) volumeAnswer.NotShown (λ o. pick (volumeShown o p i) (volumeAnswer.Shown (volumeFacts o p i)) volumeAnswer.NotShown)
+
+-- no: zeros and an empty part
+abbrev pub volumeValues : VolumeAnswer → VolumeFacts
+volumeValues (volumeAnswer.Shown f) = f
+volumeValues volumeAnswer.NotShown =
+    record { created = 0; serial = 0; references = 0; directories = 0; path = record { at = 0; len = 0 } }
+
+-- ---- reference k of volume i, where k is below n
+
+unfoldable pub referenceShown : Opening → List ℕ → ℕ → ℕ → Bool
+referenceShown o p i k = volumeShown o p i && ltb k (volumeOf (part (o .head .volumes) p) (entryAt (o .version) i) .references)
+
+abbrev pub referenceAsked : List ℕ → ℕ → ℕ → ReferenceAnswer
+referenceAsked p i k =
+    asked (run openPlan p) referenceAnswer.NotShown
+    (λ o.
+    pick (referenceShown o p i k)
+    (referenceAnswer.Shown (referenceOf (part (o .head .volumes) p) (entryAt (o .version) i) k))
+    referenceAnswer.NotShown)
+
+abbrev pub referenceValues : ReferenceAnswer → Reference
+referenceValues (referenceAnswer.Shown r) = r
+referenceValues referenceAnswer.NotShown = record { index = 0; sequence = 0 }
