@@ -2,14 +2,11 @@
 //! generator of inputs, and the groups that compare the two with the library.
 //! `plain` is a quick reader that the library is timed beside.
 
-#[cfg(feature = "readers")]
 pub mod beside;
-#[cfg(feature = "readers")]
 pub mod calls;
 pub mod generate;
 pub mod groups;
 pub mod lent;
-#[cfg(feature = "readers")]
 pub mod plain;
 pub mod random;
 pub mod reference;

@@ -1,8 +1,5 @@
 //! cargo run --release --offline --bin compare -- [--seed N] [--scale N] [group ...]
 //!
-//! `--features queries` adds the group of the questions; without the feature
-//! `readers`, on by default, only hashes and catalogue lines are compared.
-//!
 //! Runs the named groups, or all of them. The group `listing` runs the program
 //! that HIVESADDLE_PROGRAM names, and is left out of all where none is named.
 //! The last line is `N passed, M failed`, where N and M count comparisons.

@@ -2,7 +2,6 @@
 //! allocated and no section is looked at more often than the checks need. It
 //! is what the benchmarks hold the library to.
 
-#[cfg(feature = "queries")]
 pub mod search;
 
 use hivesaddle::{Record, Refusal};

@@ -26,6 +26,10 @@ signatureFault b = faultAt 0 (not (eqb (le 4 b 4) 0x41434353))
 abbrev pub declaredSize : List ℕ → ℕ
 declaredSize b = le 4 b 12
 
+-- the stored hash
+abbrev pub storedHash : List ℕ → ℕ
+storedHash b = le 4 b 76
+
 -- 3: S below H or above 16,777,215
 unfoldable pub sizeFault : Version → List ℕ → Found
 sizeFault v b = faultAt 0 (ltb (declaredSize b) (layoutOf v .head) || ltb sizeLimit (declaredSize b))

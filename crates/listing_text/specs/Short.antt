@@ -23,11 +23,12 @@ use Rattle.reader.specs.Verdict.{Acceptable}
 use Rattle.reader.specs.Checks.{fileAnswer}
 use Rattle.reader.specs.declared.verdict.Acceptance.{Acceptance}
 use Rattle.query.specs.Queries.{asked}
-use Rattle.query.specs.Search.{storedHash, reportOf, entryNumbers, firstMatch, reported, pathFound}
+use Rattle.query.specs.Search.{reportOf, entryNumbers, firstMatch, reported, pathFound}
 use Rattle.query.specs.declared.search.Report.{Report}
 use Rattle.query.specs.declared.search.Report.the-variants as report
 use Rattle.query.specs.declared.search.PathAnswer.the-variants as pathAnswer
 use Rattle.lists.specs.Count.{pick}
+use Rattle.head.specs.Fields.{storedHash}
 use Rattle.listing_text.specs.Decimal.{decimal}
 use Rattle.listing_text.specs.DecimalLaws.{decimal-digit, decimal-more}
 use Rattle.listing_text.specs.Listing.{line, too-long, reportWord, pathText, acceptedText, refusedText, answerText, fileLimit, listing, room}

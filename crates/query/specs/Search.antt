@@ -9,6 +9,7 @@ use Rattle.lists.specs.declared.Found.the-variants.{At, Nothing}
 use Rattle.little_endian.specs.Number.{le}
 use Rattle.layout.specs.declared.Version.{Version}
 use Rattle.layout.specs.declared.Version.the-variants.{V17, V23, V26}
+use Rattle.head.specs.Fields.{storedHash}
 use Rattle.incremental.specs.Plan.{run}
 use Rattle.path_hash.specs.Hash.{xp, vista, hash2008, units}
 use Rattle.head.specs.Checks.{openPlan}
@@ -22,10 +23,6 @@ use Rattle.query.specs.declared.search.PathAnswer.the-variants as pathAn
 -- the numbers that a name's bytes give to the hash: each 16-bit unit is one number
 abbrev pub numbersOf : List ℕ → List ℕ
 numbersOf name = units name
-
--- the stored hash
-abbrev pub storedHash : List ℕ → ℕ
-storedHash p = le 4 p 76
 
 -- version 17 uses XP, 26 uses 2008, and 23 either of Vista and 2008
 abbrev pub matches : Version → List ℕ → ℕ → Bool

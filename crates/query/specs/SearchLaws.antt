@@ -20,13 +20,13 @@ use Rattle.layout.specs.declared.Layout.{Layout}
 use Rattle.path_hash.specs.Hash.{xp, vista, hash2008}
 use Rattle.incremental.specs.Decision.{accept}
 use Rattle.incremental.specs.Plan.{decided, run}
-use Rattle.head.specs.Fields.{part}
+use Rattle.head.specs.Fields.{storedHash, part}
 use Rattle.head.specs.Checks.{openPlan}
 use Rattle.head.specs.Facts.{OpenFacts, open-shapes}
 use Rattle.head.specs.declared.checks.Opening.{Opening}
 use Rattle.names.specs.Names.{sound}
 use Rattle.query.specs.Queries.{bytesAt, entryShown, namePlace}
-use Rattle.query.specs.Search.{numbersOf, storedHash, matches, reportOf, entryNumbers, firstMatch, reported, pathFound}
+use Rattle.query.specs.Search.{numbersOf, matches, reportOf, entryNumbers, firstMatch, reported, pathFound}
 use Rattle.query.specs.Parts.{nameSound, nameIn, nameShown, oneHash, twoHashes, matchOf, numbersIn, matchIn, testIn, entriesIn, reportedIn, searched}
 use Rattle.query.specs.QueryLaws.{both, name-shown, name-hidden, name-inside, part-there, part-low, part-bytes}
 use Rattle.query.specs.declared.entries.Place.{Place}

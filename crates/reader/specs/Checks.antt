@@ -9,7 +9,7 @@ use Rattle.little_endian.specs.Number.{le}
 use Rattle.layout.specs.Versions.{layoutOf, versionNumber}
 use Rattle.incremental.specs.Decision.{Decision, accept, refuse, refusal}
 use Rattle.incremental.specs.Plan.{Plan, decide, await, andThen, Answer, decided, wants, run}
-use Rattle.head.specs.Fields.{faultAt, part, declaredSize}
+use Rattle.head.specs.Fields.{faultAt, part, declaredSize, storedHash}
 use Rattle.head.specs.Checks.{stop, row, openPlan}
 use Rattle.head.specs.declared.checks.Opening.{Opening}
 use Rattle.names.specs.Names.{firstMisfit, firstUnsound}
@@ -30,7 +30,7 @@ recordOf o b chains =
       version = versionNumber (o .version);
       size = declaredSize b;
       units = o .units;
-      hash = le 4 b 76;
+      hash = storedHash b;
       time = le 8 b (layoutOf (o .version) .time);
       runs = le 4 b (layoutOf (o .version) .runs);
       metrics = o .head .metrics .count;

@@ -8,21 +8,17 @@
 
 mod catalogue;
 mod hashes;
-#[cfg(feature = "queries")]
 mod queries;
 pub mod raw;
-#[cfg(feature = "readers")]
 mod readers;
 
 pub use catalogue::{catalogue_read, catalogue_write, CatalogueFields, CATALOGUE_LINE_LENGTH};
 pub use hashes::{
     hash_2008, hash_2008_units, hash_vista, hash_vista_units, hash_xp, hash_xp_units,
 };
-#[cfg(feature = "queries")]
 pub use queries::{
     entry_name, find_path, program_name, reference, volume, FoundPath, Reference, Report, Volume,
 };
-#[cfg(feature = "readers")]
 pub use readers::{read_file, read_prefix, Record, Verdict};
 
 /// What a working place holds where no entry is named, and everywhere after

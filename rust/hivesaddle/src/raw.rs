@@ -29,7 +29,6 @@ extern "C" {
     ) -> u32;
 }
 
-#[cfg(feature = "readers")]
 extern "C" {
     /// 0 accepted, 1 refused, 2 more bytes wanted. `out`: refusal number,
     /// refusal index, bytes wanted, version, declared size, name units, stored
@@ -55,7 +54,6 @@ extern "C" {
 }
 
 // Each gives 1 for a yes and 0 for a no.
-#[cfg(feature = "queries")]
 extern "C" {
     /// `out`: offset in the file, length in bytes.
     pub fn hs_program_name(file: *const u8, length: usize, out: *mut u64, out_length: usize)

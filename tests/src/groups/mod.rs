@@ -5,20 +5,13 @@ use crate::tally::Tally;
 
 mod catalogue;
 mod hashes;
-#[cfg(feature = "readers")]
 mod links;
 pub mod listing;
-#[cfg(feature = "readers")]
 mod prefixes;
-#[cfg(feature = "queries")]
 mod queries;
-#[cfg(feature = "queries")]
 mod query_points;
-#[cfg(feature = "readers")]
 mod reader_points;
-#[cfg(feature = "readers")]
 mod readers;
-#[cfg(feature = "readers")]
 mod volumes;
 
 /// What a run is asked for.
@@ -41,15 +34,10 @@ pub type Group = (&'static str, fn(&Run, &mut Tally));
 pub const GROUPS: &[Group] = &[
     ("hashes", hashes::run),
     ("catalogue", catalogue::run),
-    #[cfg(feature = "readers")]
     ("readers", readers::run),
-    #[cfg(feature = "readers")]
     ("prefixes", prefixes::run),
-    #[cfg(feature = "readers")]
     ("links", links::run),
-    #[cfg(feature = "readers")]
     ("volumes", volumes::run),
-    #[cfg(feature = "queries")]
     ("queries", queries::run),
     ("listing", listing::run),
 ];

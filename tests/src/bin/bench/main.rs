@@ -25,14 +25,10 @@
 //! The two run turn and turn about on the same input, and medians are shown.
 
 mod hashes;
-#[cfg(feature = "readers")]
 mod overlap;
-#[cfg(feature = "readers")]
 mod readers;
-#[cfg(feature = "queries")]
 mod search;
 mod timing;
-#[cfg(feature = "readers")]
 mod trace;
 
 use std::process::ExitCode;
@@ -40,13 +36,9 @@ use std::process::ExitCode;
 fn main() -> ExitCode {
     match std::env::args().nth(1).as_deref() {
         Some("hashes") => hashes::run(),
-        #[cfg(feature = "readers")]
         Some("readers") => readers::run(),
-        #[cfg(feature = "readers")]
         Some("trace") => trace::run(),
-        #[cfg(feature = "readers")]
         Some("overlap") => overlap::run(),
-        #[cfg(feature = "queries")]
         Some("search") => search::run(),
         _ => {
             eprintln!("bench hashes | readers | trace | overlap | search");
