@@ -68,7 +68,10 @@ some-more p n = go (p n) (some p n)
 
 pub some-eight : (p : ℕ → Bool) → (((((((p 0 || p 1) || p 2) || p 3) || p 4) || p 5) || p 6) || p 7) ≡ some p 8
 unfolding some
-some-eight p = sym (some-more p 7 ∙ ap (λ b. b || p 7) (some-more p 6 ∙ ap (λ b. b || p 6) (some-more p 5 ∙ ap (λ b. b || p 5) (some-more p 4 ∙ ap (λ b. b || p 4) (some-more p 3 ∙ ap (λ b. b || p 3) (some-more p 2 ∙ ap (λ b. b || p 2) (some-more p 1 ∙ ap (λ b. b || p 1) (some-more p 0))))))))
+some-eight p = sym (next 7 (next 6 (next 5 (next 4 (next 3 (next 2 (next 1 (some-more p 0))))))))
+  where
+    next : (n : ℕ) {a : Bool} → some p n ≡ a → some p (suc n) ≡ (a || p n)
+    next n e = some-more p n ∙ ap (λ b. b || p n) e
 
 -- one number more
 pub count-yes : (p : ℕ → Bool) (n : ℕ) → p n ≡ true → count p (suc n) ≡ suc (count p n)
