@@ -10,8 +10,8 @@ use Rattle.layout.specs.declared.KnownVersion.{KnownVersion}
 use Rattle.layout.specs.declared.KnownVersion.the-variants.{Known, Unknown}
 use Rattle.incremental.specs.Decision.{accept, refuse, refusal}
 use Rattle.incremental.specs.Plan.{Plan, decide, await, andThen, Answer, decided, wants}
-use Rattle.head.specs.Fields.{signatureFault, sizeFault, nameEnd, headOf, firstOutside, firstShared}
-use Rattle.head.specs.declared.fields.Head.{Head}
+use Rattle.sections.specs.Fields.{signatureFault, sizeFault, nameEnd, headOf, firstOutside, firstShared}
+use Rattle.sections.specs.declared.Head.{Head}
 use Rattle.head.specs.declared.checks.Start.{Start}
 use Rattle.head.specs.declared.checks.StartAnswer.{StartAnswer}
 use Rattle.head.specs.declared.checks.StartAnswer.the-variants as startAnswer

@@ -23,15 +23,15 @@ use Rattle.layout.specs.declared.KnownVersion.{KnownVersion}
 use Rattle.layout.specs.declared.KnownVersion.the-variants.{Known, Unknown}
 use Rattle.incremental.specs.Decision.{accept, refuse, refusal}
 use Rattle.incremental.specs.Plan.{Plan, decided, run, run-then, await-here, decide-it, Holds, holds-accept, holds-refuse, holds-await, holds-then, Decided, decided-decide, decided-await, decided-then}
-use Rattle.head.specs.declared.fields.Section.{Section}
-use Rattle.head.specs.declared.fields.Head.{Head}
+use Rattle.sections.specs.declared.Section.{Section}
+use Rattle.sections.specs.declared.Head.{Head}
 use Rattle.head.specs.declared.checks.Start.{Start}
 use Rattle.head.specs.declared.checks.StartAnswer.{StartAnswer}
 use Rattle.head.specs.declared.checks.StartAnswer.the-variants as startAnswer
 use Rattle.head.specs.declared.checks.Opening.{Opening}
 use Rattle.head.specs.declared.checks.OpenAnswer.{OpenAnswer}
 use Rattle.head.specs.declared.checks.OpenAnswer.the-variants as openAnswer
-use Rattle.head.specs.Fields.{faultAt, signatureFault, declaredSize, sizeFault, nameEnd, sectionOf, headOf, part, outside, firstOutside, shares, firstShared}
+use Rattle.sections.specs.Fields.{faultAt, signatureFault, declaredSize, sizeFault, nameEnd, sectionOf, headOf, part, outside, firstOutside, shares, firstShared}
 use Rattle.head.specs.Checks.{stop, byName, namePlan, sizePlan, signaturePlan, byVersion, startPlan, sectionPlan, headPlan, openPlan, startOf, openOf}
 use Rattle.head.specs.Steps.{stop-miss, name-hit, version-hit, head-on}
 

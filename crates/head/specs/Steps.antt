@@ -13,7 +13,7 @@ use Rattle.layout.specs.declared.KnownVersion.the-variants.{Known, Unknown}
 use Rattle.incremental.specs.Decision.{accept, refuse, refusal}
 use Rattle.incremental.specs.Plan.{Plan, await, andThen, Answer, decided, wants, run, run-here, run-short, run-then, run-steps}
 use Rattle.incremental.specs.declared.Refusal.{Refusal}
-use Rattle.head.specs.declared.fields.Head.{Head}
+use Rattle.sections.specs.declared.Head.{Head}
 use Rattle.head.specs.declared.checks.Start.{Start}
 use Rattle.head.specs.declared.checks.StartAnswer.{StartAnswer}
 use Rattle.head.specs.declared.checks.StartAnswer.the-variants as startAnswer

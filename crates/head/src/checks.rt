@@ -1,12 +1,12 @@
 ghost use mathlib.Core.Path.{_≡_};
 ghost use Rattle.incremental.specs.Plan.{run};
 ghost use Rattle.head.specs.Checks.{startOf, openOf, namePlan, sizePlan, signaturePlan, startPlan, sectionPlan, headPlan, openPlan};
-use crate::fields::Head;
 use incremental::Refusal;
 use layout::KnownVersion;
 use layout::Layout;
 use layout::Version;
 use lists::Found;
+use sections::Head;
 
 // What checks 1 to 4 give: the version, and the name's units before its first zero.
 pub struct Start {
@@ -39,7 +39,7 @@ fn check_name(file: &[u8], v: Version) -> StartAnswer
     if file.len() < 76 {
         return StartAnswer::Wanted(76);
     }
-    match crate::fields::name_end(&file[..76]) {
+    match sections::name_end(&file[..76]) {
         Found::At(units) => StartAnswer::Started(Start {
             version: v,
             units: units,
@@ -57,7 +57,7 @@ fn check_size(file: &[u8], v: Version) -> StartAnswer
     if file.len() < 16 {
         return StartAnswer::Wanted(16);
     }
-    if let Found::At(i) = crate::fields::size_fault(&file[..16], v) {
+    if let Found::At(i) = sections::size_fault(&file[..16], v) {
         return StartAnswer::Refused(Refusal {
             number: 3,
             index: i,
@@ -72,7 +72,7 @@ fn check_signature(file: &[u8], v: Version) -> StartAnswer
     if file.len() < 8 {
         return StartAnswer::Wanted(8);
     }
-    if let Found::At(i) = crate::fields::signature_fault(&file[..8]) {
+    if let Found::At(i) = sections::signature_fault(&file[..8]) {
         return StartAnswer::Refused(Refusal {
             number: 2,
             index: i,
@@ -102,13 +102,13 @@ fn check_sections(file: &[u8], s: Start, h: Head) -> OpenAnswer
     ensures { λ r. ⌜ openOf r ≡ run (sectionPlan s h) (now (file .entry)) ⌝ }
 {
     let v = s.version;
-    if let Found::At(i) = crate::fields::first_outside(v, h) {
+    if let Found::At(i) = sections::first_outside(v, h) {
         return OpenAnswer::Refused(Refusal {
             number: 5,
             index: i,
         });
     }
-    if let Found::At(i) = crate::fields::first_shared(h) {
+    if let Found::At(i) = sections::first_shared(h) {
         return OpenAnswer::Refused(Refusal {
             number: 6,
             index: i,
@@ -129,7 +129,7 @@ fn check_head(file: &[u8], s: Start) -> OpenAnswer
     if file.len() < required {
         return OpenAnswer::Wanted(required);
     }
-    let h = crate::fields::head_of(v, &file[..required]);
+    let h = sections::head_of(v, &file[..required]);
     check_sections(file, s, h)
 }
 

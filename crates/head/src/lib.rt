@@ -1,6 +1,5 @@
 // The head of a file and its sections: checks 1 to 6.
 mod checks;
-mod fields;
 
 pub use checks::OpenAnswer;
 pub use checks::Opening;
@@ -8,6 +7,3 @@ pub use checks::Start;
 pub use checks::StartAnswer;
 pub use checks::read_open;
 pub use checks::read_start;
-pub use fields::Head;
-pub use fields::Section;
-pub use fields::part_of;

@@ -22,11 +22,11 @@ use Rattle.layout.specs.declared.KnownVersion.the-variants.{Known, Unknown}
 use Rattle.incremental.specs.Decision.{Decision, accept, refuse, refusal, check}
 use Rattle.incremental.specs.Plan.{Plan, decide, await, andThen, Answer, decided, wants, run, onward, run-here, run-short, run-then}
 use Rattle.incremental.specs.declared.Refusal.{Refusal}
-use Rattle.head.specs.Fields.{faultAt, signatureFault, declaredSize, sizeFault, nameEnd, headOf, outside, firstOutside, shares, firstShared, part}
+use Rattle.sections.specs.Fields.{faultAt, signatureFault, declaredSize, sizeFault, nameEnd, headOf, outside, firstOutside, shares, firstShared, part}
 use Rattle.head.specs.Checks.{stop, byName, namePlan, sizePlan, signaturePlan, byVersion, startPlan, sectionPlan, headPlan, openPlan}
 use Rattle.head.specs.Facts.{OpenFacts, open-facts, name-law}
 use Rattle.head.specs.declared.checks.Opening.{Opening}
-use Rattle.head.specs.declared.fields.Head.{Head}
+use Rattle.sections.specs.declared.Head.{Head}
 use Rattle.names.specs.Names.{firstMisfit, firstUnsound}
 use Rattle.trace.specs.Links.{namers, astray, shared, cyclic, linkChecks, chains}
 use Rattle.trace.specs.Accepted.{accepted}

@@ -28,7 +28,7 @@ use Rattle.query.specs.declared.search.Report.{Report}
 use Rattle.query.specs.declared.search.Report.the-variants as report
 use Rattle.query.specs.declared.search.PathAnswer.the-variants as pathAnswer
 use Rattle.lists.specs.Count.{pick}
-use Rattle.head.specs.Fields.{storedHash}
+use Rattle.sections.specs.Fields.{storedHash}
 use Rattle.listing_text.specs.Decimal.{decimal}
 use Rattle.listing_text.specs.DecimalLaws.{decimal-digit, decimal-more}
 use Rattle.listing_text.specs.Listing.{line, too-long, reportWord, pathText, acceptedText, refusedText, answerText, fileLimit, listing, room}

@@ -6,7 +6,7 @@ use Rattle.little_endian.specs.Number.{le}
 use Rattle.layout.specs.Versions.{versionOf}
 use Rattle.incremental.specs.Decision.{refuse, refusal}
 use Rattle.incremental.specs.Plan.{decided, wants, run, andThen}
-use Rattle.head.specs.Fields.{signatureFault, sizeFault}
+use Rattle.sections.specs.Fields.{signatureFault, sizeFault}
 use Rattle.head.specs.Checks.{openPlan, startPlan, signaturePlan, sizePlan}
 use Rattle.path_hash.specs.Points.{HashPoints, hash-points}
 use Rattle.catalogue.specs.Points.{LinePoints, line-points}

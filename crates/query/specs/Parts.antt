@@ -10,8 +10,8 @@ use Rattle.lists.specs.declared.Found.{Found}
 use Rattle.lists.specs.declared.Found.the-variants.{At, Nothing}
 use Rattle.layout.specs.Versions.{layoutOf}
 use Rattle.layout.specs.declared.Version.{Version}
-use Rattle.head.specs.Fields.{part}
-use Rattle.head.specs.declared.fields.Section.{Section}
+use Rattle.sections.specs.Fields.{part}
+use Rattle.sections.specs.declared.Section.{Section}
 use Rattle.head.specs.declared.checks.Opening.{Opening}
 use Rattle.names.specs.Names.{sound, nameAt, nameUnits}
 use Rattle.volumes.specs.Volumes.{volumeChecks, referenceOf, entryAt}

@@ -8,7 +8,7 @@ use Rattle.lists.specs.Count.{pick}
 use Rattle.layout.specs.Versions.{layoutOf}
 use Rattle.incremental.specs.Decision.{Decision, accept, refuse}
 use Rattle.incremental.specs.Plan.{Answer, decided, wants, run}
-use Rattle.head.specs.Fields.{part}
+use Rattle.sections.specs.Fields.{part}
 use Rattle.head.specs.Checks.{startPlan, openPlan}
 use Rattle.head.specs.declared.checks.Opening.{Opening}
 use Rattle.names.specs.Names.{sound, nameAt, nameUnits}

@@ -23,10 +23,10 @@ use Rattle.incremental.specs.Plan.{Plan, run}
 use Rattle.incremental.specs.declared.Refusal.{Refusal}
 use Rattle.incremental.specs.declared.Checked.{Checked}
 use Rattle.incremental.specs.declared.Checked.the-variants as checked
-use Rattle.head.specs.Fields.{part}
+use Rattle.sections.specs.Fields.{part}
 use Rattle.head.specs.Checks.{startOf, openOf}
 use Rattle.head.specs.Facts.{OpenFacts, open-met, open-shapes}
-use Rattle.head.specs.declared.fields.Section.{Section}
+use Rattle.sections.specs.declared.Section.{Section}
 use Rattle.head.specs.declared.checks.Start.{Start}
 use Rattle.head.specs.declared.checks.StartAnswer.{StartAnswer}
 use Rattle.head.specs.declared.checks.StartAnswer.the-variants as startAnswer

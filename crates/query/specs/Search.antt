@@ -6,10 +6,9 @@ use lib.Dec.{eqb}
 use Rattle.lists.specs.First.{first}
 use Rattle.lists.specs.declared.Found.{Found}
 use Rattle.lists.specs.declared.Found.the-variants.{At, Nothing}
-use Rattle.little_endian.specs.Number.{le}
 use Rattle.layout.specs.declared.Version.{Version}
 use Rattle.layout.specs.declared.Version.the-variants.{V17, V23, V26}
-use Rattle.head.specs.Fields.{storedHash}
+use Rattle.sections.specs.Fields.{storedHash}
 use Rattle.incremental.specs.Plan.{run}
 use Rattle.path_hash.specs.Hash.{xp, vista, hash2008, units}
 use Rattle.head.specs.Checks.{openPlan}

@@ -20,7 +20,7 @@ use Rattle.layout.specs.declared.Layout.{Layout}
 use Rattle.path_hash.specs.Hash.{xp, vista, hash2008}
 use Rattle.incremental.specs.Decision.{accept}
 use Rattle.incremental.specs.Plan.{decided, run}
-use Rattle.head.specs.Fields.{storedHash, part}
+use Rattle.sections.specs.Fields.{storedHash, part}
 use Rattle.head.specs.Checks.{openPlan}
 use Rattle.head.specs.Facts.{OpenFacts, open-shapes}
 use Rattle.head.specs.declared.checks.Opening.{Opening}

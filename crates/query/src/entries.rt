@@ -4,11 +4,11 @@ ghost use Rattle.query.specs.Queries.{programPlace, entryPlace, placeOf,
 ghost use Rattle.query.specs.Parts.{nameShown, entryIn, sectionShown, volumeIn, referenceIn};
 use head::OpenAnswer;
 use head::Opening;
-use head::Section;
 use head::StartAnswer;
 use incremental::Checked;
 use layout::Layout;
 use layout::Version;
+use sections::Section;
 use volumes::Reference;
 
 // A part of the file: its offset and its length in bytes.
@@ -98,13 +98,13 @@ fn entry_in(file: &[u8], o: Opening, i: usize) -> PlaceAnswer
     if entries.count as usize <= i {
         return PlaceAnswer::NotShown;
     }
-    let metrics = head::part_of(file, entries);
+    let metrics = sections::part_of(file, entries);
     let layout = Layout::of(version);
     if metrics.len() < (i + 1) * layout.metric {
         return PlaceAnswer::NotShown;
     }
     let text = h.strings;
-    let strings = head::part_of(file, text);
+    let strings = sections::part_of(file, text);
     match name_shown(metrics, strings, version, i as u32) {
         PlaceAnswer::Shown(w) => PlaceAnswer::Shown(Place {
             at: text.at + w.at,
@@ -160,7 +160,7 @@ fn volume_in(file: &[u8], o: Opening, i: usize) -> VolumeAnswer
     let version = o.version;
     let h = o.head;
     let s = h.volumes;
-    let section = head::part_of(file, s);
+    let section = sections::part_of(file, s);
     if !section_shown(s, version, section, i) {
         return VolumeAnswer::NotShown;
     }
@@ -208,7 +208,7 @@ fn reference_in(file: &[u8], o: Opening, i: usize, k: usize) -> ReferenceAnswer
     let version = o.version;
     let h = o.head;
     let s = h.volumes;
-    let section = head::part_of(file, s);
+    let section = sections::part_of(file, s);
     if !section_shown(s, version, section, i) {
         return ReferenceAnswer::NotShown;
     }

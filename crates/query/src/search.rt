@@ -113,8 +113,8 @@ fn path_in(file: &[u8], o: Opening) -> PathAnswer
     let h = o.head;
     let entries = h.metrics;
     let text = h.strings;
-    let metrics = head::part_of(file, entries);
-    let strings = head::part_of(file, text);
+    let metrics = sections::part_of(file, entries);
+    let strings = sections::part_of(file, text);
     let stored = little_endian::u32_at(file, 76);
     search(metrics, strings, version, stored)
 }

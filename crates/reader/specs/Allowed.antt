@@ -12,10 +12,10 @@ use Rattle.little_endian.specs.Number.{le}
 use Rattle.layout.specs.Versions.{versionOf, layoutOf, sizeLimit, layout-sound}
 use Rattle.layout.specs.declared.KnownVersion.the-variants.{Known}
 use Rattle.incremental.specs.Plan.{Answer}
-use Rattle.head.specs.Fields.{declaredSize, headOf, part}
+use Rattle.sections.specs.Fields.{declaredSize, headOf, part}
 use Rattle.head.specs.Facts.{NameEnds, Inside, Apart, Within, OpenFacts, Shapes, head-shapes, signature-law, outside-law, shares-law}
-use Rattle.head.specs.declared.fields.Section.{Section}
-use Rattle.head.specs.declared.fields.Head.{Head}
+use Rattle.sections.specs.declared.Section.{Section}
+use Rattle.sections.specs.declared.Head.{Head}
 use Rattle.head.specs.declared.checks.Opening.{Opening}
 use Rattle.names.specs.Names.{nameAt, nameUnits}
 use Rattle.names.specs.NameLaws.{SoundName}

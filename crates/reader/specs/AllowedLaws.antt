@@ -19,7 +19,7 @@ use Rattle.layout.specs.Versions.{layoutOf, layout-sound}
 use Rattle.layout.specs.declared.Version.{Version}
 use Rattle.incremental.specs.Decision.{Decision, accept, refuse}
 use Rattle.incremental.specs.Plan.{decide, andThen, Answer, decided, wants, run, run-then, run-decide, await-here, Holds, holds-await, holds-then, holds-accept}
-use Rattle.head.specs.Fields.{declaredSize, headOf, part, faultAt, nameEnd}
+use Rattle.sections.specs.Fields.{declaredSize, headOf, part, faultAt, nameEnd}
 use Rattle.head.specs.Checks.{openPlan}
 use Rattle.head.specs.Steps.{stop-miss}
 use Rattle.head.specs.Facts.{OpenFacts, open-facts, open-complete, NameEnds, name-law, open-shapes, part-length, part-take, holds-stop}

@@ -9,7 +9,7 @@ use Rattle.little_endian.specs.Number.{le}
 use Rattle.layout.specs.Versions.{layoutOf, versionNumber}
 use Rattle.incremental.specs.Decision.{Decision, accept, refuse, refusal}
 use Rattle.incremental.specs.Plan.{Plan, decide, await, andThen, Answer, decided, wants, run}
-use Rattle.head.specs.Fields.{faultAt, part, declaredSize, storedHash}
+use Rattle.sections.specs.Fields.{faultAt, part, declaredSize, storedHash}
 use Rattle.head.specs.Checks.{stop, row, openPlan}
 use Rattle.head.specs.declared.checks.Opening.{Opening}
 use Rattle.names.specs.Names.{firstMisfit, firstUnsound}

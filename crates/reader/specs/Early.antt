@@ -15,7 +15,7 @@ use Rattle.layout.specs.Versions.{layoutOf}
 use Rattle.incremental.specs.Decision.{Decision, accept, refuse}
 use Rattle.incremental.specs.Plan.{decide, Answer, decided, wants, run, stands, begins-take, Decided, decided-decide, decided-await, decided-then}
 use Rattle.incremental.specs.declared.Refusal.{Refusal}
-use Rattle.head.specs.Fields.{declaredSize, faultAt, part}
+use Rattle.sections.specs.Fields.{declaredSize, faultAt, part}
 use Rattle.head.specs.Checks.{openPlan}
 use Rattle.head.specs.Facts.{OpenFacts, open-facts, decided-open, decided-stop}
 use Rattle.head.specs.declared.checks.Opening.{Opening}

@@ -16,7 +16,7 @@ use Rattle.incremental.specs.Plan.{Plan, decide, andThen, Answer, decided, want
 use Rattle.incremental.specs.declared.Refusal.{Refusal}
 use Rattle.incremental.specs.declared.Checked.{Checked}
 use Rattle.incremental.specs.declared.Checked.the-variants as checked
-use Rattle.head.specs.Fields.{part}
+use Rattle.sections.specs.Fields.{part}
 use Rattle.head.specs.Checks.{stop}
 use Rattle.head.specs.Steps.{stop-hit, stop-miss}
 use Rattle.head.specs.Facts.{OpenFacts, part-length, open-shapes}

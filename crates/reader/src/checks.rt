@@ -42,7 +42,11 @@ fn check_volumes(file: &[u8], o: Opening, a: Acceptance) -> Verdict
     if file.len() < required {
         return Verdict::Wanted(required);
     }
-    match volumes::check_volumes(head::part_of(&file[..required], section), v, section.count) {
+    match volumes::check_volumes(
+        sections::part_of(&file[..required], section),
+        v,
+        section.count,
+    ) {
         Checked::Passed => Verdict::Accepted(a),
         Checked::Refused(r) => Verdict::Refused(r),
     }
@@ -61,7 +65,7 @@ fn check_trace(file: &[u8], o: Opening, predecessors: &mut [u32]) -> Verdict
     if file.len() < required {
         return Verdict::Wanted(required);
     }
-    let links = head::part_of(&file[..required], section);
+    let links = sections::part_of(&file[..required], section);
     match trace::check_links(links, section.count, predecessors) {
         Links::Chains(n) => {
             let a = crate::verdict::record_of(o, &file[..h], n);
@@ -99,8 +103,8 @@ fn check_names(file: &[u8], o: Opening, predecessors: &mut [u32]) -> Verdict
     if file.len() < required {
         return Verdict::Wanted(required);
     }
-    let entries = head::part_of(&file[..required], metrics);
-    let text = head::part_of(&file[..required], strings);
+    let entries = sections::part_of(&file[..required], metrics);
+    let text = sections::part_of(&file[..required], strings);
     if let Found::At(i) = names::first_unsound(entries, v, metrics.count, text) {
         return Verdict::Refused(Refusal {
             number: 10,
@@ -123,7 +127,7 @@ fn check_metrics(file: &[u8], o: Opening, predecessors: &mut [u32]) -> Verdict
     if file.len() < required {
         return Verdict::Wanted(required);
     }
-    let entries = head::part_of(&file[..required], metrics);
+    let entries = sections::part_of(&file[..required], metrics);
     if let Found::At(i) = names::first_misfit(entries, v, metrics.count, size) {
         return Verdict::Refused(Refusal {
             number: 9,

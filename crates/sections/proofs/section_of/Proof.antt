@@ -1,0 +1,16 @@
+use borrow.Author.Tests.{eq-eqb, ne-eqb}
+use borrow.Author.Needs.{needs}
+use Rattle.sections.proofs.section_of.Statement.{statement}
+use Rattle.sections.proofs.section_of.Tie as tie
+
+add-t10 : tie.Need-add-t10
+add-t10 c = search needs
+
+returns : tie.Need-returns
+returns c = simp (eq-eqb _ _ (c .if1 .taken))
+
+returns-2 : tie.Need-returns-2
+returns-2 c = simp (ne-eqb _ _ (c .if1 .left))
+
+pub section-of-spec : {M : Type 1} → statement M
+section-of-spec = tie.close (tie.spec add-t10 returns returns-2)

@@ -1,0 +1,26 @@
+use Rattle.sections.proofs.Cases.{faults}
+use borrow.Author.Needs.{needs}
+use Rattle.sections.proofs.size_fault.Statement.{statement}
+use Rattle.sections.proofs.size_fault.Tie as tie
+
+u32-at-requires : tie.Need-u32-at-requires
+u32-at-requires c κs = search needs
+
+cast-if1 : tie.Need-cast-if1
+cast-if1 c = search needs
+
+of-requires : tie.Need-of-requires
+of-requires c κs = search needs
+
+returns : tie.Need-returns
+returns c = search faults
+
+returns-2 : tie.Need-returns-2
+returns-2 c = search faults
+
+returns-3 : tie.Need-returns-3
+returns-3 c = search faults
+
+pub size-fault-spec : {M : Type 1} → statement M
+size-fault-spec =
+    tie.close (tie.spec u32-at-requires cast-if1 of-requires returns returns-2 returns-3)
