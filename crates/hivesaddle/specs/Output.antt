@@ -11,16 +11,16 @@ use Rattle.lists.specs.Count.{pick}
 use Rattle.incremental.specs.Plan.{Answer}
 use Rattle.volumes.specs.declared.Reference.{Reference}
 use Rattle.query.specs.Queries.{placeOf, volumeValues, referenceValues}
-use Rattle.query.specs.Search.{reportNumber}
-use Rattle.query.specs.declared.entries.PlaceAnswer.{PlaceAnswer}
-use Rattle.query.specs.declared.entries.PlaceAnswer.the-variants as placeAnswer
-use Rattle.query.specs.declared.entries.VolumeFacts.{VolumeFacts}
-use Rattle.query.specs.declared.entries.VolumeAnswer.{VolumeAnswer}
-use Rattle.query.specs.declared.entries.VolumeAnswer.the-variants as volumeAnswer
-use Rattle.query.specs.declared.entries.ReferenceAnswer.{ReferenceAnswer}
-use Rattle.query.specs.declared.entries.ReferenceAnswer.the-variants as referenceAnswer
-use Rattle.query.specs.declared.search.PathAnswer.{PathAnswer}
-use Rattle.query.specs.declared.search.PathAnswer.the-variants as pathAnswer
+use Rattle.path_search.specs.Search.{reportNumber}
+use Rattle.query.specs.declared.PlaceAnswer.{PlaceAnswer}
+use Rattle.query.specs.declared.PlaceAnswer.the-variants as placeAnswer
+use Rattle.query.specs.declared.VolumeFacts.{VolumeFacts}
+use Rattle.query.specs.declared.VolumeAnswer.{VolumeAnswer}
+use Rattle.query.specs.declared.VolumeAnswer.the-variants as volumeAnswer
+use Rattle.query.specs.declared.ReferenceAnswer.{ReferenceAnswer}
+use Rattle.query.specs.declared.ReferenceAnswer.the-variants as referenceAnswer
+use Rattle.path_search.specs.declared.PathAnswer.{PathAnswer}
+use Rattle.path_search.specs.declared.PathAnswer.the-variants as pathAnswer
 use Rattle.reader.specs.Verdict.{Acceptable, Values, Reads, valuesOf, answerValues, bufferAfter}
 use Rattle.reader.specs.declared.verdict.Verdict.{Verdict}
 use Rattle.catalogue.specs.declared.Fields.{Fields}

@@ -7,16 +7,16 @@ ghost use lib.ListN.{length};
 ghost use Rattle.reader.specs.Verdict.{valuesOf, zeros};
 ghost use Rattle.reader.specs.Checks.{prefixAnswer, fileAnswer};
 ghost use Rattle.query.specs.Queries.{programPlace, entryPlace, volumeAsked, volumeValues, referenceAsked, referenceValues};
-ghost use Rattle.query.specs.Search.{pathFound, reportNumber};
+ghost use Rattle.path_search.specs.Search.{pathFound, reportNumber};
 ghost use Rattle.hivesaddle.specs.Output.{Answered, placeYes, placeValues, volumeYes, volumeList, referenceYes, referenceList, pathYes, pathValues, overlay, lineValues, fieldsOf, LineWriting, verdictValues, ReadOut};
 use catalogue::Fields;
 use catalogue::ReadLine;
 use catalogue::WrittenLine;
-use query::PathAnswer;
+use path_search::PathAnswer;
+use path_search::Report;
 use query::Place;
 use query::PlaceAnswer;
 use query::ReferenceAnswer;
-use query::Report;
 use query::VolumeAnswer;
 use query::VolumeFacts;
 use reader::Acceptance;
@@ -331,7 +331,7 @@ fn report_number(r: Report) -> u64
 pub extern "C" fn hs_find_path(file: &[u8], out: &mut [u64]) -> u32
     ensures { λ r. ⌜ Answered (pathYes (pathFound (now (file .entry)))) (pathValues (pathFound (now (file .entry)))) r (now (out .entry)) (now (out .exit)) ⌝ }
 {
-    match query::find_path(file) {
+    match path_search::find_path(file) {
         PathAnswer::Entry { index, report } => {
             put_two(out, index as u64, report_number(report));
             1

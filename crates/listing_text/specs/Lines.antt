@@ -15,8 +15,8 @@ use Rattle.reader.specs.Checks.{fileAnswer}
 use Rattle.reader.specs.declared.verdict.Acceptance.{Acceptance}
 use Rattle.reader.specs.declared.verdict.Verdict.{Verdict}
 use Rattle.reader.specs.declared.verdict.Verdict.the-variants.{Accepted, Refused, Wanted}
-use Rattle.query.specs.Search.{pathFound}
-use Rattle.query.specs.declared.search.PathAnswer.{PathAnswer}
+use Rattle.path_search.specs.Search.{pathFound}
+use Rattle.path_search.specs.declared.PathAnswer.{PathAnswer}
 use Rattle.listing_text.specs.Decimal.{decimal}
 use Rattle.listing_text.specs.Listing.{line, version·word, name·word, hash·word, runs·word, files·word, chains·word, volumes·word, path·word, refused·word, too-long, shownName, pathText, acceptedText, refusedText, answerText, fileLimit, listing, room, textOf, Listed}
 use Rattle.listing_text.specs.Bounds.{Bytes}

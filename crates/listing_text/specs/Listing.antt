@@ -14,11 +14,11 @@ use Rattle.incremental.specs.Plan.{Answer, decided, wants}
 use Rattle.reader.specs.Verdict.{Acceptable, bufferAfter}
 use Rattle.reader.specs.Checks.{fileAnswer}
 use Rattle.reader.specs.declared.verdict.Acceptance.{Acceptance}
-use Rattle.query.specs.Search.{pathFound}
-use Rattle.query.specs.declared.search.Report.{Report}
-use Rattle.query.specs.declared.search.Report.the-variants as report
-use Rattle.query.specs.declared.search.PathAnswer.{PathAnswer}
-use Rattle.query.specs.declared.search.PathAnswer.the-variants as pathAnswer
+use Rattle.path_search.specs.Search.{pathFound}
+use Rattle.path_search.specs.declared.Report.{Report}
+use Rattle.path_search.specs.declared.Report.the-variants as report
+use Rattle.path_search.specs.declared.PathAnswer.{PathAnswer}
+use Rattle.path_search.specs.declared.PathAnswer.the-variants as pathAnswer
 use Rattle.listing_text.specs.Decimal.{decimal}
 use Rattle.listing_text.specs.declared.Text.{Text}
 

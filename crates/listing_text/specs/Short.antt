@@ -23,10 +23,10 @@ use Rattle.reader.specs.Verdict.{Acceptable}
 use Rattle.reader.specs.Checks.{fileAnswer}
 use Rattle.reader.specs.declared.verdict.Acceptance.{Acceptance}
 use Rattle.query.specs.Queries.{asked}
-use Rattle.query.specs.Search.{reportOf, entryNumbers, firstMatch, reported, pathFound}
-use Rattle.query.specs.declared.search.Report.{Report}
-use Rattle.query.specs.declared.search.Report.the-variants as report
-use Rattle.query.specs.declared.search.PathAnswer.the-variants as pathAnswer
+use Rattle.path_search.specs.Search.{reportOf, entryNumbers, firstMatch, reported, pathFound}
+use Rattle.path_search.specs.declared.Report.{Report}
+use Rattle.path_search.specs.declared.Report.the-variants as report
+use Rattle.path_search.specs.declared.PathAnswer.the-variants as pathAnswer
 use Rattle.lists.specs.Count.{pick}
 use Rattle.sections.specs.Fields.{storedHash}
 use Rattle.listing_text.specs.Decimal.{decimal}

@@ -7,8 +7,8 @@ ghost use Rattle.listing_text.specs.Decimal.{decimal};
 ghost use Rattle.listing_text.specs.Listing.{textOf, Sound, line, name·word, hash·word, path·word, too-long, shownUnit, shownName, reportWord, pathText, acceptedText, refusedText, Listed};
 ghost use Rattle.listing_text.specs.Growth.{Grown, Shows};
 ghost use Rattle.listing_text.specs.Lines.{countLines};
-use query::PathAnswer;
-use query::Report;
+use path_search::PathAnswer;
+use path_search::Report;
 use reader::Acceptance;
 use reader::Verdict;
 
@@ -193,7 +193,7 @@ fn accepted_text(file: &[u8], a: Acceptance) -> Text
         .push_name_line(file, a.units)
         .push_hash_line(a.hash)
         .push_counts(a)
-        .push_path_line(query::find_path(file))
+        .push_path_line(path_search::find_path(file))
 }
 
 fn refused_text(number: u32, index: usize) -> Text

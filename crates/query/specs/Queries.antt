@@ -13,14 +13,14 @@ use Rattle.head.specs.Checks.{startPlan, openPlan}
 use Rattle.head.specs.declared.checks.Opening.{Opening}
 use Rattle.names.specs.Names.{sound, nameAt, nameUnits}
 use Rattle.volumes.specs.Volumes.{volumeChecks, volumeOf, referenceOf, entryAt}
-use Rattle.query.specs.declared.entries.Place.{Place}
-use Rattle.query.specs.declared.entries.PlaceAnswer.{PlaceAnswer}
-use Rattle.query.specs.declared.entries.PlaceAnswer.the-variants as placeAnswer
-use Rattle.query.specs.declared.entries.VolumeFacts.{VolumeFacts}
-use Rattle.query.specs.declared.entries.VolumeAnswer.{VolumeAnswer}
-use Rattle.query.specs.declared.entries.VolumeAnswer.the-variants as volumeAnswer
-use Rattle.query.specs.declared.entries.ReferenceAnswer.{ReferenceAnswer}
-use Rattle.query.specs.declared.entries.ReferenceAnswer.the-variants as referenceAnswer
+use Rattle.query.specs.declared.Place.{Place}
+use Rattle.query.specs.declared.PlaceAnswer.{PlaceAnswer}
+use Rattle.query.specs.declared.PlaceAnswer.the-variants as placeAnswer
+use Rattle.query.specs.declared.VolumeFacts.{VolumeFacts}
+use Rattle.query.specs.declared.VolumeAnswer.{VolumeAnswer}
+use Rattle.query.specs.declared.VolumeAnswer.the-variants as volumeAnswer
+use Rattle.query.specs.declared.ReferenceAnswer.{ReferenceAnswer}
+use Rattle.query.specs.declared.ReferenceAnswer.the-variants as referenceAnswer
 use Rattle.volumes.specs.declared.Reference.{Reference}
 
 -- what is asked of a file whose checks accept, and a no otherwise

@@ -41,13 +41,13 @@ use Rattle.volumes.specs.declared.Volume.{Volume}
 use Rattle.volumes.specs.declared.Reference.{Reference}
 use Rattle.query.specs.Queries.{asked, bytesAt, placeOf, entryShown, namePlace, accepts, volumeShown, volumeFacts, volumeValues, referenceShown}
 use Rattle.query.specs.Parts.{entryIn, nameSound, nameIn, nameShown, sectionShown, volumeIn, referenceIn}
-use Rattle.query.specs.declared.entries.Place.{Place}
-use Rattle.query.specs.declared.entries.PlaceAnswer.{PlaceAnswer}
-use Rattle.query.specs.declared.entries.PlaceAnswer.the-variants as placeAnswer
-use Rattle.query.specs.declared.entries.VolumeFacts.{VolumeFacts}
-use Rattle.query.specs.declared.entries.VolumeAnswer.{VolumeAnswer}
-use Rattle.query.specs.declared.entries.VolumeAnswer.the-variants as volumeAnswer
-use Rattle.query.specs.declared.entries.ReferenceAnswer.the-variants as referenceAnswer
+use Rattle.query.specs.declared.Place.{Place}
+use Rattle.query.specs.declared.PlaceAnswer.{PlaceAnswer}
+use Rattle.query.specs.declared.PlaceAnswer.the-variants as placeAnswer
+use Rattle.query.specs.declared.VolumeFacts.{VolumeFacts}
+use Rattle.query.specs.declared.VolumeAnswer.{VolumeAnswer}
+use Rattle.query.specs.declared.VolumeAnswer.the-variants as volumeAnswer
+use Rattle.query.specs.declared.ReferenceAnswer.the-variants as referenceAnswer
 
 -- What is asked of a file, by what a call for its checks gave: `r` is that answer, on which the code has matched.
 pub start-asked : {B : Type 0} (t : Plan Start) (p : List ℕ) (r : StartAnswer) (s : Start) (none v : B) (some : Start → B) → startOf r ≡ run t p → r ≡ startAnswer.Started s → v ≡ some s → v ≡ asked (run t p) none some

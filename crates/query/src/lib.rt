@@ -1,19 +1,231 @@
-// Questions about one entry of a file that is there in part or whole, and the path search.
-mod entries;
-mod search;
+// Questions about one entry of a file that is there in part or whole.
+ghost use mathlib.Core.Path.{_≡_};
+ghost use Rattle.head.specs.Facts.{OpenFacts};
+ghost use Rattle.query.specs.Queries.{programPlace, entryPlace, placeOf, bytesAt, volumeAsked, volumeValues, referenceAsked};
+ghost use Rattle.query.specs.Parts.{nameShown, entryIn, sectionShown, volumeIn, referenceIn};
+use head::OpenAnswer;
+use head::Opening;
+use head::StartAnswer;
+use incremental::Checked;
+use layout::Layout;
+use layout::Version;
+use sections::Section;
+use volumes::Reference;
 
-pub use entries::Place;
-pub use entries::PlaceAnswer;
-pub use entries::ReferenceAnswer;
-pub use entries::VolumeAnswer;
-pub use entries::VolumeFacts;
-pub use entries::entry_name;
-pub use entries::entry_place;
-pub use entries::program_name;
-pub use entries::program_place;
-pub use entries::reference;
-pub use entries::volume;
-pub use entries::volume_path;
-pub use search::PathAnswer;
-pub use search::Report;
-pub use search::find_path;
+// A part of the file: its offset and its length in bytes.
+pub struct Place {
+    pub at: usize,
+    pub len: usize,
+}
+
+pub enum PlaceAnswer {
+    Shown(Place),
+    NotShown,
+}
+
+pub struct VolumeFacts {
+    pub created: u64,
+    pub serial: u32,
+    pub references: u32,
+    pub directories: u32,
+    pub path: Place,
+}
+
+pub enum VolumeAnswer {
+    Shown(VolumeFacts),
+    NotShown,
+}
+
+pub enum ReferenceAnswer {
+    Shown(Reference),
+    NotShown,
+}
+
+// Where the program name stands, without its zero.
+pub fn program_place(file: &[u8]) -> PlaceAnswer
+    ensures { λ r. ⌜ r ≡ programPlace (now (file .entry)) ⌝ }
+{
+    match head::read_start(file) {
+        StartAnswer::Started(s) => PlaceAnswer::Shown(Place {
+            at: 16,
+            len: 2 * s.units,
+        }),
+        StartAnswer::Refused(_) => PlaceAnswer::NotShown,
+        StartAnswer::Wanted(_) => PlaceAnswer::NotShown,
+    }
+}
+
+// The bytes of the file at a place, and an empty part where there is none to show.
+fn part_shown(file: &[u8], answer: PlaceAnswer) -> &[u8]
+    ensures { λ r. ⌜ now r ≡ bytesAt (placeOf answer) (now (file .entry)) ⌝ }
+{
+    match answer {
+        PlaceAnswer::Shown(w) => lists::part(file, w.at, w.len),
+        PlaceAnswer::NotShown => &file[..0],
+    }
+}
+
+// The program name as the bytes of the file.
+pub fn program_name(file: &[u8]) -> &[u8]
+    ensures { λ r. ⌜ now r ≡ bytesAt (placeOf (programPlace (now (file .entry)))) (now (file .entry)) ⌝ }
+{
+    part_shown(file, program_place(file))
+}
+
+// The name of an entry that lies whole in the metrics, as a place of the strings section.
+pub fn name_shown(metrics: &[u8], strings: &[u8], version: Version, i: u32) -> PlaceAnswer
+    ensures { λ r. ⌜ r ≡ nameShown version (now (metrics .entry)) (now (strings .entry)) i ⌝ }
+{
+    let at = names::name_at(metrics, version, i);
+    let units = names::name_units(metrics, version, i);
+    if names::name_sound(strings, at, units) {
+        PlaceAnswer::Shown(Place {
+            at: at as usize,
+            len: 2 * (units as usize),
+        })
+    } else {
+        PlaceAnswer::NotShown
+    }
+}
+
+// Metrics entry i, where checks 1 to 6 pass. The index is below a 32-bit count before it is cast.
+fn entry_in(file: &[u8], o: Opening, i: usize) -> PlaceAnswer
+    requires { ⌜ OpenFacts (now file) o ⌝ }
+    ensures { λ r. ⌜ r ≡ entryIn o (now (file .entry)) i ⌝ }
+{
+    let version = o.version;
+    let h = o.head;
+    let entries = h.metrics;
+    if entries.count as usize <= i {
+        return PlaceAnswer::NotShown;
+    }
+    let metrics = sections::part_of(file, entries);
+    let layout = Layout::of(version);
+    if metrics.len() < (i + 1) * layout.metric {
+        return PlaceAnswer::NotShown;
+    }
+    let text = h.strings;
+    let strings = sections::part_of(file, text);
+    match name_shown(metrics, strings, version, i as u32) {
+        PlaceAnswer::Shown(w) => PlaceAnswer::Shown(Place {
+            at: text.at + w.at,
+            len: w.len,
+        }),
+        PlaceAnswer::NotShown => PlaceAnswer::NotShown,
+    }
+}
+
+// Where the name of metrics entry i stands, without its zero.
+pub fn entry_place(file: &[u8], i: usize) -> PlaceAnswer
+    ensures { λ r. ⌜ r ≡ entryPlace (now (file .entry)) i ⌝ }
+{
+    match head::read_open(file) {
+        OpenAnswer::Opened(o) => entry_in(file, o, i),
+        OpenAnswer::Refused(_) => PlaceAnswer::NotShown,
+        OpenAnswer::Wanted(_) => PlaceAnswer::NotShown,
+    }
+}
+
+// That name as the bytes of the file.
+pub fn entry_name(file: &[u8], i: usize) -> &[u8]
+    ensures { λ r. ⌜ now r ≡ bytesAt (placeOf (entryPlace (now (file .entry)) i)) (now (file .entry)) ⌝ }
+{
+    part_shown(file, entry_place(file, i))
+}
+
+// Whether volume i can be shown, on the bytes that are there of its section.
+fn section_shown(s: Section, version: Version, section: &[u8], i: usize) -> bool
+    ensures { λ r. ⌜ r ≡ sectionShown s version (now (section .entry)) i ⌝ }
+{
+    let layout = Layout::of(version);
+    if s.len < s.count as usize * layout.volume {
+        return false;
+    }
+    if s.count as usize <= i {
+        return false;
+    }
+    if section.len() < s.len {
+        return false;
+    }
+    match volumes::check_volume(section, version, i as u32) {
+        Checked::Passed => true,
+        Checked::Refused(_) => false,
+    }
+}
+
+// Volume i, where checks 1 to 6 pass.
+fn volume_in(file: &[u8], o: Opening, i: usize) -> VolumeAnswer
+    requires { ⌜ OpenFacts (now file) o ⌝ }
+    ensures { λ r. ⌜ r ≡ volumeIn o (now (file .entry)) i ⌝ }
+{
+    let version = o.version;
+    let h = o.head;
+    let s = h.volumes;
+    let section = sections::part_of(file, s);
+    if !section_shown(s, version, section, i) {
+        return VolumeAnswer::NotShown;
+    }
+    let v = volumes::volume_at(section, version, i as u32);
+    VolumeAnswer::Shown(VolumeFacts {
+        created: v.created,
+        serial: v.serial,
+        references: v.references,
+        directories: v.directories,
+        path: Place {
+            at: s.at + v.path,
+            len: 2 * v.units,
+        },
+    })
+}
+
+// The facts of volume i, its path as a place of the file.
+pub fn volume(file: &[u8], i: usize) -> VolumeAnswer
+    ensures { λ r. ⌜ r ≡ volumeAsked (now (file .entry)) i ⌝ }
+{
+    match head::read_open(file) {
+        OpenAnswer::Opened(o) => volume_in(file, o, i),
+        OpenAnswer::Refused(_) => VolumeAnswer::NotShown,
+        OpenAnswer::Wanted(_) => VolumeAnswer::NotShown,
+    }
+}
+
+// The path of volume i as the bytes of the file, and an empty part where there is none to show.
+pub fn volume_path(file: &[u8], i: usize) -> &[u8]
+    ensures { λ r. ⌜ now r ≡ bytesAt (volumeValues (volumeAsked (now (file .entry)) i) .path) (now (file .entry)) ⌝ }
+{
+    match volume(file, i) {
+        VolumeAnswer::Shown(v) => {
+            let w = v.path;
+            lists::part(file, w.at, w.len)
+        }
+        VolumeAnswer::NotShown => &file[..0],
+    }
+}
+
+// Reference k of volume i, where checks 1 to 6 pass.
+fn reference_in(file: &[u8], o: Opening, i: usize, k: usize) -> ReferenceAnswer
+    ensures { λ r. ⌜ r ≡ referenceIn o (now (file .entry)) i k ⌝ }
+{
+    let version = o.version;
+    let h = o.head;
+    let s = h.volumes;
+    let section = sections::part_of(file, s);
+    if !section_shown(s, version, section, i) {
+        return ReferenceAnswer::NotShown;
+    }
+    let v = volumes::volume_at(section, version, i as u32);
+    if v.references as usize <= k {
+        return ReferenceAnswer::NotShown;
+    }
+    ReferenceAnswer::Shown(volumes::reference_at(section, version, i as u32, k as u32))
+}
+
+pub fn reference(file: &[u8], i: usize, k: usize) -> ReferenceAnswer
+    ensures { λ r. ⌜ r ≡ referenceAsked (now (file .entry)) i k ⌝ }
+{
+    match head::read_open(file) {
+        OpenAnswer::Opened(o) => reference_in(file, o, i, k),
+        OpenAnswer::Refused(_) => ReferenceAnswer::NotShown,
+        OpenAnswer::Wanted(_) => ReferenceAnswer::NotShown,
+    }
+}

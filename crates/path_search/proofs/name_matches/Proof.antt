@@ -1,0 +1,61 @@
+use Rattle.path_search.specs.SearchLaws.{by-version}
+use borrow.Author.Needs.{needs}
+use Rattle.path_search.proofs.name_matches.Statement.{statement}
+use Rattle.path_search.proofs.name_matches.Tie as tie
+
+enum-told : tie.Need-enum-told
+enum-told c = search needs
+
+xp-hash-units-requires : tie.Need-xp-hash-units-requires
+xp-hash-units-requires c κs = search needs
+
+one-hash-requires : tie.Need-one-hash-requires
+one-hash-requires c κs = search needs
+
+enum-told-2 : tie.Need-enum-told-2
+enum-told-2 c = search needs
+
+vista-hash-units-requires : tie.Need-vista-hash-units-requires
+vista-hash-units-requires c κs = search needs
+
+hash-2008-units-requires : tie.Need-hash-2008-units-requires
+hash-2008-units-requires c κs = search needs
+
+two-hashes-requires : tie.Need-two-hashes-requires
+two-hashes-requires c κs = search needs
+
+enum-told-3 : tie.Need-enum-told-3
+enum-told-3 c = search needs
+
+hash-2008-units-requires-2 : tie.Need-hash-2008-units-requires-2
+hash-2008-units-requires-2 c κs = search needs
+
+one-hash-requires-2 : tie.Need-one-hash-requires-2
+one-hash-requires-2 c κs = search needs
+
+returns : tie.Need-returns
+returns c = search by-version
+
+returns-2 : tie.Need-returns-2
+returns-2 c = search by-version
+
+returns-3 : tie.Need-returns-3
+returns-3 c = search by-version
+
+pub name-matches-spec : {M : Type 1} → statement M
+name-matches-spec =
+    tie.close
+    (tie.spec
+    enum-told
+    xp-hash-units-requires
+    one-hash-requires
+    enum-told-2
+    vista-hash-units-requires
+    hash-2008-units-requires
+    two-hashes-requires
+    enum-told-3
+    hash-2008-units-requires-2
+    one-hash-requires-2
+    returns
+    returns-2
+    returns-3)

@@ -1,0 +1,65 @@
+-- Document 01's path search.
+use mathlib.Core.Bool.{Bool, true, false, _&&_, _||_}
+use mathlib.Core.List.{List}
+use Prim.Native.Nat.{ℕ}
+use lib.Dec.{eqb}
+use Rattle.lists.specs.First.{first}
+use Rattle.lists.specs.declared.Found.{Found}
+use Rattle.lists.specs.declared.Found.the-variants.{At, Nothing}
+use Rattle.layout.specs.declared.Version.{Version}
+use Rattle.layout.specs.declared.Version.the-variants.{V17, V23, V26}
+use Rattle.sections.specs.Fields.{storedHash}
+use Rattle.incremental.specs.Plan.{run}
+use Rattle.path_hash.specs.Hash.{xp, vista, hash2008, units}
+use Rattle.head.specs.Checks.{openPlan}
+use Rattle.head.specs.declared.checks.Opening.{Opening}
+use Rattle.query.specs.Queries.{asked, bytesAt, entryShown, namePlace}
+use Rattle.path_search.specs.declared.Report.{Report}
+use Rattle.path_search.specs.declared.Report.the-variants as report
+use Rattle.path_search.specs.declared.PathAnswer.{PathAnswer}
+use Rattle.path_search.specs.declared.PathAnswer.the-variants as pathAnswer
+
+-- the numbers that a name's bytes give to the hash: each 16-bit unit is one number
+abbrev pub numbersOf : List ℕ → List ℕ
+numbersOf name = units name
+
+-- version 17 uses XP, 26 uses 2008, and 23 either of Vista and 2008
+abbrev pub matches : Version → List ℕ → ℕ → Bool
+matches V17 numbers hash = eqb (xp numbers) hash
+matches V23 numbers hash = eqb (vista numbers) hash || eqb (hash2008 numbers) hash
+matches V26 numbers hash = eqb (hash2008 numbers) hash
+
+abbrev pub pickReport : Bool → Bool → Report
+pickReport true true = report.Both
+pickReport true false = report.Vista
+pickReport false true = report.Hash2008
+pickReport false false = report.Silent
+
+-- version 23 reports which of the two matches
+abbrev pub reportOf : Version → List ℕ → ℕ → Report
+reportOf V17 numbers hash = report.Silent
+reportOf V23 numbers hash = pickReport (eqb (vista numbers) hash) (eqb (hash2008 numbers) hash)
+reportOf V26 numbers hash = report.Silent
+
+-- the numbers of entry i's name
+abbrev pub entryNumbers : Opening → List ℕ → ℕ → List ℕ
+entryNumbers o p i = numbersOf (bytesAt (namePlace o p i) p)
+
+-- the first metrics entry, among those that can be shown, whose hash equals the stored one
+unfoldable pub firstMatch : Opening → List ℕ → Found
+firstMatch o p = first (λ i. entryShown o p i && matches (o .version) (entryNumbers o p i) (storedHash p)) (o .head .metrics .count)
+
+abbrev pub reported : Opening → List ℕ → Found → PathAnswer
+reported o p (At i) = pathAnswer.Entry i (reportOf (o .version) (entryNumbers o p i) (storedHash p))
+reported o p Nothing = pathAnswer.NoPath
+
+-- on bytes that don't pass checks 1 to 6 the answer is none
+abbrev pub pathFound : List ℕ → PathAnswer
+pathFound p = asked (run openPlan p) pathAnswer.NoPath (λ o. reported o p (firstMatch o p))
+
+-- the number of a report: 0 none to make, 1 Vista only, 2 2008 only, 3 both
+abbrev pub reportNumber : Report → ℕ
+reportNumber report.Silent = 0
+reportNumber report.Vista = 1
+reportNumber report.Hash2008 = 2
+reportNumber report.Both = 3

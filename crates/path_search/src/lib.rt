@@ -1,0 +1,132 @@
+// The path search: the first name that can be shown and whose hash is the stored one.
+ghost use mathlib.Core.Path.{_≡_};
+ghost use Prim.Native.Nat.{_≤_};
+ghost use lib.ListN.{length};
+ghost use Rattle.layout.specs.Versions.{sizeLimit};
+ghost use Rattle.head.specs.Facts.{OpenFacts};
+ghost use Rattle.path_search.specs.Search.{numbersOf, pathFound, reported, firstMatch};
+ghost use Rattle.path_search.specs.Matches.{oneHash, twoHashes, matchOf, matchIn, searched};
+use head::OpenAnswer;
+use head::Opening;
+use layout::Layout;
+use layout::Version;
+use query::PlaceAnswer;
+
+// For version 23, which of the two hashes matches; for the others there is nothing to report.
+pub enum Report {
+    Silent,
+    Vista,
+    Hash2008,
+    Both,
+}
+
+pub enum PathAnswer {
+    Entry { index: usize, report: Report },
+    NoPath,
+}
+
+// Whether the hash of a name equals the stored one.
+pub enum Match {
+    Equal(Report),
+    Differs,
+}
+
+fn one_hash(hash: u32, stored: u32) -> Match
+    ensures { λ r. ⌜ r ≡ oneHash hash stored ⌝ }
+{
+    if hash == stored {
+        Match::Equal(Report::Silent)
+    } else {
+        Match::Differs
+    }
+}
+
+fn two_hashes(vista: u32, hash_2008: u32, stored: u32) -> Match
+    ensures { λ r. ⌜ r ≡ twoHashes vista «hash_2008» stored ⌝ }
+{
+    if vista == stored {
+        if hash_2008 == stored {
+            return Match::Equal(Report::Both);
+        }
+        return Match::Equal(Report::Vista);
+    }
+    if hash_2008 == stored {
+        return Match::Equal(Report::Hash2008);
+    }
+    Match::Differs
+}
+
+// A name against the stored hash, by the version's hash or hashes.
+fn name_matches(name: &[u8], version: Version, stored: u32) -> Match
+    ensures { λ r. ⌜ r ≡ matchOf version (numbersOf (now (name .entry))) stored ⌝ }
+{
+    match version {
+        Version::V17 => one_hash(path_hash::xp_hash_units(name), stored),
+        Version::V23 => two_hashes(
+            path_hash::vista_hash_units(name),
+            path_hash::hash_2008_units(name),
+            stored,
+        ),
+        Version::V26 => one_hash(path_hash::hash_2008_units(name), stored),
+    }
+}
+
+// The name of an entry that lies whole in the metrics, against the stored hash.
+fn entry_matches(metrics: &[u8], strings: &[u8], version: Version, i: u32, stored: u32) -> Match
+    ensures { λ r. ⌜ r ≡ matchIn version (now (metrics .entry)) (now (strings .entry)) stored i ⌝ }
+{
+    match query::name_shown(metrics, strings, version, i) {
+        PlaceAnswer::Shown(w) => {
+            let at = w.at;
+            let end = at + w.len;
+            name_matches(&strings[at..end], version, stored)
+        }
+        PlaceAnswer::NotShown => Match::Differs,
+    }
+}
+
+// The search over the entries that lie whole in the metrics: the others can't be shown.
+fn search(metrics: &[u8], strings: &[u8], version: Version, stored: u32) -> PathAnswer
+    requires { ⌜ length (now metrics) ≤ sizeLimit ⌝ }
+    ensures { λ r. ⌜ r ≡ searched version (now (metrics .entry)) (now (strings .entry)) stored ⌝ }
+{
+    let layout = Layout::of(version);
+    let entries = metrics.len() / layout.metric;
+    let mut i = 0;
+    while i < entries {
+        if let Match::Equal(report) = entry_matches(metrics, strings, version, i as u32, stored) {
+            return PathAnswer::Entry {
+                index: i,
+                report: report,
+            };
+        }
+        i += 1;
+    }
+    PathAnswer::NoPath
+}
+
+// The search, where checks 1 to 6 pass.
+fn path_in(file: &[u8], o: Opening) -> PathAnswer
+    requires { ⌜ OpenFacts (now file) o ⌝ }
+    ensures { λ r. ⌜ r ≡ reported o (now (file .entry)) (firstMatch o (now (file .entry))) ⌝ }
+{
+    let version = o.version;
+    let h = o.head;
+    let entries = h.metrics;
+    let text = h.strings;
+    let metrics = sections::part_of(file, entries);
+    let strings = sections::part_of(file, text);
+    let stored = little_endian::u32_at(file, 76);
+    search(metrics, strings, version, stored)
+}
+
+// The first metrics entry that can be shown and whose path hash equals the stored one.
+pub fn find_path(file: &[u8]) -> PathAnswer
+    ensures { λ r. ⌜ r ≡ pathFound (now (file .entry)) ⌝ }
+{
+    match head::read_open(file) {
+        OpenAnswer::Opened(o) => path_in(file, o),
+        OpenAnswer::Refused(_) => PathAnswer::NoPath,
+        OpenAnswer::Wanted(_) => PathAnswer::NoPath,
+    }
+}

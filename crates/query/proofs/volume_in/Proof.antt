@@ -1,0 +1,52 @@
+use Prim.Native.Nat.{_+_, _*_, _≤_}
+use Rattle.layout.specs.Versions.{sizeLimit}
+use native.Mathlib.Omega.{arith}
+use Rattle.query.specs.QueryLaws.{volumes-asked, section-met, path-low}
+use borrow.Author.Needs.{needs}
+use Rattle.query.proofs.volume_in.Statement.{statement}
+use Rattle.query.proofs.volume_in.Tie as tie
+
+part-of-requires : tie.Need-part-of-requires
+part-of-requires c κs = search needs
+
+section-shown-requires : tie.Need-section-shown-requires
+section-shown-requires c κs = search needs
+
+returns : tie.Need-returns
+returns c = search volumes-asked
+
+cast-volume-at : tie.Need-cast-volume-at
+cast-volume-at c = omega (arith, section-met _ _ _ _ (c .before .section-shown .ensures) (c .if1 .left) .below, c .before .before .before .before .before .before .good .1 .0)
+
+volume-at-requires : tie.Need-volume-at-requires
+volume-at-requires c κs = search needs
+
+add-t12 : tie.Need-add-t12
+add-t12 c =
+    let o = c .before .before .before .before .before .before .before .before .before .args .o in
+    let v = c .before .before .volume-at .result in
+    let h : o .head .volumes .at + v .path + 2 * v .units ≤ sizeLimit = search (path-low, section-met) in
+    omega arith
+
+mul-t13 : tie.Need-mul-t13
+mul-t13 c =
+    let o = c .before .before .before .before .before .before .before .before .before .before .args .o in
+    let v = c .before .before .before .volume-at .result in
+    let h : o .head .volumes .at + v .path + 2 * v .units ≤ sizeLimit = search (path-low, section-met) in
+    omega arith
+
+returns-2 : tie.Need-returns-2
+returns-2 c = search volumes-asked
+
+pub volume-in-spec : {M : Type 1} → statement M
+volume-in-spec =
+    tie.close
+    (tie.spec
+    part-of-requires
+    section-shown-requires
+    returns
+    cast-volume-at
+    volume-at-requires
+    add-t12
+    mul-t13
+    returns-2)
