@@ -7,6 +7,8 @@
 use compare::groups::{listing, Group, Run, GROUPS};
 use compare::tally::Tally;
 use std::process::ExitCode;
+use std::sync::atomic::{AtomicUsize, Ordering};
+use std::thread::{available_parallelism, scope};
 
 const SEED: u64 = 20_261_115;
 
@@ -25,12 +27,12 @@ fn main() -> ExitCode {
     }
 }
 
+/// The groups do not depend on each other: each thread takes the next one that is left.
 fn run_all(asked: &Asked) -> ExitCode {
     let (mut passed, mut failed) = (0, 0);
-    for (name, run) in &asked.groups {
-        let mut tally = Tally::new(name);
-        run(&asked.run, &mut tally);
-        println!("{name}: {} compared, {} failed", tally.passed + tally.failed, tally.failed);
+    for tally in tallies(asked) {
+        let (group, compared) = (tally.group, tally.passed + tally.failed);
+        println!("{group}: {compared} compared, {} failed", tally.failed);
         passed += tally.passed;
         failed += tally.failed;
     }
@@ -40,6 +42,28 @@ fn run_all(asked: &Asked) -> ExitCode {
     } else {
         ExitCode::FAILURE
     }
+}
+
+fn tallies(asked: &Asked) -> Vec<Tally> {
+    let groups = &asked.groups;
+    let threads = available_parallelism().map_or(1, usize::from).min(groups.len());
+    let next = AtomicUsize::new(0);
+    let take = || {
+        let mut taken = Vec::new();
+        loop {
+            let at = next.fetch_add(1, Ordering::Relaxed);
+            let Some((name, run)) = groups.get(at) else { return taken };
+            let mut tally = Tally::new(name);
+            run(&asked.run, &mut tally);
+            taken.push((at, tally));
+        }
+    };
+    let mut all: Vec<(usize, Tally)> = scope(|s| {
+        let started: Vec<_> = (0..threads).map(|_| s.spawn(take)).collect();
+        started.into_iter().flat_map(|thread| thread.join().expect("a group panicked")).collect()
+    });
+    all.sort_by_key(|(at, _)| *at);
+    all.into_iter().map(|(_, tally)| tally).collect()
 }
 
 fn asked(mut words: impl Iterator<Item = String>) -> Result<Asked, String> {

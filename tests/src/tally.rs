@@ -32,10 +32,14 @@ impl Tally {
         }
         self.failed += 1;
         if self.failed <= SHOWN {
-            println!("FAILED {}: {what}", self.group);
-            println!("  expected {}", cut(format!("{expected:?}")));
-            println!("  given    {}", cut(format!("{given:?}")));
-            println!("  input    {}", input());
+            // in one piece, since groups run beside each other
+            println!(
+                "FAILED {}: {what}\n  expected {}\n  given    {}\n  input    {}",
+                self.group,
+                cut(format!("{expected:?}")),
+                cut(format!("{given:?}")),
+                input()
+            );
         }
     }
 
