@@ -11,16 +11,13 @@ use Rattle.layout.specs.declared.Layout.{Layout}
 use Rattle.layout.specs.declared.KnownVersion.{KnownVersion}
 use Rattle.layout.specs.declared.KnownVersion.the-variants.{Known, Unknown}
 use Rattle.incremental.specs.Decision.{accept, refuse, refusal}
-use Rattle.incremental.specs.Plan.{Plan, await, andThen, Answer, decided, wants, run, run-here, run-short, run-then, run-steps}
-use Rattle.incremental.specs.declared.Refusal.{Refusal}
+use Rattle.incremental.specs.Plan.{Plan, await, andThen, Answer, decided, wants, onward, run, run-here, run-short, run-then, run-steps}
 use Rattle.sections.specs.declared.Head.{Head}
 use Rattle.head.specs.declared.checks.Start.{Start}
 use Rattle.head.specs.declared.checks.StartAnswer.{StartAnswer}
-use Rattle.head.specs.declared.checks.StartAnswer.the-variants as startAnswer
 use Rattle.head.specs.declared.checks.Opening.{Opening}
 use Rattle.head.specs.declared.checks.OpenAnswer.{OpenAnswer}
-use Rattle.head.specs.declared.checks.OpenAnswer.the-variants as openAnswer
-use Rattle.head.specs.Checks.{stop, byName, byVersion, signaturePlan, sectionPlan, startOf, openOf}
+use Rattle.head.specs.Checks.{stop, row, byName, byVersion, signaturePlan, sectionPlan, startOf, openOf}
 
 -- a check finds a fault, or none
 pub stop-hit : {A : Type 0} (n i : ℕ) (f r : Found) (later : Plan A) (p : List ℕ) → r ≡ f → r ≡ At i → decided (refuse (refusal n i)) ≡ run (stop n f later) p
@@ -29,6 +26,17 @@ stop-hit n i f r later p e q = rw (sym e ∙ q)
 
 pub stop-miss : {A : Type 0} (n : ℕ) (f r : Found) (later : Plan A) (p : List ℕ) (v : Answer A) → r ≡ f → r ≡ Nothing → v ≡ run later p → v ≡ run (stop n f later) p
 stop-miss n f r later p v e q h = rw (sym e ∙ q) h
+
+-- a row of the table: `k` is its required length, and `r` the fault that a call found in the bytes up to it
+module _ {A : Type 0} (n k required : ℕ) (fault : List ℕ → Found) (later : Plan A) (p : List ℕ) (e : k ≡ required) where
+  pub row-short : length p < k → wants k ≡ run (row n required fault later) p
+  row-short h = rw (← e) (sym (run-short k (λ b. stop n (fault b) later) p h))
+
+  pub row-hit : (r : Found) (i : ℕ) → k ≤ length p → r ≡ fault (take k p) → r ≡ At i → decided (refuse (refusal n i)) ≡ run (row n required fault later) p
+  row-hit r i h q z = rw (← e, run-here k (λ b. stop n (fault b) later) p h) (stop-hit n i (fault (take k p)) r later p q z)
+
+  pub row-miss : (r : Found) (v : Answer A) → k ≤ length p → r ≡ fault (take k p) → r ≡ Nothing → v ≡ run later p → v ≡ run (row n required fault later) p
+  row-miss r v h q z w = rw (← e, run-here k (λ b. stop n (fault b) later) p h) (stop-miss n (fault (take k p)) r later p v q z w)
 
 -- 4: the name ends, or not
 pub name-hit : (v : Version) (f r : Found) (u : ℕ) (p : List ℕ) → r ≡ f → r ≡ At u → decided (accept (record { version = v; units = u })) ≡ run (byName v f) p
@@ -58,24 +66,16 @@ head-here v l next p x e h q = rw (← e, run-here (l .head) next p h) q
 pub head-on : (s : Start) (h r : Head) (p : List ℕ) (v : Answer Opening) → r ≡ h → v ≡ run (sectionPlan s r) p → v ≡ run (sectionPlan s h) p
 head-on s h r p v e q = rw (← e) q
 
+-- checks that follow others: `x` is the case of `r`
+then-case : {R A B : Type 0} (of : R → Answer A) (t : Plan A) (f : A → Plan B) (p : List ℕ) (r x : R) (v : Answer B) → of r ≡ run t p → r ≡ x → v ≡ onward (of x) (λ a. run (f a) p) → v ≡ run (andThen t f) p
+then-case of t f p r x v e q h = rw (run-then t f p, ← e, q) h
+
 -- checks that follow 1 to 4
-pub start-on : {B : Type 0} (t : Plan Start) (f : Start → Plan B) (p : List ℕ) (r : StartAnswer) (s : Start) (v : Answer B) → startOf r ≡ run t p → r ≡ startAnswer.Started s → v ≡ run (f s) p → v ≡ run (andThen t f) p
-start-on t f p r s v e q h = rw (run-then t f p, ← e, q) h
-
-pub start-refused : {B : Type 0} (t : Plan Start) (f : Start → Plan B) (p : List ℕ) (r : StartAnswer) (x : Refusal) → startOf r ≡ run t p → r ≡ startAnswer.Refused x → decided (refuse x) ≡ run (andThen t f) p
-start-refused t f p r x e q = rw (run-then t f p, ← e, q)
-
-pub start-wanted : {B : Type 0} (t : Plan Start) (f : Start → Plan B) (p : List ℕ) (r : StartAnswer) (k : ℕ) → startOf r ≡ run t p → r ≡ startAnswer.Wanted k → wants k ≡ run (andThen t f) p
-start-wanted t f p r k e q = rw (run-then t f p, ← e, q)
+pub start-then : {B : Type 0} (t : Plan Start) (f : Start → Plan B) (p : List ℕ) (r x : StartAnswer) (v : Answer B) → startOf r ≡ run t p → r ≡ x → v ≡ onward (startOf x) (λ s. run (f s) p) → v ≡ run (andThen t f) p
+start-then = then-case startOf
 
 -- checks that follow 1 to 6
-pub open-on : {B : Type 0} (t : Plan Opening) (f : Opening → Plan B) (p : List ℕ) (r : OpenAnswer) (o : Opening) (v : Answer B) → openOf r ≡ run t p → r ≡ openAnswer.Opened o → v ≡ run (f o) p → v ≡ run (andThen t f) p
-open-on t f p r o v e q h = rw (run-then t f p, ← e, q) h
+pub open-then : {B : Type 0} (t : Plan Opening) (f : Opening → Plan B) (p : List ℕ) (r x : OpenAnswer) (v : Answer B) → openOf r ≡ run t p → r ≡ x → v ≡ onward (openOf x) (λ o. run (f o) p) → v ≡ run (andThen t f) p
+open-then = then-case openOf
 
-pub open-refused : {B : Type 0} (t : Plan Opening) (f : Opening → Plan B) (p : List ℕ) (r : OpenAnswer) (x : Refusal) → openOf r ≡ run t p → r ≡ openAnswer.Refused x → decided (refuse x) ≡ run (andThen t f) p
-open-refused t f p r x e q = rw (run-then t f p, ← e, q)
-
-pub open-wanted : {B : Type 0} (t : Plan Opening) (f : Opening → Plan B) (p : List ℕ) (r : OpenAnswer) (k : ℕ) → openOf r ≡ run t p → r ≡ openAnswer.Wanted k → wants k ≡ run (andThen t f) p
-open-wanted t f p r k e q = rw (run-then t f p, ← e, q)
-
-pub ruleset steps = (head-on, head-short, head-here, run-steps, stop-hit, stop-miss, name-hit, name-miss, version-hit, version-miss, start-on, start-refused, start-wanted, open-on, open-refused, open-wanted)
+pub ruleset steps = (head-on, head-short, head-here, run-steps, stop-hit, stop-miss, name-hit, name-miss, version-hit, version-miss, start-then, open-then)

@@ -10,7 +10,7 @@ use lib.Seq.{paste, take-all}
 use Rattle.lists.specs.Count.{pick}
 use Rattle.incremental.specs.Plan.{Answer}
 use Rattle.volumes.specs.declared.Reference.{Reference}
-use Rattle.query.specs.Queries.{placeOf, volumeValues, referenceValues}
+use Rattle.query.specs.Queries.{placeOf}
 use Rattle.path_search.specs.Search.{reportNumber}
 use Rattle.query.specs.declared.PlaceAnswer.{PlaceAnswer}
 use Rattle.query.specs.declared.PlaceAnswer.the-variants as placeAnswer
@@ -139,15 +139,6 @@ abbrev pub pathValues : PathAnswer → List ℕ
 pathValues (pathAnswer.Entry i r) = i ∷ reportNumber r ∷ []
 pathValues pathAnswer.NoPath = 0 ∷ 0 ∷ []
 
--- the promise by the case that was found
-pub answered-place : (a b c : PlaceAnswer) (r : ℕ) (out out′ : List ℕ) → a ≡ c → a ≡ b → r ≡ placeYes b → out′ ≡ overlay out (placeValues b) → Answered (placeYes c) (placeValues c) r out out′
-answered-place a b c r out out′ e q n o = rw (sym e ∙ q) (record { number = n; output = o })
-
-pub answered-volume : (a b c : VolumeAnswer) (r : ℕ) (out out′ : List ℕ) → a ≡ c → a ≡ b → r ≡ volumeYes b → out′ ≡ overlay out (volumeList (volumeValues b)) → Answered (volumeYes c) (volumeList (volumeValues c)) r out out′
-answered-volume a b c r out out′ e q n o = rw (sym e ∙ q) (record { number = n; output = o })
-
-pub answered-reference : (a b c : ReferenceAnswer) (r : ℕ) (out out′ : List ℕ) → a ≡ c → a ≡ b → r ≡ referenceYes b → out′ ≡ overlay out (referenceList (referenceValues b)) → Answered (referenceYes c) (referenceList (referenceValues c)) r out out′
-answered-reference a b c r out out′ e q n o = rw (sym e ∙ q) (record { number = n; output = o })
-
-pub answered-path : (a b c : PathAnswer) (r : ℕ) (out out′ : List ℕ) → a ≡ c → a ≡ b → r ≡ pathYes b → out′ ≡ overlay out (pathValues b) → Answered (pathYes c) (pathValues c) r out out′
-answered-path a b c r out out′ e q n o = rw (sym e ∙ q) (record { number = n; output = o })
+-- the promise by the case `b` of what a call gave
+pub answered-case : {A : Type 0} (number : A → ℕ) (values : A → List ℕ) (a b c : A) (r : ℕ) (out out′ : List ℕ) → a ≡ c → a ≡ b → r ≡ number b → out′ ≡ overlay out (values b) → Answered (number c) (values c) r out out′
+answered-case number values a b c r out out′ e q n o = rw (sym e ∙ q) (record { number = n; output = o })

@@ -19,7 +19,7 @@ use Rattle.layout.specs.Versions.{layoutOf, sizeLimit, layout-sound}
 use Rattle.layout.specs.declared.Version.{Version}
 use Rattle.layout.specs.declared.Layout.{Layout}
 use Rattle.incremental.specs.Decision.{Decision, accept, refuse, checkedOf}
-use Rattle.incremental.specs.Plan.{Plan, run}
+use Rattle.incremental.specs.Plan.{Plan, Answer, run}
 use Rattle.incremental.specs.declared.Refusal.{Refusal}
 use Rattle.incremental.specs.declared.Checked.{Checked}
 use Rattle.incremental.specs.declared.Checked.the-variants as checked
@@ -29,10 +29,8 @@ use Rattle.head.specs.Facts.{OpenFacts, open-met, open-shapes}
 use Rattle.sections.specs.declared.Section.{Section}
 use Rattle.head.specs.declared.checks.Start.{Start}
 use Rattle.head.specs.declared.checks.StartAnswer.{StartAnswer}
-use Rattle.head.specs.declared.checks.StartAnswer.the-variants as startAnswer
 use Rattle.head.specs.declared.checks.Opening.{Opening}
 use Rattle.head.specs.declared.checks.OpenAnswer.{OpenAnswer}
-use Rattle.head.specs.declared.checks.OpenAnswer.the-variants as openAnswer
 use Rattle.names.specs.Names.{sound, nameAt, nameUnits}
 use Rattle.names.specs.NameLaws.{SoundName, sound-name}
 use Rattle.volumes.specs.Volumes.{entryAt, volumeChecks, volumeOf, referenceOf, pathAt, pathCount, pathUnits, orAll, referencesAt, referencesSize, referenceCount}
@@ -50,25 +48,16 @@ use Rattle.query.specs.declared.VolumeAnswer.the-variants as volumeAnswe
 use Rattle.query.specs.declared.ReferenceAnswer.the-variants as referenceAnswer
 
 -- What is asked of a file, by what a call for its checks gave: `r` is that answer, on which the code has matched.
-pub start-asked : {B : Type 0} (t : Plan Start) (p : List ℕ) (r : StartAnswer) (s : Start) (none v : B) (some : Start → B) → startOf r ≡ run t p → r ≡ startAnswer.Started s → v ≡ some s → v ≡ asked (run t p) none some
-start-asked t p r s none v some e q h = rw (← e, q) h
+asked-case : {R A B : Type 0} (of : R → Answer A) (t : Plan A) (p : List ℕ) (r x : R) (none v : B) (some : A → B) → of r ≡ run t p → r ≡ x → v ≡ asked (of x) none some → v ≡ asked (run t p) none some
+asked-case of t p r x none v some e q h = rw (← e, q) h
 
-pub start-not-refused : {B : Type 0} (t : Plan Start) (p : List ℕ) (r : StartAnswer) (x : Refusal) (none : B) (some : Start → B) → startOf r ≡ run t p → r ≡ startAnswer.Refused x → none ≡ asked (run t p) none some
-start-not-refused t p r x none some e q = rw (← e, q)
+pub start-asked : {B : Type 0} (t : Plan Start) (p : List ℕ) (r x : StartAnswer) (none v : B) (some : Start → B) → startOf r ≡ run t p → r ≡ x → v ≡ asked (startOf x) none some → v ≡ asked (run t p) none some
+start-asked = asked-case startOf
 
-pub start-not-wanted : {B : Type 0} (t : Plan Start) (p : List ℕ) (r : StartAnswer) (k : ℕ) (none : B) (some : Start → B) → startOf r ≡ run t p → r ≡ startAnswer.Wanted k → none ≡ asked (run t p) none some
-start-not-wanted t p r k none some e q = rw (← e, q)
+pub open-asked : {B : Type 0} (t : Plan Opening) (p : List ℕ) (r x : OpenAnswer) (none v : B) (some : Opening → B) → openOf r ≡ run t p → r ≡ x → v ≡ asked (openOf x) none some → v ≡ asked (run t p) none some
+open-asked = asked-case openOf
 
-pub open-asked : {B : Type 0} (t : Plan Opening) (p : List ℕ) (r : OpenAnswer) (o : Opening) (none v : B) (some : Opening → B) → openOf r ≡ run t p → r ≡ openAnswer.Opened o → v ≡ some o → v ≡ asked (run t p) none some
-open-asked t p r o none v some e q h = rw (← e, q) h
-
-pub open-not-refused : {B : Type 0} (t : Plan Opening) (p : List ℕ) (r : OpenAnswer) (x : Refusal) (none : B) (some : Opening → B) → openOf r ≡ run t p → r ≡ openAnswer.Refused x → none ≡ asked (run t p) none some
-open-not-refused t p r x none some e q = rw (← e, q)
-
-pub open-not-wanted : {B : Type 0} (t : Plan Opening) (p : List ℕ) (r : OpenAnswer) (k : ℕ) (none : B) (some : Opening → B) → openOf r ≡ run t p → r ≡ openAnswer.Wanted k → none ≡ asked (run t p) none some
-open-not-wanted t p r k none some e q = rw (← e, q)
-
-pub ruleset asking = (open-met, start-asked, start-not-refused, start-not-wanted, open-asked, open-not-refused, open-not-wanted)
+pub ruleset asking = (open-met, start-asked, open-asked)
 
 -- The bytes of a section, as many as there are
 pub part-there : (s : Section) (p : List ℕ) → length (part s p) ≡ min (s .len) (length p - s .at)

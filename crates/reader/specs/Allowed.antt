@@ -26,9 +26,9 @@ use Rattle.reader.specs.declared.verdict.Acceptance.{Acceptance}
 use Rattle.reader.specs.declared.verdict.Verdict.{Verdict}
 use Rattle.reader.specs.declared.verdict.Verdict.the-variants.{Accepted}
 use Rattle.reader.specs.Verdict.{Acceptable, valuesOf, answerValues, bufferAfter}
+use Rattle.reader.specs.Values.{accepted-answer, same-values}
 use Rattle.reader.specs.Checks.{nextsIn, recordOf, prefixAnswer, fileAnswer, ReadsFile}
-use Rattle.reader.specs.Early.{same-kind}
-use Rattle.reader.specs.AllowedLaws.{head-take, name-ends, RestFacts, read-facts, read-complete, whole-accepted, whole-accepts, accepted-answer}
+use Rattle.reader.specs.AllowedLaws.{head-take, name-ends, RestFacts, read-facts, read-complete, whole-accepted, whole-accepts}
 
 -- what the layout allows of the bytes `p`: the version, the name's length and the sections are those of `o`
 pub record Allowed (p : List ℕ) (o : Opening) : Type 0 where
@@ -184,4 +184,4 @@ demand-2 p buffer v after r = record { sound = is-allowed; complete = is-accepte
         let x : Acceptable = record { fields = givenRecord o p; table = givenTable o p m } in
         let e = read-complete m p o x (opens p o a) (omega (arith, a .complete)) (passes m p o a l) in
         let w = whole-accepts (length p) (prefixAnswer p m) x e (sizes o p _ ∙ sym (a .complete)) in
-        (same-kind v (Accepted (givenRecord o p)) (r .verdict ∙ ap answerValues w), r .buffer ∙ ap (λ (z : Answer Acceptable). bufferAfter z m) w)
+        (same-values v (Accepted (givenRecord o p)) (r .verdict ∙ ap answerValues w), r .buffer ∙ ap (λ (z : Answer Acceptable). bufferAfter z m) w)

@@ -33,7 +33,7 @@ use Rattle.trace.specs.Cycles.{cycle-law}
 use Rattle.volumes.specs.Volumes.{entryAt, volumesFrom}
 use Rattle.volumes.specs.SoundVolume.{SoundVolume, volumes-sound}
 use Rattle.reader.specs.declared.verdict.Acceptance.{Acceptance}
-use Rattle.reader.specs.Verdict.{Acceptable, Values, acceptedValues, answerValues}
+use Rattle.reader.specs.Verdict.{Acceptable}
 use Rattle.reader.specs.Checks.{nextsIn, headEnd, recordOf, volumesRequired, namesRequired, volumesPlan, tracePlan, namesPlan, metricsPlan, restPlan, readPlan, prefixAnswer, sized, whole}
 use Rattle.reader.specs.Stages.{room-enough}
 use Rattle.reader.specs.Early.{names-required-low, volumes-required-low}
@@ -342,9 +342,3 @@ whole-accepted n (wants k) x e = let w : _≡_ {A = ℕ} 0 1 = cc in absurd (ome
 
 pub whole-accepts : (n : ℕ) (y : Answer Acceptable) (x : Acceptable) → y ≡ decided (accept x) → x .fields .size ≡ n → whole n y ≡ decided (accept x)
 whole-accepts n y x e s = rw (e, le-ltb n (x .fields .size) (omega arith), le-ltb (x .fields .size) n (omega arith))
-
--- an acceptance is made exactly where the checks make it
-pub accepted-answer : (y : Answer Acceptable) (a : Acceptance) → acceptedValues a ≡ answerValues y → (x : Acceptable) × (y ≡ decided (accept x)) × (a ≡ x .fields)
-accepted-answer (decided (accept x)) a e = (x, refl, ap (λ (w : Values). w .fields) e)
-accepted-answer (decided (refuse r)) a e = let z : _≡_ {A = ℕ} 0 1 = ap (λ (w : Values). w .kind) e in absurd (omega arith)
-accepted-answer (wants k) a e = let z : _≡_ {A = ℕ} 0 2 = ap (λ (w : Values). w .kind) e in absurd (omega arith)

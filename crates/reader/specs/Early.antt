@@ -12,7 +12,7 @@ use lib.ListN.{length, take}
 use lib.Seq.{length-take-le, take-length}
 use Rattle.little_endian.specs.Number.{le-take}
 use Rattle.layout.specs.Versions.{layoutOf}
-use Rattle.incremental.specs.Decision.{Decision, accept, refuse}
+use Rattle.incremental.specs.Decision.{Decision}
 use Rattle.incremental.specs.Plan.{decide, Answer, decided, wants, run, stands, begins-take, Decided, decided-decide, decided-await, decided-then}
 use Rattle.incremental.specs.declared.Refusal.{Refusal}
 use Rattle.sections.specs.Fields.{declaredSize, faultAt, part}
@@ -25,7 +25,8 @@ use Rattle.volumes.specs.Volumes.{volumesFrom}
 use Rattle.reader.specs.declared.verdict.Acceptance.{Acceptance}
 use Rattle.reader.specs.declared.verdict.Verdict.{Verdict}
 use Rattle.reader.specs.declared.verdict.Verdict.the-variants.{Accepted, Refused, Wanted}
-use Rattle.reader.specs.Verdict.{Acceptable, Reads, Values, valuesOf, answerValues, wantedValues, bufferAfter}
+use Rattle.reader.specs.Verdict.{Acceptable, Reads, valuesOf, answerValues, wantedValues, bufferAfter}
+use Rattle.reader.specs.Values.{same-values, wanted-answer}
 use Rattle.reader.specs.Checks.{nextsIn, headEnd, volumesRequired, namesRequired, volumesPlan, tracePlan, namesPlan, metricsPlan, restPlan, readPlan, prefixAnswer, ReadsPrefix}
 
 -- ---- no required length exceeds the greater of sixteen and S
@@ -75,29 +76,8 @@ unfolding readPlan
 decided-read m p h d =
     decided-then openPlan (restPlan m) p (decided-open p h d) λ o e. decided-rest m p o (open-facts p .holds o e) d
 
--- ---- a verdict is known by its values
+-- ---- a verdict that is no request is a decision
 
-pub same-kind : (v w : Verdict) → valuesOf v ≡ valuesOf w → v ≡ w
-same-kind (Accepted a) (Accepted b) e = ap Accepted (ap (λ (x : Values). x .fields) e)
-same-kind (Accepted a) (Refused r) e = let z : _≡_ {A = ℕ} 0 1 = ap (λ (x : Values). x .kind) e in absurd (omega arith)
-same-kind (Accepted a) (Wanted k) e = let z : _≡_ {A = ℕ} 0 2 = ap (λ (x : Values). x .kind) e in absurd (omega arith)
-same-kind (Refused r) (Accepted b) e = let z : _≡_ {A = ℕ} 1 0 = ap (λ (x : Values). x .kind) e in absurd (omega arith)
-same-kind (Refused r) (Refused s) e =
-    let n : r .number ≡ s .number = ap (λ (x : Values). x .number) e in
-    let i : r .index ≡ s .index = ap (λ (x : Values). x .index) e in
-    λ j. Refused (record { number = n j; index = i j })
-same-kind (Refused r) (Wanted k) e = let z : _≡_ {A = ℕ} 1 2 = ap (λ (x : Values). x .kind) e in absurd (omega arith)
-same-kind (Wanted k) (Accepted b) e = let z : _≡_ {A = ℕ} 2 0 = ap (λ (x : Values). x .kind) e in absurd (omega arith)
-same-kind (Wanted k) (Refused s) e = let z : _≡_ {A = ℕ} 2 1 = ap (λ (x : Values). x .kind) e in absurd (omega arith)
-same-kind (Wanted k) (Wanted j) e = ap Wanted (ap (λ (x : Values). x .wanted) e)
-
--- a request is made exactly where the checks make it
-wanted-answer : (x : Answer Acceptable) (k : ℕ) → wantedValues k ≡ answerValues x → x ≡ wants k
-wanted-answer (decided (accept a)) k e = let z : _≡_ {A = ℕ} 2 0 = ap (λ (x : Values). x .kind) e in absurd (omega arith)
-wanted-answer (decided (refuse r)) k e = let z : _≡_ {A = ℕ} 2 1 = ap (λ (x : Values). x .kind) e in absurd (omega arith)
-wanted-answer (wants j) k e = ap wants (sym (ap (λ (x : Values). x .wanted) e))
-
--- any other verdict is a decision
 decided-answer : (x : Answer Acceptable) → ((k : ℕ) → answerValues x ≡ wantedValues k → ⊥) → (d : Decision Acceptable) × (x ≡ decided d)
 decided-answer (decided d) h = (d, refl)
 decided-answer (wants k) h = absurd (h k refl)
@@ -120,12 +100,12 @@ module _ (xs : List ℕ) (i j m : ℕ) (h : i ≤ j) (v w : Verdict) (after afte
   -- what the first prefix has decided, the second has
   kept : ((k : ℕ) → v ≡ Wanted k → ⊥) → prefixAnswer (take j xs) m ≡ prefixAnswer (take i xs) m
   kept n =
-      let d = decided-answer (prefixAnswer (take i xs) m) (λ k e. n k (same-kind v (Wanted k) (r .verdict ∙ e))) in
+      let d = decided-answer (prefixAnswer (take i xs) m) (λ k e. n k (same-values v (Wanted k) (r .verdict ∙ e))) in
       stands (readPlan m) (take i xs) (take j xs) (begins-take xs i j h) .kept (d .0) (d .1) ∙ sym (d .1)
 
   both : ((k : ℕ) → v ≡ Wanted k → ⊥) → (w ≡ v) × (after ≡ after′)
   both n = (
-    same-kind w v (s .verdict ∙ ap answerValues (kept n) ∙ sym (r .verdict)),
+    same-values w v (s .verdict ∙ ap answerValues (kept n) ∙ sym (r .verdict)),
     r .buffer ∙ sym (s .buffer ∙ ap (λ (x : Answer Acceptable). bufferAfter x m) (kept n)),
   )
 
@@ -139,7 +119,7 @@ module _ (xs : List ℕ) (i j m : ℕ) (h : i ≤ j) (v w : Verdict) (after afte
         asks-more = λ k e. t .longer k (first k e);
         asks-again = λ k e. (
           (λ g. t .again k (first k e) (wanted-answer _ k (ap valuesOf (sym g) ∙ s .verdict))),
-          (λ l. same-kind w (Wanted k) (s .verdict ∙ ap answerValues (t .still k (first k e) l))),
+          (λ l. same-values w (Wanted k) (s .verdict ∙ ap answerValues (t .still k (first k e) l))),
         );
         asks-no-more = λ a b k e. decided-read m (take i xs) a b .never k (first k e);
       }

@@ -1,4 +1,5 @@
 pub mod Verdict
+pub mod Values
 pub mod Checks
 pub mod Stages
 pub mod Early

@@ -17,8 +17,7 @@ use Rattle.incremental.specs.declared.Refusal.{Refusal}
 use Rattle.incremental.specs.declared.Checked.{Checked}
 use Rattle.incremental.specs.declared.Checked.the-variants as checked
 use Rattle.sections.specs.Fields.{part}
-use Rattle.head.specs.Checks.{stop}
-use Rattle.head.specs.Steps.{stop-hit, stop-miss}
+use Rattle.head.specs.Steps.{row-short, row-hit, row-miss}
 use Rattle.head.specs.Facts.{OpenFacts, part-length, open-shapes}
 use Rattle.head.specs.declared.checks.Opening.{Opening}
 use Rattle.names.specs.Names.{firstMisfit, firstUnsound}
@@ -32,7 +31,8 @@ use Rattle.volumes.specs.VolumeLaws.{volumes-room}
 use Rattle.reader.specs.declared.verdict.Acceptance.{Acceptance}
 use Rattle.reader.specs.declared.verdict.Verdict.{Verdict}
 use Rattle.reader.specs.declared.verdict.Verdict.the-variants.{Accepted, Refused, Wanted}
-use Rattle.reader.specs.Verdict.{Acceptable, Reads, Values, valuesOf, answerValues, acceptedValues, refusedValues, wantedValues, bufferAfter}
+use Rattle.reader.specs.Verdict.{Acceptable, Reads, valuesOf, bufferAfter}
+use Rattle.reader.specs.Values.{accepted-answer, refused-answer, wanted-answer}
 use Rattle.reader.specs.Checks.{headEnd, recordOf, volumesRequired, volumesPlan, tracePlan, namesRequired, namesPlan, metricsPlan, restPlan, whole}
 
 -- a stage's verdict, where the working buffer ends as `after`
@@ -125,49 +125,49 @@ module _ (m : ℕ) (o : Opening) (fields : ℕ → Acceptance) (p : List ℕ) wh
 
 -- ---- 10
 
+abbrev unsoundIn : Opening → List ℕ → Found
+unsoundIn o b = firstUnsound (o .version) (part (o .head .metrics) b) (o .head .metrics .count) (part (o .head .strings) b)
+
 module _ (m : ℕ) (o : Opening) (fields : ℕ → Acceptance) (p : List ℕ) (k : ℕ) (e : k ≡ namesRequired o) where
   pub names-short : length p < k → wants k ≡ run (namesPlan m o fields) p
   unfolding namesPlan
-  names-short h = rw (run-short (namesRequired o) _ p (rw (← e) h), ← e)
+  names-short h = row-short 10 k (namesRequired o) (unsoundIn o) (tracePlan m o fields) p e h
 
-  names-here : (metrics strings : List ℕ) (r : Found) → k ≤ length p → metrics ≡ part (o .head .metrics) (take k p) → strings ≡ part (o .head .strings) (take k p)
-      → r ≡ firstUnsound (o .version) metrics (o .head .metrics .count) strings
-      → run (namesPlan m o fields) p ≡ run (stop 10 r (tracePlan m o fields)) p
-  unfolding namesPlan
-  names-here metrics strings r h a b q = rw (run-here (namesRequired o) _ p (rw (← e) h), ← e, ← a, ← b, ← q)
+  module _ (metrics strings : List ℕ) (r : Found) (h : k ≤ length p) (a : metrics ≡ part (o .head .metrics) (take k p))
+      (b : strings ≡ part (o .head .strings) (take k p)) (q : r ≡ firstUnsound (o .version) metrics (o .head .metrics .count) strings) where
+    found : r ≡ unsoundIn o (take k p)
+    found = rw (← a, ← b) q
 
-  pub names-hit : (metrics strings : List ℕ) (r : Found) (i : ℕ) → k ≤ length p → metrics ≡ part (o .head .metrics) (take k p) → strings ≡ part (o .head .strings) (take k p)
-      → r ≡ firstUnsound (o .version) metrics (o .head .metrics .count) strings → r ≡ At i
-      → decided (refuse (refusal 10 i)) ≡ run (namesPlan m o fields) p
-  names-hit metrics strings r i h a b q z = stop-hit 10 i r r (tracePlan m o fields) p refl z ∙ sym (names-here metrics strings r h a b q)
+    pub names-hit : (i : ℕ) → r ≡ At i → decided (refuse (refusal 10 i)) ≡ run (namesPlan m o fields) p
+    unfolding namesPlan
+    names-hit i z = row-hit 10 k (namesRequired o) (unsoundIn o) (tracePlan m o fields) p e r i h found z
 
-  pub names-miss : (metrics strings : List ℕ) (r : Found) (v : Answer Acceptable) → k ≤ length p → metrics ≡ part (o .head .metrics) (take k p) → strings ≡ part (o .head .strings) (take k p)
-      → r ≡ firstUnsound (o .version) metrics (o .head .metrics .count) strings → r ≡ Nothing
-      → v ≡ run (tracePlan m o fields) p → v ≡ run (namesPlan m o fields) p
-  names-miss metrics strings r v h a b q z w = stop-miss 10 r r (tracePlan m o fields) p v refl z w ∙ sym (names-here metrics strings r h a b q)
+    pub names-miss : (v : Answer Acceptable) → r ≡ Nothing → v ≡ run (tracePlan m o fields) p → v ≡ run (namesPlan m o fields) p
+    unfolding namesPlan
+    names-miss v z w = row-miss 10 k (namesRequired o) (unsoundIn o) (tracePlan m o fields) p e r v h found z w
 
 -- ---- 9
+
+abbrev misfitIn : Opening → List ℕ → Found
+misfitIn o b = firstMisfit (o .version) (part (o .head .metrics) b) (o .head .metrics .count) (o .head .strings .len)
 
 module _ (m : ℕ) (o : Opening) (fields : ℕ → Acceptance) (p : List ℕ) where
   pub metrics-short : length p < o .head .metrics .end → wants (o .head .metrics .end) ≡ run (metricsPlan m o fields) p
   unfolding metricsPlan
-  metrics-short h = sym (run-short (o .head .metrics .end) _ p h)
+  metrics-short h = row-short 9 (o .head .metrics .end) (o .head .metrics .end) (misfitIn o) (namesPlan m o fields) p refl h
 
-  metrics-here : (metrics : List ℕ) (r : Found) → o .head .metrics .end ≤ length p → metrics ≡ part (o .head .metrics) (take (o .head .metrics .end) p)
-      → r ≡ firstMisfit (o .version) metrics (o .head .metrics .count) (o .head .strings .len)
-      → run (metricsPlan m o fields) p ≡ run (stop 9 r (namesPlan m o fields)) p
-  unfolding metricsPlan
-  metrics-here metrics r h a q = rw (run-here (o .head .metrics .end) _ p h, ← a, ← q)
+  module _ (metrics : List ℕ) (r : Found) (h : o .head .metrics .end ≤ length p) (a : metrics ≡ part (o .head .metrics) (take (o .head .metrics .end) p))
+      (q : r ≡ firstMisfit (o .version) metrics (o .head .metrics .count) (o .head .strings .len)) where
+    misfit : r ≡ misfitIn o (take (o .head .metrics .end) p)
+    misfit = rw (← a) q
 
-  pub metrics-hit : (metrics : List ℕ) (r : Found) (i : ℕ) → o .head .metrics .end ≤ length p → metrics ≡ part (o .head .metrics) (take (o .head .metrics .end) p)
-      → r ≡ firstMisfit (o .version) metrics (o .head .metrics .count) (o .head .strings .len) → r ≡ At i
-      → decided (refuse (refusal 9 i)) ≡ run (metricsPlan m o fields) p
-  metrics-hit metrics r i h a q z = stop-hit 9 i r r (namesPlan m o fields) p refl z ∙ sym (metrics-here metrics r h a q)
+    pub metrics-hit : (i : ℕ) → r ≡ At i → decided (refuse (refusal 9 i)) ≡ run (metricsPlan m o fields) p
+    unfolding metricsPlan
+    metrics-hit i z = row-hit 9 (o .head .metrics .end) (o .head .metrics .end) (misfitIn o) (namesPlan m o fields) p refl r i h misfit z
 
-  pub metrics-miss : (metrics : List ℕ) (r : Found) (v : Answer Acceptable) → o .head .metrics .end ≤ length p → metrics ≡ part (o .head .metrics) (take (o .head .metrics .end) p)
-      → r ≡ firstMisfit (o .version) metrics (o .head .metrics .count) (o .head .strings .len) → r ≡ Nothing
-      → v ≡ run (namesPlan m o fields) p → v ≡ run (metricsPlan m o fields) p
-  metrics-miss metrics r v h a q z w = stop-miss 9 r r (namesPlan m o fields) p v refl z w ∙ sym (metrics-here metrics r h a q)
+    pub metrics-miss : (v : Answer Acceptable) → r ≡ Nothing → v ≡ run (namesPlan m o fields) p → v ≡ run (metricsPlan m o fields) p
+    unfolding metricsPlan
+    metrics-miss v z w = row-miss 9 (o .head .metrics .end) (o .head .metrics .end) (misfitIn o) (namesPlan m o fields) p refl r v h misfit z w
 
 -- ---- 7 and 8
 
@@ -225,57 +225,29 @@ head-required p o l f e = rw e (f .whole)
 
 module _ (n m : ℕ) (answer : Answer Acceptable) (v : Verdict) (after : List ℕ) (r : Reads answer m v after) where
   -- an acceptance is of the size that its record has
-  accepted-whole : (a : Acceptance) (x : Answer Acceptable) → answer ≡ x → v ≡ Accepted a → whole n x ≡ whole n (decided (accept (record { fields = a; table = after })))
-  accepted-whole a (decided (accept x)) e q =
-      let z : acceptedValues a ≡ acceptedValues (x .fields) = ap valuesOf (sym q) ∙ r .verdict ∙ ap answerValues e in
-      let f : a ≡ x .fields = ap (λ (w : Values). w .fields) z in
-      let t : after ≡ x .table = r .buffer ∙ ap (λ (w : Answer Acceptable). bufferAfter w m) e in
-      ap (λ (w : Acceptable). whole n (decided (accept w))) (sym (λ i. record { fields = f i; table = t i }))
-  accepted-whole a (decided (refuse x)) e q =
-      let z : acceptedValues a ≡ refusedValues (x .number) (x .index) = ap valuesOf (sym q) ∙ r .verdict ∙ ap answerValues e in
-      let k : _≡_ {A = ℕ} 0 1 = ap (λ (w : Values). w .kind) z in
-      absurd (omega arith)
-  accepted-whole a (wants k) e q =
-      let z : acceptedValues a ≡ wantedValues k = ap valuesOf (sym q) ∙ r .verdict ∙ ap answerValues e in
-      let k : _≡_ {A = ℕ} 0 2 = ap (λ (w : Values). w .kind) z in
-      absurd (omega arith)
+  accepted-whole : (a : Acceptance) → v ≡ Accepted a → whole n answer ≡ whole n (decided (accept (record { fields = a; table = after })))
+  accepted-whole a q =
+      let x = accepted-answer answer a (ap valuesOf (sym q) ∙ r .verdict) in
+      let f : x .0 .fields ≡ a = sym (x .2) in
+      let t : x .0 .table ≡ after = sym (r .buffer ∙ ap (λ (w : Answer Acceptable). bufferAfter w m) (x .1)) in
+      ap (whole n) (x .1) ∙ ap (λ (w : Acceptable). whole n (decided (accept w))) (λ i. record { fields = f i; table = t i })
 
   pub whole-short : (a : Acceptance) → v ≡ Accepted a → n < a .size → whole n answer ≡ wrongLength 16
-  whole-short a q l = accepted-whole a answer refl q ∙ rw (lt-ltb _ _ l)
+  whole-short a q l = accepted-whole a q ∙ rw (lt-ltb _ _ l)
 
   pub whole-long : (a : Acceptance) → v ≡ Accepted a → a .size ≤ n → a .size < n → whole n answer ≡ wrongLength 17
-  whole-long a q l h = accepted-whole a answer refl q ∙ rw (le-ltb _ _ l, lt-ltb _ _ h)
+  whole-long a q l h = accepted-whole a q ∙ rw (le-ltb _ _ l, lt-ltb _ _ h)
 
   pub whole-exact : (a : Acceptance) → v ≡ Accepted a → a .size ≤ n → n ≤ a .size → Reads (whole n answer) m (Accepted a) after
-  whole-exact a q l h = rw (accepted-whole a answer refl q, le-ltb _ _ l, le-ltb _ _ h) (record { verdict = refl; buffer = refl })
-
-  refused-whole : (f : Refusal) (x : Answer Acceptable) → answer ≡ x → v ≡ Refused f → whole n x ≡ x
-  refused-whole f (decided (accept x)) e q =
-      let z : refusedValues (f .number) (f .index) ≡ acceptedValues (x .fields) = ap valuesOf (sym q) ∙ r .verdict ∙ ap answerValues e in
-      let k : _≡_ {A = ℕ} 1 0 = ap (λ (w : Values). w .kind) z in
-      absurd (omega arith)
-  refused-whole f (decided (refuse x)) e q = refl
-  refused-whole f (wants k) e q =
-      let z : refusedValues (f .number) (f .index) ≡ wantedValues k = ap valuesOf (sym q) ∙ r .verdict ∙ ap answerValues e in
-      let k : _≡_ {A = ℕ} 1 2 = ap (λ (w : Values). w .kind) z in
-      absurd (omega arith)
+  whole-exact a q l h = rw (accepted-whole a q, le-ltb _ _ l, le-ltb _ _ h) (record { verdict = refl; buffer = refl })
 
   pub whole-refused : (f : Refusal) → v ≡ Refused f → Reads (whole n answer) m (Refused f) after
-  whole-refused f q = rw (refused-whole f answer refl q) (record { verdict = ap valuesOf (sym q) ∙ r .verdict; buffer = r .buffer })
-
-  wanted-whole : (k : ℕ) (x : Answer Acceptable) → answer ≡ x → v ≡ Wanted k → whole n x ≡ wrongLength 16
-  wanted-whole k (decided (accept x)) e q =
-      let z : wantedValues k ≡ acceptedValues (x .fields) = ap valuesOf (sym q) ∙ r .verdict ∙ ap answerValues e in
-      let k : _≡_ {A = ℕ} 2 0 = ap (λ (w : Values). w .kind) z in
-      absurd (omega arith)
-  wanted-whole k (decided (refuse x)) e q =
-      let z : wantedValues k ≡ refusedValues (x .number) (x .index) = ap valuesOf (sym q) ∙ r .verdict ∙ ap answerValues e in
-      let k : _≡_ {A = ℕ} 2 1 = ap (λ (w : Values). w .kind) z in
-      absurd (omega arith)
-  wanted-whole k (wants j) e q = refl
+  whole-refused f q =
+      let x = refused-answer answer f (ap valuesOf (sym q) ∙ r .verdict) in
+      rw x (record { verdict = refl; buffer = r .buffer ∙ ap (λ (w : Answer Acceptable). bufferAfter w m) x })
 
   pub whole-wanted : (k : ℕ) → v ≡ Wanted k → whole n answer ≡ wrongLength 16
-  whole-wanted k q = wanted-whole k answer refl q
+  whole-wanted k q = ap (whole n) (wanted-answer answer k (ap valuesOf (sym q) ∙ r .verdict))
 
 -- the promise of an answer that is another
 pub reads-same : (x y : Answer Acceptable) (m k : ℕ) (v : Verdict) (after : List ℕ) → Reads x k v after → k ≡ m → y ≡ x → Reads y m v after

@@ -19,9 +19,9 @@ use Rattle.layout.specs.declared.Version.the-variants.{V17, V23, V26}
 use Rattle.incremental.specs.Decision.{Decision, accept, refuse, refusal, checkedOf}
 use Rattle.incremental.specs.declared.Checked.{Checked}
 use Rattle.incremental.specs.declared.Refusal.{Refusal}
-use Rattle.volumes.specs.declared.Cursor.{Cursor}
+use Rattle.volumes.specs.declared.Step.{Step}
 use Rattle.volumes.specs.declared.Step.the-variants.{Next, Past, Unended}
-use Rattle.volumes.specs.Volumes.{entryAt, pathAt, pathCount, pathFits, pathUnits, referencesAt, referencesSize, referenceCount, referencesFit, stepAt, directoryCount, directoriesAt, directoryChecks, entryChecks, volumeChecks, volumesFrom, volumesChecks, also}
+use Rattle.volumes.specs.Volumes.{entryAt, pathAt, pathCount, pathFits, pathUnits, referencesAt, referencesSize, referenceCount, referencesFit, stepAt, onStep, directoryCount, directoriesAt, directoryChecks, entryChecks, volumeChecks, volumesFrom, volumesChecks, also}
 
 -- An entry starts where no sum with it wraps
 pub entry-low : (v : Version) (i : ℕ) → i < 2 ^ 32 → entryAt v i < 2 ^ 40
@@ -95,21 +95,9 @@ step-next s at last d h z =
 pub directories-start : (s : List ℕ) (i n at : ℕ) → directoryChecks s i n at ≡ directoryChecks s i (n - 0) at
 directories-start s i n at = rw (sub-zero n)
 
-pub directories-next : (s : List ℕ) (i n done at : ℕ) (next : Cursor) → done < n → stepAt s at ≡ Next next → directoryChecks s i (n - done) at ≡ directoryChecks s i (n - (done + 1)) (next .at)
+pub directories-step : (s : List ℕ) (i n done at : ℕ) (x : Step) → done < n → stepAt s at ≡ x → directoryChecks s i (n - done) at ≡ onStep i x (λ next. directoryChecks s i (n - (done + 1)) next)
 unfolding directoryChecks
-directories-next s i n done at next l e =
-    let d : n - done ≡ suc (n - (done + 1)) = omega arith in
-    rw (d, directoryChecks, e)
-
-pub directories-past : (s : List ℕ) (i n done at : ℕ) → done < n → stepAt s at ≡ Past → directoryChecks s i (n - done) at ≡ refuse (refusal 14 i)
-unfolding directoryChecks
-directories-past s i n done at l e =
-    let d : n - done ≡ suc (n - (done + 1)) = omega arith in
-    rw (d, directoryChecks, e)
-
-pub directories-unended : (s : List ℕ) (i n done at : ℕ) → done < n → stepAt s at ≡ Unended → directoryChecks s i (n - done) at ≡ refuse (refusal 15 i)
-unfolding directoryChecks
-directories-unended s i n done at l e =
+directories-step s i n done at x l e =
     let d : n - done ≡ suc (n - (done + 1)) = omega arith in
     rw (d, directoryChecks, e)
 

@@ -1,6 +1,7 @@
+use mathlib.Core.Path.{refl}
 use Rattle.head.specs.Checks.{openPlan}
 use Rattle.head.specs.Facts.{open-met}
-use Rattle.head.specs.Steps.{open-on, open-refused, open-wanted}
+use Rattle.head.specs.Steps.{open-then}
 use Rattle.reader.specs.Checks.{readPlan, restPlan}
 use borrow.Author.Needs.{needs}
 use Rattle.reader.proofs.checks.check_all.Statement.{statement}
@@ -26,15 +27,15 @@ same-length c = search needs
 
 returns : tie.Need-returns
 unfolding readPlan
-returns c = open-on openPlan (restPlan _) _ _ _ _ (c .before .before .before .before .before .before .before .read-open .ensures) (c .before .before .before .before .before .o .given .1) (c .before .before .check-rest .ensures)
+returns c = open-then openPlan (restPlan _) _ _ _ _ (c .before .before .before .before .before .before .before .read-open .ensures) (c .before .before .before .before .before .o .given .1) (c .before .before .check-rest .ensures)
 
 returns-2 : tie.Need-returns-2
 unfolding readPlan
-returns-2 c = open-refused openPlan (restPlan _) _ _ _ (c .before .before .before .read-open .ensures) (c .before .r .given .1)
+returns-2 c = open-then openPlan (restPlan _) _ _ _ _ (c .before .before .before .read-open .ensures) (c .before .r .given .1) refl
 
 returns-3 : tie.Need-returns-3
 unfolding readPlan
-returns-3 c = open-wanted openPlan (restPlan _) _ _ _ (c .before .before .before .read-open .ensures) (c .before .k .given .1)
+returns-3 c = open-then openPlan (restPlan _) _ _ _ _ (c .before .before .before .read-open .ensures) (c .before .k .given .1) refl
 
 pub check-all-spec : {M : Type 1} → statement M
 check-all-spec =
