@@ -10,9 +10,11 @@ use Rattle.lists.specs.declared.Found.{Found}
 use Rattle.lists.specs.declared.Found.the-variants.{At, Nothing}
 use Rattle.layout.specs.Versions.{layoutOf}
 use Rattle.layout.specs.declared.Version.{Version}
+use Rattle.names.specs.Names.{sound}
 use Rattle.query.specs.Queries.{bytesAt}
 use Rattle.query.specs.Parts.{nameSound, nameIn}
 use Rattle.path_search.specs.Search.{numbersOf, matches, pickReport, reportOf}
+use Rattle.path_search.specs.declared.Report.{Report}
 use Rattle.path_search.specs.declared.Report.the-variants as report
 use Rattle.path_search.specs.declared.PathAnswer.{PathAnswer}
 use Rattle.path_search.specs.declared.PathAnswer.the-variants as pathAnswer
@@ -29,6 +31,10 @@ twoHashes a b hash = pick (eqb a hash || eqb b hash) (match.Equal (pickReport (e
 -- a name's numbers match the stored hash, with the report, or not
 unfoldable pub matchOf : Version → List ℕ → ℕ → Match
 matchOf v numbers hash = pick (matches v numbers hash) (match.Equal (reportOf v numbers hash)) match.Differs
+
+-- a match that counts where the name's text is sound
+abbrev pub whereSound : List ℕ → ℕ → ℕ → Report → Match
+whereSound strings at units x = pick (sound strings at units) (match.Equal x) match.Differs
 
 abbrev pub numbersIn : Version → List ℕ → List ℕ → ℕ → List ℕ
 numbersIn v metrics strings i = numbersOf (bytesAt (nameIn v metrics i) strings)

@@ -24,15 +24,13 @@ use Rattle.sections.specs.Fields.{storedHash, part}
 use Rattle.head.specs.Checks.{openPlan}
 use Rattle.head.specs.Facts.{OpenFacts, open-shapes}
 use Rattle.head.specs.declared.checks.Opening.{Opening}
-use Rattle.names.specs.Names.{sound}
+use Rattle.names.specs.Names.{nameAt, nameUnits, fits, sound}
+use Rattle.names.specs.NameLaws.{name-past}
 use Rattle.query.specs.Queries.{bytesAt, entryShown, namePlace}
 use Rattle.path_search.specs.Search.{numbersOf, matches, reportOf, entryNumbers, firstMatch, reported, pathFound}
-use Rattle.query.specs.Parts.{nameSound, nameIn, nameShown}
-use Rattle.path_search.specs.Matches.{oneHash, twoHashes, matchOf, numbersIn, matchIn, testIn, entriesIn, reportedIn, searched}
-use Rattle.query.specs.QueryLaws.{both, name-shown, name-hidden, name-inside, part-there, part-low, part-bytes}
-use Rattle.query.specs.declared.Place.{Place}
-use Rattle.query.specs.declared.PlaceAnswer.{PlaceAnswer}
-use Rattle.query.specs.declared.PlaceAnswer.the-variants as placeAnswer
+use Rattle.query.specs.Parts.{nameSound, nameIn}
+use Rattle.path_search.specs.Matches.{oneHash, twoHashes, matchOf, whereSound, numbersIn, matchIn, testIn, entriesIn, reportedIn, searched}
+use Rattle.query.specs.QueryLaws.{both, name-inside, part-there, part-low, part-bytes}
 use Rattle.path_search.specs.declared.Report.{Report}
 use Rattle.path_search.specs.declared.PathAnswer.{PathAnswer}
 use Rattle.path_search.specs.declared.PathAnswer.the-variants as pathAnswer
@@ -55,18 +53,42 @@ match-26 numbers hash ev eh e = rw (ev, ← eh) e
 
 pub ruleset by-version = (match-17, match-23, match-26)
 
--- ---- the name of an entry, by what the question on it gave
+-- ---- a name with the stored hash
 
-pub match-hidden : (v : Version) (metrics strings : List ℕ) (hash i : ℕ) {r : PlaceAnswer} → r ≡ nameShown v metrics strings i → r ≡ placeAnswer.NotShown → match.Differs ≡ matchIn v metrics strings hash i
-unfolding matchIn
-match-hidden v metrics strings hash i e q = rw (name-hidden v metrics strings i e q)
+pub where-true : (strings : List ℕ) (at units : ℕ) (x : Report) {r : Bool} → r ≡ sound strings at units → r ≡ true → match.Equal x ≡ whereSound strings at units x
+where-true strings at units x e q = rw (sym e ∙ q)
 
-pub match-given : (v : Version) (metrics strings : List ℕ) (hash i end : ℕ) {r : PlaceAnswer} {w : Place} {m : Match} → r ≡ nameShown v metrics strings i → r ≡ placeAnswer.Shown w → end ≡ w .at + w .len → m ≡ matchOf v (numbersOf (take (end - w .at) (drop (w .at) strings))) hash → m ≡ matchIn v metrics strings hash i
-unfolding matchIn
-match-given v metrics strings hash i end {w = w} e q d h =
-    let n = name-shown v metrics strings i w e q in
-    let l : end - w .at ≡ w .len = omega arith in
-    rw (n .sound) (rw (l, n .place) at h)
+pub where-false : (strings : List ℕ) (at units : ℕ) (x : Report) {r : Bool} → r ≡ sound strings at units → r ≡ false → match.Differs ≡ whereSound strings at units x
+where-false strings at units x e q = rw (sym e ∙ q)
+
+pub ruleset by-sound = (where-true, where-false)
+
+-- ---- the name of an entry: `at` and `units` are its fields, and `end` is where its units end
+
+module _ (v : Version) (metrics strings : List ℕ) (hash i : ℕ) {at units : ℕ} (a : at ≡ nameAt v metrics i) (u : units ≡ nameUnits v metrics i) where
+  pub match-misfit : fits (length strings) at units ≡ false → match.Differs ≡ matchIn v metrics strings hash i
+  unfolding matchIn nameSound
+  match-misfit e = rw (← a, ← u, ← name-past strings at units e)
+
+  -- the match by the fields
+  match-here : {m : Match} {end : ℕ} → end ≡ at + 2 * units → m ≡ matchOf v (numbersOf (take (end - at) (drop at strings))) hash
+      → matchIn v metrics strings hash i ≡ pick (sound strings at units) m match.Differs
+  unfolding matchIn nameSound
+  match-here {end = end} d e =
+      let l : end - at ≡ 2 * units = omega arith in
+      rw (← a, ← u, e, l)
+
+  pub match-differs : {m : Match} {end : ℕ} → end ≡ at + 2 * units → m ≡ matchOf v (numbersOf (take (end - at) (drop at strings))) hash → m ≡ match.Differs
+      → match.Differs ≡ matchIn v metrics strings hash i
+  match-differs d e q = sym (match-here d e ∙ rw q (neither (sound strings at units)))
+    where
+      neither : (b : Bool) → pick b match.Differs match.Differs ≡ match.Differs
+      neither true = refl
+      neither false = refl
+
+  pub match-equals : {m r : Match} {x : Report} {end : ℕ} → end ≡ at + 2 * units → m ≡ matchOf v (numbersOf (take (end - at) (drop at strings))) hash → m ≡ match.Equal x
+      → r ≡ whereSound strings at units x → r ≡ matchIn v metrics strings hash i
+  match-equals d e q h = h ∙ sym (match-here d e ∙ rw q)
 
 -- ---- the loop: what an entry's answer says of the test
 

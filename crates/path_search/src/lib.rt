@@ -5,12 +5,11 @@ ghost use lib.ListN.{length};
 ghost use Rattle.layout.specs.Versions.{sizeLimit};
 ghost use Rattle.head.specs.Facts.{OpenFacts};
 ghost use Rattle.path_search.specs.Search.{numbersOf, pathFound, reported, firstMatch};
-ghost use Rattle.path_search.specs.Matches.{oneHash, twoHashes, matchOf, matchIn, searched};
+ghost use Rattle.path_search.specs.Matches.{oneHash, twoHashes, matchOf, whereSound, matchIn, searched};
 use head::OpenAnswer;
 use head::Opening;
 use layout::Layout;
 use layout::Version;
-use query::PlaceAnswer;
 
 // For version 23, which of the two hashes matches; for the others there is nothing to report.
 pub enum Report {
@@ -71,17 +70,32 @@ fn name_matches(name: &[u8], version: Version, stored: u32) -> Match
     }
 }
 
-// The name of an entry that lies whole in the metrics, against the stored hash.
+// A name with the stored hash counts where its text is sound.
+fn where_sound(strings: &[u8], at: u32, units: u32, report: Report) -> Match
+    ensures { λ r. ⌜ r ≡ whereSound (now (strings .entry)) at units report ⌝ }
+{
+    if names::name_sound(strings, at, units) {
+        Match::Equal(report)
+    } else {
+        Match::Differs
+    }
+}
+
+// The name of an entry that lies whole in the metrics, against the stored hash. Few names have that hash, so it comes first, and
+// only a name that has it is looked through for a zero unit.
 fn entry_matches(metrics: &[u8], strings: &[u8], version: Version, i: u32, stored: u32) -> Match
     ensures { λ r. ⌜ r ≡ matchIn version (now (metrics .entry)) (now (strings .entry)) stored i ⌝ }
 {
-    match query::name_shown(metrics, strings, version, i) {
-        PlaceAnswer::Shown(w) => {
-            let at = w.at;
-            let end = at + w.len;
-            name_matches(&strings[at..end], version, stored)
-        }
-        PlaceAnswer::NotShown => Match::Differs,
+    let at = names::name_at(metrics, version, i);
+    let units = names::name_units(metrics, version, i);
+    if !names::name_fits(strings.len(), at, units) {
+        return Match::Differs;
+    }
+    let start = at as usize;
+    let end = start + 2 * (units as usize);
+    match name_matches(&strings[start..end], version, stored) {
+        Match::Equal(report) => where_sound(strings, at, units, report),
+        Match::Differs => Match::Differs,
     }
 }
 

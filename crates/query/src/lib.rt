@@ -73,7 +73,7 @@ pub fn program_name(file: &[u8]) -> &[u8]
 }
 
 // The name of an entry that lies whole in the metrics, as a place of the strings section.
-pub fn name_shown(metrics: &[u8], strings: &[u8], version: Version, i: u32) -> PlaceAnswer
+fn name_shown(metrics: &[u8], strings: &[u8], version: Version, i: u32) -> PlaceAnswer
     ensures { λ r. ⌜ r ≡ nameShown version (now (metrics .entry)) (now (strings .entry)) i ⌝ }
 {
     let at = names::name_at(metrics, version, i);

@@ -1,22 +1,37 @@
+use mathlib.Core.Path.{refl, sym, _∙_}
 use native.Mathlib.Omega.{arith}
-use mathlib.Core.Path.{refl}
-use Rattle.query.specs.QueryLaws.{name-end}
-use Rattle.path_search.specs.SearchLaws.{match-hidden, match-given}
+use borrow.Author.Tests.{not-true, not-false}
+use Rattle.names.specs.NameLaws.{fits-le}
+use Rattle.path_search.specs.SearchLaws.{match-misfit, match-differs, match-equals}
 use borrow.Author.Needs.{needs}
 use Rattle.path_search.proofs.entry_matches.Statement.{statement}
 use Rattle.path_search.proofs.entry_matches.Tie as tie
 
-name-shown-requires : tie.Need-name-shown-requires
-name-shown-requires c κs = search needs
+name-at-requires : tie.Need-name-at-requires
+name-at-requires c κs = search needs
 
-enum-known-w : tie.Need-enum-known-w
-enum-known-w c = search needs
+name-units-requires : tie.Need-name-units-requires
+name-units-requires c κs = search needs
+
+name-fits-requires : tie.Need-name-fits-requires
+name-fits-requires c κs = search needs
+
+returns : tie.Need-returns
+returns c =
+    match-misfit _ _ _ _ _ (c .before .before .before .name-at .ensures) (c .before .before .name-units .ensures)
+    (sym (c .before .name-fits .ensures) ∙ not-true _ (c .if1 .taken))
+
+cast-start : tie.Need-cast-start
+cast-start c = search needs
+
+cast-end : tie.Need-cast-end
+cast-end c = search needs
+
+mul-end : tie.Need-mul-end
+mul-end c = search needs
 
 add-end : tie.Need-add-end
-add-end c =
-    let w = c .before .before .w .given .0 .0 in
-    let h = name-end _ _ _ _ w (c .before .before .before .before .name-shown .ensures) (c .before .before .w .given .1) in
-    omega arith
+add-end c = search needs
 
 sub-name-matches : tie.Need-sub-name-matches
 sub-name-matches c = search needs
@@ -26,33 +41,48 @@ part-name-matches-start c = search needs
 
 part-name-matches-end : tie.Need-part-name-matches-end
 part-name-matches-end c =
-    let w = c .before .before .w .given .0 .0 in
-    let h = name-end _ _ _ _ w (c .before .before .before .before .name-shown .ensures) (c .before .before .w .given .1) in
+    let h = fits-le _ _ _ (sym (c .before .name-fits .ensures) ∙ not-false _ (c .if1 .left)) in
     omega arith
 
 name-matches-requires : tie.Need-name-matches-requires
 name-matches-requires c κs = search needs
 
+enum-known-report : tie.Need-enum-known-report
+enum-known-report c = search needs
+
+where-sound-requires : tie.Need-where-sound-requires
+where-sound-requires c κs = search needs
+
 enum-told : tie.Need-enum-told
 enum-told c = search needs
 
-returns : tie.Need-returns
-returns c = match-given _ _ _ _ _ _ (c .before .before .before .before .before .before .name-shown .ensures) (c .before .before .before .before .w .given .1) refl (c .name-matches .ensures)
-
 returns-2 : tie.Need-returns-2
-returns-2 c = search match-hidden
+returns-2 c =
+    match-equals _ _ _ _ _ (c .before .before .before .before .before .before .before .before .before .name-at .ensures) (c .before .before .before .before .before .before .before .before .name-units .ensures) refl (c .before .before .before .before .name-matches .ensures) (c .before .before .report .given .1)
+    (c .where-sound .ensures)
+
+returns-3 : tie.Need-returns-3
+returns-3 c =
+    match-differs _ _ _ _ _ (c .before .before .before .before .before .before .before .name-at .ensures) (c .before .before .before .before .before .before .name-units .ensures) refl (c .before .before .name-matches .ensures) (c .enum-told .given .1)
 
 pub entry-matches-spec : {M : Type 1} → statement M
 entry-matches-spec =
     tie.close
     (tie.spec
-    name-shown-requires
-    enum-known-w
+    name-at-requires
+    name-units-requires
+    name-fits-requires
+    returns
+    cast-start
+    cast-end
+    mul-end
     add-end
     sub-name-matches
     part-name-matches-start
     part-name-matches-end
     name-matches-requires
+    enum-known-report
+    where-sound-requires
     enum-told
-    returns
-    returns-2)
+    returns-2
+    returns-3)
