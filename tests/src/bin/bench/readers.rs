@@ -48,10 +48,29 @@ pub fn run() {
     println!("ratio, largest file: {:.3}", largest.times.ratio());
     println!(
         "time a byte, largest to typical: library {:.2}, plain {:.2}",
-        largest.library_a_byte() / typical.library_a_byte(),
-        largest.plain_a_byte() / typical.plain_a_byte()
+        growth(|file, places| _ = black_box(hivesaddle::read_file(black_box(file), places))),
+        growth(|file, places| _ = black_box(plain::read_file(black_box(file), places)))
     );
     parts();
+}
+
+/// The time a byte of the largest file to that of the typical one. Both are
+/// read turn and turn about, as many bytes in a turn, so that a machine that
+/// changes its speed changes it for both.
+fn growth(read: impl Fn(&[u8], &mut [u32])) -> f64 {
+    let typical = typical::file(23, &TYPICAL);
+    let largest = typical::file(23, &Amounts::for_bytes(LARGEST));
+    let calls = largest.len() / typical.len();
+    let mut few = vec![0; trace_count(&typical) as usize];
+    let mut many = vec![0; trace_count(&largest) as usize];
+    let times = side_by_side(
+        TURNS,
+        1,
+        || (0..calls).for_each(|_| read(&typical, &mut few)),
+        || read(&largest, &mut many),
+    );
+    let of_typical = times.library / (calls * typical.len()) as f64;
+    times.plain / largest.len() as f64 / of_typical
 }
 
 /// The typical file with the counts of all sections but one set to 0, to see
