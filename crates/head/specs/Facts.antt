@@ -12,7 +12,7 @@ use lib.Seq.{take-take}
 use borrow.Author.Tests.{eq-eqb, le-ltb, ltb-false, eqb-true, eqb-false}
 use Rattle.lists.specs.Count.{pick, true-false}
 use Rattle.lists.specs.Parts.{drop-take}
-use Rattle.lists.specs.First.{at-nothing, first-at}
+use Rattle.lists.specs.First.{firstFrom, at-nothing, first-at}
 use Rattle.lists.specs.declared.Found.{Found}
 use Rattle.lists.specs.declared.Found.the-variants.{At, Nothing}
 use Rattle.little_endian.specs.Number.{le, zeroUnit, le-take}
@@ -32,6 +32,7 @@ use Rattle.head.specs.declared.checks.Opening.{Opening}
 use Rattle.head.specs.declared.checks.OpenAnswer.{OpenAnswer}
 use Rattle.head.specs.declared.checks.OpenAnswer.the-variants as openAnswer
 use Rattle.sections.specs.Fields.{faultAt, signatureFault, declaredSize, sizeFault, nameEnd, sectionOf, headOf, part, outside, firstOutside, shares, firstShared}
+use Rattle.sections.proofs.Cases.{pairs-are}
 use Rattle.head.specs.Checks.{stop, byName, namePlan, sizePlan, signaturePlan, byVersion, startPlan, sectionPlan, headPlan, openPlan, startOf, openOf}
 use Rattle.head.specs.Steps.{stop-miss, name-hit, version-hit, head-on}
 
@@ -95,7 +96,7 @@ pub record Inside (v : Version) (h : Head) : Type 0 where
   pub volumes : Within (layoutOf v .head) (h .size) (h .volumes)
 
 none-outside : (v : Version) (h : Head) → firstOutside v h ≡ Nothing → (outside (layoutOf v .head) (h .size) (h .metrics) ≡ false) × (outside (layoutOf v .head) (h .size) (h .trace) ≡ false) × (outside (layoutOf v .head) (h .size) (h .strings) ≡ false) × (outside (layoutOf v .head) (h .size) (h .volumes) ≡ false)
-unfolding firstOutside
+unfolding firstOutside firstFrom
 none-outside v h e = go (outside (layoutOf v .head) (h .size) (h .metrics)) (outside (layoutOf v .head) (h .size) (h .trace)) (outside (layoutOf v .head) (h .size) (h .strings)) (outside (layoutOf v .head) (h .size) (h .volumes)) e
   where
     go : (a b c d : Bool) → pick a (At 1) (pick b (At 2) (pick c (At 3) (pick d (At 4) Nothing))) ≡ Nothing → (a ≡ false) × (b ≡ false) × (c ≡ false) × (d ≡ false)
@@ -106,7 +107,7 @@ none-outside v h e = go (outside (layoutOf v .head) (h .size) (h .metrics)) (out
     go false false false false e = (refl, refl, refl, refl)
 
 pub outside-law : (v : Version) (h : Head) → (firstOutside v h ≡ Nothing) ↔ Inside v h
-unfolding firstOutside
+unfolding firstOutside firstFrom
 outside-law v h = (there, back)
   where
     there : firstOutside v h ≡ Nothing → Inside v h
@@ -171,12 +172,11 @@ none-shared false false false false false true q = absurd (at-nothing 4 q)
 none-shared false false false false false false q = (refl, refl, refl, refl, refl, refl)
 
 pub shares-law : (h : Head) → (firstShared h ≡ Nothing) ↔ Apart h
-unfolding firstShared
 shares-law h = (there, back)
   where
     there : firstShared h ≡ Nothing → Apart h
     there e =
-        let n = none-shared (shares (h .metrics) (h .trace)) (shares (h .metrics) (h .strings)) (shares (h .trace) (h .strings)) (shares (h .metrics) (h .volumes)) (shares (h .trace) (h .volumes)) (shares (h .strings) (h .volumes)) e in
+        let n = none-shared (shares (h .metrics) (h .trace)) (shares (h .metrics) (h .strings)) (shares (h .trace) (h .strings)) (shares (h .metrics) (h .volumes)) (shares (h .trace) (h .volumes)) (shares (h .strings) (h .volumes)) (sym (pairs-are h) ∙ e) in
         record {
           metrics-trace = separate-law _ _ .0 (n .0);
           metrics-strings = separate-law _ _ .0 (n .1);
@@ -189,7 +189,7 @@ shares-law h = (there, back)
     back : Apart h → firstShared h ≡ Nothing
     back a =
         let l = separate-law in
-        rw (l (h .metrics) (h .trace) .1 (a .metrics-trace), l (h .metrics) (h .strings) .1 (a .metrics-strings), l (h .trace) (h .strings) .1 (a .trace-strings), l (h .metrics) (h .volumes) .1 (a .metrics-volumes), l (h .trace) (h .volumes) .1 (a .trace-volumes), l (h .strings) (h .volumes) .1 (a .strings-volumes))
+        pairs-are h ∙ rw (l (h .metrics) (h .trace) .1 (a .metrics-trace), l (h .metrics) (h .strings) .1 (a .metrics-strings), l (h .trace) (h .strings) .1 (a .trace-strings), l (h .metrics) (h .volumes) .1 (a .metrics-volumes), l (h .trace) (h .volumes) .1 (a .trace-volumes), l (h .strings) (h .volumes) .1 (a .strings-volumes))
 
 -- The bytes of a section.
 -- a section that ends within the bytes has as many as it says

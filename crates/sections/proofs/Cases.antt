@@ -1,14 +1,15 @@
 -- The cases of the definitions, for `search` at a function's returns: `r` and `l` are what calls gave, and the tests are the branches' facts.
-use mathlib.Core.Path.{_≡_, sym, ap, _∙_}
-use mathlib.Core.Bool.{Bool, true, false}
+use mathlib.Core.Path.{_≡_, refl, sym, ap, _∙_}
+use mathlib.Core.Bool.{Bool, true, false, _||_}
 use mathlib.Core.List.{List}
-use Prim.Native.Nat.{ℕ, _*_, _≤_, _<_}
+use Prim.Native.Nat.{ℕ, _+_, _*_, _≤_, _<_}
 use native.Mathlib.Omega.{arith}
 use native.Mathlib.Nat.{mul-le-mul-left}
 use mir.Syntax.{w64}
 use mir.Val.{Fits}
 use borrow.Author.Tests.{eq-eqb, ne-eqb, lt-ltb, le-ltb}
-use Rattle.lists.specs.Count.{pick}
+use Rattle.lists.specs.Count.{pick, some, some-more}
+use Rattle.lists.specs.First.{firstFrom}
 use Rattle.lists.specs.declared.Found.{Found}
 use Rattle.lists.specs.declared.Found.the-variants.{At, Nothing}
 use Rattle.little_endian.specs.Number.{le}
@@ -16,7 +17,8 @@ use Rattle.layout.specs.Versions.{layoutOf, sizeLimit, layout-sound}
 use Rattle.layout.specs.declared.Version.{Version}
 use Rattle.layout.specs.declared.Layout.{Layout}
 use Rattle.sections.specs.declared.Section.{Section}
-use Rattle.sections.specs.Fields.{signatureFault, sizeFault, sectionOf, headOf, outside}
+use Rattle.sections.specs.declared.Head.{Head}
+use Rattle.sections.specs.Fields.{signatureFault, sizeFault, sectionOf, headOf, outside, shares, numbered, firstShared}
 
 -- the first section that fails a test
 pub pick-hit : (t r : Bool) (a b : Found) → r ≡ t → r ≡ true → a ≡ pick t a b
@@ -32,6 +34,43 @@ pub outside-miss : (v : Version) (l : Layout) (size : ℕ) (s : Section) (r : Bo
 outside-miss v l size s r x a b e p q h = pick-miss _ r x a b (p ∙ ap (λ (k : Layout). outside (k .head) size s) e) q h
 
 pub ruleset picks = (outside-hit, outside-miss, pick-hit, pick-miss)
+
+-- 6 by pairs of sections, in the order in which the code compares them
+abbrev pub sharedPairs : Head → Found
+sharedPairs h =
+    pick (shares (h .metrics) (h .trace)) (At 2)
+    (pick (shares (h .metrics) (h .strings)) (At 3)
+    (pick (shares (h .trace) (h .strings)) (At 3)
+    (pick (shares (h .metrics) (h .volumes)) (At 4)
+    (pick (shares (h .trace) (h .volumes)) (At 4)
+    (pick (shares (h .strings) (h .volumes)) (At 4)
+    Nothing)))))
+
+pick-or : {A : Type 0} (a b : Bool) (x y : A) → pick (a || b) x y ≡ pick a x (pick b x y)
+pick-or true b x y = refl
+pick-or false b x y = refl
+
+some-none : (p : ℕ → Bool) → some p 0 ≡ false
+unfolding some
+some-none p = refl
+
+some-one : (p : ℕ → Bool) → some p 1 ≡ p 0
+some-one p = some-more p 0 ∙ ap (λ b. b || p 0) (some-none p)
+
+some-two : (p : ℕ → Bool) → some p 2 ≡ (p 0 || p 1)
+some-two p = some-more p 1 ∙ ap (λ b. b || p 1) (some-one p)
+
+some-three : (p : ℕ → Bool) → some p 3 ≡ ((p 0 || p 1) || p 2)
+some-three p = some-more p 2 ∙ ap (λ b. b || p 2) (some-two p)
+
+pub pairs-are : (h : Head) → firstShared h ≡ sharedPairs h
+unfolding firstShared firstFrom
+pairs-are h =
+    rw (some-none (λ k. shares (numbered h (k + 1)) (h .metrics)), some-one (λ k. shares (numbered h (k + 1)) (h .trace)), some-two (λ k. shares (numbered h (k + 1)) (h .strings)), some-three (λ k. shares (numbered h (k + 1)) (h .volumes)))
+    (rw (pick-or (shares (h .metrics) (h .strings)) (shares (h .trace) (h .strings)), pick-or (shares (h .metrics) (h .volumes) || shares (h .trace) (h .volumes)) (shares (h .strings) (h .volumes)), pick-or (shares (h .metrics) (h .volumes)) (shares (h .trace) (h .volumes))))
+
+pub by-pairs : (h : Head) (r : Found) → r ≡ sharedPairs h → r ≡ firstShared h
+by-pairs h r e = e ∙ sym (pairs-are h)
 
 -- 2
 pub signature-right : (b : List ℕ) (r : ℕ) → r ≡ le 4 b 4 → r ≡ 0x41434353 → Nothing ≡ signatureFault b

@@ -1,11 +1,11 @@
 -- The head's fields and sections, and what each of checks 2 to 6 finds wrong in them (document 01, "Head" and rows 2 to 6).
 use mathlib.Core.List.{List}
 use mathlib.Core.Bool.{Bool, _&&_, _||_, not}
-use Prim.Native.Nat.{ℕ, _+_, _*_}
+use Prim.Native.Nat.{ℕ, _+_, _-_, _*_}
 use lib.Dec.{eqb, ltb}
 use lib.ListN.{take, drop}
-use Rattle.lists.specs.First.{first}
-use Rattle.lists.specs.Count.{pick}
+use Rattle.lists.specs.First.{first, firstFrom}
+use Rattle.lists.specs.Count.{pick, some}
 use Rattle.lists.specs.declared.Found.{Found}
 use Rattle.lists.specs.declared.Found.the-variants.{At, Nothing}
 use Rattle.little_endian.specs.Number.{le, zeroUnit}
@@ -57,30 +57,26 @@ headOf v b =
 abbrev pub part : Section → List ℕ → List ℕ
 part s b = take (s .len) (drop (s .at) b)
 
+-- the section of a number: 1 metrics, 2 trace, 3 strings, 4 volumes
+abbrev pub numbered : Head → ℕ → Section
+numbered h n = pick (eqb n 1) (h .metrics) (pick (eqb n 2) (h .trace) (pick (eqb n 3) (h .strings) (h .volumes)))
+
 -- a section of nonzero length starts before H or ends after S
 unfoldable pub outside : ℕ → ℕ → Section → Bool
 outside h size s = not (eqb (s .len) 0) && (ltb (s .at) h || ltb size (s .end))
 
--- 5: the first such section
+-- 5: the first such section, of the four from 1
 unfoldable pub firstOutside : Version → Head → Found
-firstOutside v h =
-    pick (outside (layoutOf v .head) (h .size) (h .metrics)) (At 1)
-    (pick (outside (layoutOf v .head) (h .size) (h .trace)) (At 2)
-    (pick (outside (layoutOf v .head) (h .size) (h .strings)) (At 3)
-    (pick (outside (layoutOf v .head) (h .size) (h .volumes)) (At 4)
-    Nothing)))
+firstOutside v h = firstFrom (λ n. outside (layoutOf v .head) (h .size) (numbered h n)) 4 1
 
 -- two sections of nonzero length share a byte
 unfoldable pub shares : Section → Section → Bool
 shares s t = (not (eqb (s .len) 0) && not (eqb (t .len) 0)) && (ltb (s .at) (t .end) && ltb (t .at) (s .end))
 
--- 6: the smallest section that shares a byte with a lower section
+-- section n shares a byte with a lower section
+abbrev pub sharesLower : Head → ℕ → Bool
+sharesLower h n = some (λ k. shares (numbered h (k + 1)) (numbered h n)) (n - 1)
+
+-- 6: the smallest such section
 unfoldable pub firstShared : Head → Found
-firstShared h =
-    pick (shares (h .metrics) (h .trace)) (At 2)
-    (pick (shares (h .metrics) (h .strings)) (At 3)
-    (pick (shares (h .trace) (h .strings)) (At 3)
-    (pick (shares (h .metrics) (h .volumes)) (At 4)
-    (pick (shares (h .trace) (h .volumes)) (At 4)
-    (pick (shares (h .strings) (h .volumes)) (At 4)
-    Nothing)))))
+firstShared h = firstFrom (sharesLower h) 4 1

@@ -1,5 +1,4 @@
-use Rattle.sections.proofs.Cases.{picks}
-use Rattle.sections.specs.Fields.{firstShared}
+use Rattle.sections.proofs.Cases.{picks, by-pairs}
 use borrow.Author.Needs.{needs}
 use Rattle.sections.proofs.first_shared.Statement.{statement}
 use Rattle.sections.proofs.first_shared.Tie as tie
@@ -8,47 +7,40 @@ share-requires : tie.Need-share-requires
 share-requires c κs = search needs
 
 returns : tie.Need-returns
-unfolding firstShared
-returns c = search picks depth 9
+returns c = by-pairs _ _ (search picks depth 9)
 
 share-requires-2 : tie.Need-share-requires-2
 share-requires-2 c κs = search needs
 
 returns-2 : tie.Need-returns-2
-unfolding firstShared
-returns-2 c = search picks depth 9
+returns-2 c = by-pairs _ _ (search picks depth 9)
 
 share-requires-3 : tie.Need-share-requires-3
 share-requires-3 c κs = search needs
 
 returns-3 : tie.Need-returns-3
-unfolding firstShared
-returns-3 c = search picks depth 9
+returns-3 c = by-pairs _ _ (search picks depth 9)
 
 share-requires-4 : tie.Need-share-requires-4
 share-requires-4 c κs = search needs
 
 returns-4 : tie.Need-returns-4
-unfolding firstShared
-returns-4 c = search picks depth 9
+returns-4 c = by-pairs _ _ (search picks depth 9)
 
 share-requires-5 : tie.Need-share-requires-5
 share-requires-5 c κs = search needs
 
 returns-5 : tie.Need-returns-5
-unfolding firstShared
-returns-5 c = search picks depth 9
+returns-5 c = by-pairs _ _ (search picks depth 9)
 
 share-requires-6 : tie.Need-share-requires-6
 share-requires-6 c κs = search needs
 
 returns-6 : tie.Need-returns-6
-unfolding firstShared
-returns-6 c = search picks depth 9
+returns-6 c = by-pairs _ _ (search picks depth 9)
 
 returns-7 : tie.Need-returns-7
-unfolding firstShared
-returns-7 c = search picks depth 9
+returns-7 c = by-pairs _ _ (search picks depth 9)
 
 pub first-shared-spec : {M : Type 1} → statement M
 first-shared-spec =
