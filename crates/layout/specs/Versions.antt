@@ -1,7 +1,9 @@
 -- Document 01's table of versions.
+use mathlib.Core.List.{[], _∷_}
 use Prim.Native.Nat.{ℕ, _+_, _≤_}
 use native.Mathlib.Omega.{arith}
 use lib.Dec.{eqb}
+use Rattle.lists.specs.Answer.{Said}
 use Rattle.lists.specs.Count.{pick}
 use Rattle.layout.specs.declared.Version.{Version}
 use Rattle.layout.specs.declared.Version.the-variants.{V17, V23, V26}
@@ -32,6 +34,11 @@ versionNumber V26 = 26
 -- the version of a number, for 17, 23 and 26
 unfoldable pub versionOf : ℕ → KnownVersion
 versionOf v = pick (eqb v 17) (Known V17) (pick (eqb v 23) (Known V23) (pick (eqb v 26) (Known V26) Unknown))
+
+-- what each case says: 1 and the version's number, or 0 and none
+abbrev pub knownSaid : KnownVersion → Said
+knownSaid (Known v) = record { number = 1; values = versionNumber v ∷ [] }
+knownSaid Unknown = record { number = 0; values = [] }
 
 -- what holds of the constants of every version
 pub record Sound (l : Layout) : Type 0 where

@@ -1,6 +1,7 @@
 // The constants of each format version, kept together.
 ghost use mathlib.Core.Path.{_≡_};
-ghost use Rattle.layout.specs.Versions.{layoutOf, versionNumber, versionOf};
+ghost use Rattle.lists.specs.Answer.{Answers};
+ghost use Rattle.layout.specs.Versions.{layoutOf, versionNumber, versionOf, knownSaid};
 
 // The greatest declared size.
 pub const SIZE_LIMIT: u32 = 16777215;
@@ -91,7 +92,7 @@ impl Version {
     }
 
     pub fn of(number: u32) -> KnownVersion
-        ensures { λ r. ⌜ r ≡ versionOf number ⌝ }
+        ensures { λ r. ⌜ Answers knownSaid (versionOf number) r ⌝ }
     {
         match number {
             17 => KnownVersion::Known(Version::V17),

@@ -1,3 +1,5 @@
+pub mod Answer
+pub mod Part
 pub mod First
 pub mod Count
 pub mod Table

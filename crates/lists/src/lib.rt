@@ -1,6 +1,5 @@
 // Laws on lists that several crates need are in specs/; here is what they share of code.
-ghost use mathlib.Core.Path.{_≡_};
-ghost use lib.ListN.{take, drop};
+ghost use Rattle.lists.specs.Part.{IsPart};
 
 // The index that a search found, if any.
 pub enum Found {
@@ -10,9 +9,9 @@ pub enum Found {
 
 // So many bytes from an offset, or as many of them as there are.
 pub fn part(bytes: &[u8], at: usize, len: usize) -> &[u8]
-    ensures { λ r. ⌜ now r ≡ take len (drop at (now (bytes .entry))) ⌝ }
+    ensures { λ r. ⌜ IsPart (bytes .entry) at len r ⌝ }
 {
-    if bytes.len() <= at {
+    if bytes.len() < at {
         return &bytes[..0];
     }
     if bytes.len() - at <= len {

@@ -1,7 +1,8 @@
 // The fields of the head, the sections that they describe, and what checks 2 to 6 find wrong in them.
 ghost use mathlib.Core.Path.{_≡_};
 ghost use Prim.Native.Nat.{_≤_};
-ghost use Rattle.sections.specs.Fields.{signatureFault, sizeFault, nameEnd, sectionOf, headOf, part, outside, firstOutside, shares, firstShared};
+ghost use Rattle.lists.specs.Part.{IsPart};
+ghost use Rattle.sections.specs.Fields.{signatureFault, sizeFault, nameEnd, sectionOf, headOf, outside, firstOutside, shares, firstShared};
 use layout::Layout;
 use layout::SIZE_LIMIT;
 use layout::Version;
@@ -26,7 +27,7 @@ pub struct Head {
 
 // The bytes of a section, as many as there are.
 pub fn part_of(bytes: &[u8], s: Section) -> &[u8]
-    ensures { λ r. ⌜ now r ≡ part s (now (bytes .entry)) ⌝ }
+    ensures { λ r. ⌜ IsPart (bytes .entry) (s .at) (s .len) r ⌝ }
 {
     lists::part(bytes, s.at, s.len)
 }

@@ -1,10 +1,11 @@
 -- Document 01's "Volumes" on a volumes section: checks 8, 14 and 15, and one volume's facts.
 use mathlib.Core.Bool.{Bool, true, false, _&&_, _||_}
-use mathlib.Core.List.{List}
+use mathlib.Core.List.{List, [], _∷_}
 use Prim.Native.Nat.{ℕ, zero, suc, _+_, _*_}
 use lib.Dec.{leb, eqb}
 use lib.ListN.{length}
 use Rattle.lists.specs.First.{first}
+use Rattle.lists.specs.Answer.{Said}
 use Rattle.lists.specs.Count.{pick}
 use Rattle.lists.specs.declared.Found.{Found}
 use Rattle.lists.specs.declared.Found.the-variants.{At, Nothing}
@@ -72,6 +73,12 @@ stepAt s at =
     Unended)
     Past)
     Past
+
+-- what each case says: 0 and the position after the string, 14 or 15
+abbrev pub stepSaid : Step → Said
+stepSaid (Next c) = record { number = 0; values = c .at ∷ [] }
+stepSaid Past = record { number = 14; values = [] }
+stepSaid Unended = record { number = 15; values = [] }
 
 -- what a step says of volume i: the later steps decide; 14 for one that runs past the section; 15 for a last unit that isn't zero
 abbrev pub onStep : ℕ → Step → (ℕ → Decision Unit) → Decision Unit

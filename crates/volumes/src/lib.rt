@@ -2,9 +2,10 @@
 ghost use mathlib.Core.Path.{_≡_};
 ghost use Prim.Native.Nat.{_<_, _^_};
 ghost use lib.Dec.{eqb};
+ghost use Rattle.lists.specs.Answer.{Answers};
 ghost use Rattle.lists.specs.Count.{pick};
 ghost use Rattle.incremental.specs.Decision.{checkedOf, refusal};
-ghost use Rattle.volumes.specs.Volumes.{stepAt, entryAt, volumeChecks, volumesChecks, volumeOf, referenceOf};
+ghost use Rattle.volumes.specs.Volumes.{stepAt, stepSaid, entryAt, volumeChecks, volumesChecks, volumeOf, referenceOf};
 ghost use Rattle.volumes.specs.Volumes.{pathFits, pathAt, pathCount, pathUnits, referenceCount, referencesFit, directoryChecks, directoryCount, directoriesAt, entryChecks};
 use incremental::Checked;
 use incremental::Refusal;
@@ -27,7 +28,7 @@ pub enum Step {
 
 impl Cursor {
     pub fn step(self, section: &[u8]) -> Step
-        ensures { λ r. ⌜ r ≡ stepAt (now (section .entry)) (self .at) ⌝ }
+        ensures { λ r. ⌜ Answers stepSaid (stepAt (now (section .entry)) (self .at)) r ⌝ }
     {
         let at = self.at;
         if section.len() < 2 {

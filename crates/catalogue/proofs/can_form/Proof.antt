@@ -19,10 +19,10 @@ enum-told c = search needs
 returns : tie.Need-returns
 returns c =
     c .size-in-range .ensures
-    ∙ sym (form-known (c .before .before .before .before .before .args .fields) _ _ (c .before .before .before .before .of .ensures) (c .before .before .v .given .1))
+    ∙ sym (form-known (c .before .before .before .before .before .args .fields) _ _ (c .before .before .before .before .of .ensures .answer) (c .before .before .v .given .1))
 
 returns-2 : tie.Need-returns-2
-returns-2 c = sym (form-unknown (c .before .before .before .args .fields) _ (c .before .before .of .ensures) (c .enum-told .given .1))
+returns-2 c = sym (form-unknown (c .before .before .before .args .fields) _ (c .before .before .of .ensures .answer) (c .enum-told .given .1))
 
 pub can-form-spec : {M : Type 1} → statement M
 can-form-spec =

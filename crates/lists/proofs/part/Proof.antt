@@ -1,4 +1,6 @@
-use Rattle.lists.specs.Parts.{parts}
+use mathlib.Core.Path.{refl}
+use native.Mathlib.Omega.{arith}
+use Rattle.lists.specs.Parts.{is-part-none, is-part-rest, is-part-whole}
 use borrow.Author.Needs.{needs}
 use Rattle.lists.proofs.part.Statement.{statement}
 use Rattle.lists.proofs.part.Tie as tie
@@ -7,7 +9,7 @@ slice-aggregate-result : tie.Need-slice-aggregate-result
 slice-aggregate-result c = search needs
 
 returns : tie.Need-returns
-returns c = search parts
+returns c = is-part-none _ _ _ _ refl (omega arith) refl refl
 
 sub-if2 : tie.Need-sub-if2
 sub-if2 c = search needs
@@ -22,7 +24,7 @@ part-result-end : tie.Need-part-result-end
 part-result-end c = search needs
 
 returns-2 : tie.Need-returns-2
-returns-2 c = search parts
+returns-2 c = is-part-rest _ _ _ _ refl (omega arith) (omega arith) refl (omega arith)
 
 add-end : tie.Need-add-end
 add-end c = search needs
@@ -37,7 +39,7 @@ part-result-end-2 : tie.Need-part-result-end-2
 part-result-end-2 c = search needs
 
 returns-3 : tie.Need-returns-3
-returns-3 c = search parts
+returns-3 c = is-part-whole _ _ _ _ refl (omega arith) refl (omega arith)
 
 pub part-spec : {M : Type 1} → statement M
 part-spec =

@@ -13,7 +13,7 @@ u32-at-requires : tie.Need-u32-at-requires
 u32-at-requires c κs = search needs
 
 search-requires : tie.Need-search-requires
-search-requires c κs = metrics-low (c .before .before .before .before .before .before .before .args .o) _ (c .before .before .before .before .before .before .before .pre) (c .before .before .part-of .ensures)
+search-requires c κs = metrics-low (c .before .before .before .before .before .before .before .args .o) _ (c .before .before .before .before .before .before .before .pre) (c .before .before .part-of .ensures .contents)
 
 returns : tie.Need-returns
 returns c = search path-given

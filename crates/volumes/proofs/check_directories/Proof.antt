@@ -50,7 +50,7 @@ refused-requires c κs = search needs
 returns : tie.Need-returns Inv-loop μ-loop
 returns c =
     let w = c .before .before .before .before .before .loop in
-    ap checkedOf (c .refused .ensures) ∙ sym (w .inv .1 ∙ directories-step _ _ _ _ _ _ (omega arith) (sym (c .before .before .before .step .ensures) ∙ c .before .enum-told .given .1))
+    ap checkedOf (c .refused .ensures) ∙ sym (w .inv .1 ∙ directories-step _ _ _ _ _ _ (omega arith) (sym (c .before .before .before .step .ensures .answer) ∙ c .before .enum-told .given .1))
 
 enum-told-2 : tie.Need-enum-told-2 Inv-loop μ-loop
 enum-told-2 c = search needs
@@ -61,7 +61,7 @@ refused-requires-2 c κs = search needs
 returns-2 : tie.Need-returns-2 Inv-loop μ-loop
 returns-2 c =
     let w = c .before .before .before .before .before .loop in
-    ap checkedOf (c .refused2 .ensures) ∙ sym (w .inv .1 ∙ directories-step _ _ _ _ _ _ (omega arith) (sym (c .before .before .before .step .ensures) ∙ c .before .enum-told2 .given .1))
+    ap checkedOf (c .refused2 .ensures) ∙ sym (w .inv .1 ∙ directories-step _ _ _ _ _ _ (omega arith) (sym (c .before .before .before .step .ensures .answer) ∙ c .before .enum-told2 .given .1))
 
 add-done : tie.Need-add-done Inv-loop μ-loop
 add-done c = search needs
@@ -72,7 +72,7 @@ loop-less c = search needs
 loop-again : tie.Need-loop-again Inv-loop μ-loop
 loop-again c =
     let w = c .before .before .before .before .before .loop in
-    (omega arith, w .inv .1 ∙ directories-step _ _ _ _ _ _ (omega arith) (sym (c .before .before .before .step .ensures) ∙ c .before .next .given .1))
+    (omega arith, w .inv .1 ∙ directories-step _ _ _ _ _ _ (omega arith) (sym (c .before .before .before .step .ensures .answer) ∙ c .before .next .given .1))
 
 returns-3 : tie.Need-returns-3 Inv-loop μ-loop
 returns-3 c = sym (c .before .loop .inv .1 ∙ directories-end _ _ _ _ _ (omega arith))

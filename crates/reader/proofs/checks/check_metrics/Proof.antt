@@ -21,7 +21,7 @@ enum-known-i : tie.Need-enum-known-i
 enum-known-i c = search needs
 
 returns-2 : tie.Need-returns-2
-returns-2 c = metrics-hit _ (c .before .before .before .before .before .before .before .before .before .before .args .o) _ _ _ _ (c .before .before .before .before .before .before .if1 .left) (c .before .before .before .before .part-of .ensures) (c .before .before .before .first-misfit .ensures) _ (c .before .i .given .1)
+returns-2 c = metrics-hit _ (c .before .before .before .before .before .before .before .before .before .before .args .o) _ _ _ _ (c .before .before .before .before .before .before .if1 .left) (c .before .before .before .before .part-of .ensures .contents) (c .before .before .before .first-misfit .ensures) _ (c .before .i .given .1)
 
 enum-told : tie.Need-enum-told
 enum-told c = search needs
@@ -33,7 +33,7 @@ same-length : tie.Need-same-length
 same-length c = search needs
 
 returns-3 : tie.Need-returns-3
-returns-3 c = metrics-miss _ (c .before .before .before .before .before .before .before .before .before .before .before .before .before .args .o) _ _ _ _ (c .before .before .before .before .before .before .before .before .before .if1 .left) (c .before .before .before .before .before .before .before .part-of .ensures) (c .before .before .before .before .before .before .first-misfit .ensures) _ (c .before .before .before .before .enum-told .given .1) (c .before .before .check-names .ensures)
+returns-3 c = metrics-miss _ (c .before .before .before .before .before .before .before .before .before .before .before .before .before .args .o) _ _ _ _ (c .before .before .before .before .before .before .before .before .before .if1 .left) (c .before .before .before .before .before .before .before .part-of .ensures .contents) (c .before .before .before .before .before .before .first-misfit .ensures) _ (c .before .before .before .before .enum-told .given .1) (c .before .before .check-names .ensures)
 
 pub check-metrics-spec : {M : Type 1} → statement M
 check-metrics-spec =

@@ -30,7 +30,7 @@ enum-known-i : tie.Need-enum-known-i
 enum-known-i c = search needs
 
 returns-2 : tie.Need-returns-2
-returns-2 c = names-hit _ (c .before .before .before .before .before .before .before .before .before .before .before .before .before .before .args .o) _ _ _ (c .before .before .before .before .before .before .before .before .before .before .before .names-required .ensures) _ _ _ (c .before .before .before .before .before .before .before .before .if1 .left) (c .before .before .before .before .before .before .part-of .ensures) (c .before .before .before .before .part-of2 .ensures) (c .before .before .before .first-unsound .ensures) _ (c .before .i .given .1)
+returns-2 c = names-hit _ (c .before .before .before .before .before .before .before .before .before .before .before .before .before .before .args .o) _ _ _ (c .before .before .before .before .before .before .before .before .before .before .before .names-required .ensures) _ _ _ (c .before .before .before .before .before .before .before .before .if1 .left) (c .before .before .before .before .before .before .part-of .ensures .contents) (c .before .before .before .before .part-of2 .ensures .contents) (c .before .before .before .first-unsound .ensures) _ (c .before .i .given .1)
 
 enum-told : tie.Need-enum-told
 enum-told c = search needs
@@ -42,7 +42,7 @@ same-length : tie.Need-same-length
 same-length c = search needs
 
 returns-3 : tie.Need-returns-3
-returns-3 c = names-miss _ (c .before .before .before .before .before .before .before .before .before .before .before .before .before .before .before .before .before .args .o) _ _ _ (c .before .before .before .before .before .before .before .before .before .before .before .before .before .before .names-required .ensures) _ _ _ (c .before .before .before .before .before .before .before .before .before .before .before .if1 .left) (c .before .before .before .before .before .before .before .before .before .part-of .ensures) (c .before .before .before .before .before .before .before .part-of2 .ensures) (c .before .before .before .before .before .before .first-unsound .ensures) _ (c .before .before .before .before .enum-told .given .1) (c .before .before .check-trace .ensures)
+returns-3 c = names-miss _ (c .before .before .before .before .before .before .before .before .before .before .before .before .before .before .before .before .before .args .o) _ _ _ (c .before .before .before .before .before .before .before .before .before .before .before .before .before .before .names-required .ensures) _ _ _ (c .before .before .before .before .before .before .before .before .before .before .before .if1 .left) (c .before .before .before .before .before .before .before .before .before .part-of .ensures .contents) (c .before .before .before .before .before .before .before .part-of2 .ensures .contents) (c .before .before .before .before .before .before .first-unsound .ensures) _ (c .before .before .before .before .enum-told .given .1) (c .before .before .check-trace .ensures)
 
 pub check-names-spec : {M : Type 1} → statement M
 check-names-spec =

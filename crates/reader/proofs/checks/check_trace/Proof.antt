@@ -47,7 +47,7 @@ same-length c = search needs
 returns-2 : tie.Need-returns-2
 returns-2 c =
     let s = c .before .before .before .before .before .before .before .before .before .before .before .before .before .before .before .before .before in
-    trace-passed _ (s .args .o) _ _ _ (c .before .before .before .before .before .before .before .before .before .before .before .before .if1 .left) (c .before .before .before .before .before .before .before .before .before .before .part-of .ensures) (s .pre .1 .places) _ _ (c .before .before .before .before .before .before .before .before .check-links .ensures) _ _ (c .check-volumes .result) (c .before .before .before .before .n .given .1)
+    trace-passed _ (s .args .o) _ _ _ (c .before .before .before .before .before .before .before .before .before .before .before .before .if1 .left) (c .before .before .before .before .before .before .before .before .before .before .part-of .ensures .contents) (s .pre .1 .places) _ _ (c .before .before .before .before .before .before .before .before .check-links .ensures) _ _ (c .check-volumes .result) (c .before .before .before .before .n .given .1)
     (c .before .record-of .ensures ∙ ap (λ (l : Layout). recordOf (s .args .o) (take (l .head) (s .args .file .now)) (c .before .before .before .before .n .given .0 .0)) (c .before .before .before .before .before .before .before .before .before .before .before .before .before .of .ensures)) (c .check-volumes .ensures)
 
 same-length-2 : tie.Need-same-length-2
@@ -56,7 +56,7 @@ same-length-2 c = search needs
 returns-3 : tie.Need-returns-3
 returns-3 c =
     let s = c .before .before .before .before .before .before .before .before .before .before .before .before .before .before in
-    trace-refused _ (s .args .o) _ _ _ (c .before .before .before .before .before .before .before .before .before .if1 .left) (c .before .before .before .before .before .before .before .part-of .ensures) (s .pre .1 .places) _ _ (c .before .before .before .before .before .check-links .ensures) _ (c .before .r .given .1)
+    trace-refused _ (s .args .o) _ _ _ (c .before .before .before .before .before .before .before .before .before .if1 .left) (c .before .before .before .before .before .before .before .part-of .ensures .contents) (s .pre .1 .places) _ _ (c .before .before .before .before .before .check-links .ensures) _ (c .before .r .given .1)
 
 pub check-trace-spec : {M : Type 1} → statement M
 check-trace-spec =

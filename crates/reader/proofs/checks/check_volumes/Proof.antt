@@ -31,14 +31,14 @@ returns-2 c =
     let s = c .before .before .before .before .before .before .before .before .before in
     let e = c .before .before .before .before .before .before .before .volumes-required .ensures in
     let h = c .before .before .before .before .before .if1 .left in
-    λ t. volumes-passed (s .args .o) _ _ e _ _ _ h (c .before .before .before .part-of .ensures) (volumes-all _ _ _ (s .pre .0) e h (s .pre .1)) (c .before .before .check-volumes .ensures) (c .enum-told .given .1)
+    λ t. volumes-passed (s .args .o) _ _ e _ _ _ h (c .before .before .before .part-of .ensures .contents) (volumes-all _ _ _ (s .pre .0) e h (s .pre .1)) (c .before .before .check-volumes .ensures) (c .enum-told .given .1)
 
 returns-3 : tie.Need-returns-3
 returns-3 c =
     let s = c .before .before .before .before .before .before .before .before .before .before in
     let e = c .before .before .before .before .before .before .before .before .volumes-required .ensures in
     let h = c .before .before .before .before .before .before .if1 .left in
-    λ t. volumes-refused (s .args .o) _ _ e _ _ _ _ h (c .before .before .before .before .part-of .ensures) (volumes-all _ _ _ (s .pre .0) e h (s .pre .1)) (c .before .before .before .check-volumes .ensures) (c .before .r .given .1)
+    λ t. volumes-refused (s .args .o) _ _ e _ _ _ _ h (c .before .before .before .before .part-of .ensures .contents) (volumes-all _ _ _ (s .pre .0) e h (s .pre .1)) (c .before .before .before .check-volumes .ensures) (c .before .r .given .1)
 
 pub check-volumes-spec : {M : Type 1} → statement M
 check-volumes-spec =

@@ -2,18 +2,20 @@ use mathlib.Core.Path.{sym, _∙_}
 use Prim.Native.Nat.{_+_, _*_}
 use native.Mathlib.Omega.{arith}
 use borrow.Author.Needs.{needs}
+use Rattle.lists.proofs.Answers.{answers}
+use Rattle.volumes.specs.Volumes.{stepSaid}
 use Rattle.volumes.specs.VolumeLaws.{step-short, step-past, step-unended, step-next}
 use Rattle.volumes.proofs.Cursor.step.Statement.{statement}
 use Rattle.volumes.proofs.Cursor.step.Tie as tie
 
 returns : tie.Need-returns
-returns c = step-short _ _ (omega arith)
+returns c = answers stepSaid _ _ (step-short _ _ (omega arith))
 
 sub-if2 : tie.Need-sub-if2
 sub-if2 c = search needs
 
 returns-2 : tie.Need-returns-2
-returns-2 c = step-short _ _ (omega arith)
+returns-2 c = answers stepSaid _ _ (step-short _ _ (omega arith))
 
 u16-at-requires : tie.Need-u16-at-requires
 u16-at-requires c κs = search needs
@@ -34,7 +36,7 @@ sub-if3 : tie.Need-sub-if3
 sub-if3 c = search needs
 
 returns-3 : tie.Need-returns-3
-returns-3 c = step-past _ _ (omega arith) (omega arith)
+returns-3 c = answers stepSaid _ _ (step-past _ _ (omega arith) (omega arith))
 
 u16-at-requires-2 : tie.Need-u16-at-requires-2
 u16-at-requires-2 c κs = search needs
@@ -45,12 +47,12 @@ add-t11 c = search needs
 returns-4 : tie.Need-returns-4
 returns-4 c =
     let last = c .before .before .before .before .before .before .before .args .self .at + 2 + 2 * c .before .before .before .u16-at .result in
-    step-next _ _ last (omega arith) (omega arith) (sym (c .before .u16-at2 .ensures) ∙ c .if4 .taken)
+    answers stepSaid _ _ (step-next _ _ last (omega arith) (omega arith) (sym (c .before .u16-at2 .ensures) ∙ c .if4 .taken))
 
 returns-5 : tie.Need-returns-5
 returns-5 c =
     let last = c .before .before .before .before .before .before .before .args .self .at + 2 + 2 * c .before .before .before .u16-at .result in
-    step-unended _ _ last (omega arith) (omega arith) (λ z. c .if4 .left (c .before .u16-at2 .ensures ∙ z))
+    answers stepSaid _ _ (step-unended _ _ last (omega arith) (omega arith) (λ z. c .if4 .left (c .before .u16-at2 .ensures ∙ z)))
 
 pub step-spec : {M : Type 1} → statement M
 step-spec =
