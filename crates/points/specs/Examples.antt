@@ -16,6 +16,7 @@ use Rattle.incremental.specs.Decision.{Decision, accept}
 use Rattle.incremental.specs.Plan.{Answer, decided, run, andThen}
 use Rattle.sections.specs.Fields.{signatureFault, sizeFault, nameEnd, headOf, outside, firstOutside, shares, firstShared}
 use Rattle.head.specs.Checks.{openPlan, startPlan, signaturePlan, sizePlan, namePlan, headPlan, sectionPlan}
+use Rattle.head.specs.declared.checks.Start.{Start}
 use Rattle.head.specs.declared.checks.Opening.{Opening}
 use Rattle.names.specs.Names.{fits, sound, firstMisfit, firstUnsound}
 use Rattle.trace.specs.Links.{end, nexts, follow, namers, cyclic, chains, predecessor, predecessors, linkChecks}
@@ -23,9 +24,9 @@ use Rattle.volumes.specs.Volumes.{pathFits, referenceCount, referencesFit, step
 use Rattle.reader.specs.declared.verdict.Acceptance.{Acceptance}
 use Rattle.reader.specs.declared.verdict.Verdict.{Verdict}
 use Rattle.reader.specs.declared.verdict.Verdict.the-variants.{Accepted}
-use Rattle.reader.specs.Verdict.{Acceptable, Reads}
+use Rattle.reader.specs.Verdict.{Acceptable}
 use Rattle.reader.specs.Checks.{recordOf, volumesPlan, tracePlan, namesPlan, metricsPlan, restPlan, readPlan, fileAnswer, ReadsFile}
-use Rattle.reader.specs.Allowed.{Allowed, givenRecord, givenTable, demand-2}
+use Rattle.reader.specs.Allowed.{Allowed, givenRecord, demand-2}
 use Rattle.query.specs.Queries.{entryPlace, entryShown, volumeAsked, volumeShown, volumeFacts, referenceAsked, referenceShown}
 use Rattle.query.specs.declared.PlaceAnswer.the-variants as place
 use Rattle.query.specs.declared.VolumeAnswer.the-variants as volume
@@ -56,7 +57,7 @@ headBytes v size runs sections =
     -- 120: last run time 0, and what stands before the run count; the run count ends the head
     ++ zeroBytes (layoutOf v .runs - 120) ++ u32 runs
 
--- the file of document 01's "Program", with any run count: 148 bytes, all section counts and sizes 0
+-- 148 bytes, all section counts and sizes 0. With one run it is the file of document 01's "Program".
 abbrev pub smallest : ℕ → List ℕ
 smallest runs = headBytes V17 148 runs (zeroBytes 36)
 
@@ -90,7 +91,7 @@ volumesBytes v =
     -- the directory D: its length, its unit, a zero unit
     ++ u16 1 ++ u16 68 ++ u16 0
 
--- where the sections start, one after another from H, and the size of all
+-- where the sections start, one after another from H, and where the last ends
 abbrev traceAt : Version → ℕ
 traceAt v = layoutOf v .head + layoutOf v .metric
 
@@ -137,7 +138,7 @@ pub record FullFile (v : Version) : Type 0 where
   pub long : length (full v) ≡ fullSize v
   -- entry 0 names entry 1 as next
   pub answer : fileAnswer (full v) 2 ≡ decided (accept (record { fields = fullRecord v; table = end ∷ 0 ∷ [] }))
-  -- the metrics entry's name, the volume with its counts and its path, and its reference are shown
+  -- the metrics entry's name, the volume with its counts and its path, and its reference can be shown
   pub name : entryPlace (full v) 0 ≡ place.Shown (record { at = stringsAt v; len = 2 })
   pub volume : volumeAsked (full v) 0
       ≡ volume.Shown (record { created = 7; serial = 9; references = 1; directories = 1; path = record { at = volumesAt v + layoutOf v .volume; len = 2 } })
@@ -151,9 +152,13 @@ pub record Examples : Type 0 where
 
 -- ---- the proofs: the checks are computed
 
--- what is named on these lines computes wherever the definition is unfolded
+-- to unfold one of these is to unfold all that its line names
+started : List ℕ → Answer Start
+unfolding run le startPlan signaturePlan sizePlan namePlan signatureFault sizeFault nameEnd versionOf firstFrom
+started p = run startPlan p
+
 opened : List ℕ → Answer Opening
-unfolding run andThen le openPlan startPlan signaturePlan sizePlan namePlan headPlan sectionPlan signatureFault sizeFault nameEnd versionOf firstFrom headOf outside firstOutside shares firstShared
+unfolding started andThen openPlan headPlan sectionPlan headOf outside firstOutside shares firstShared
 opened p = run openPlan p
 
 linked : List ℕ → ℕ
@@ -189,7 +194,8 @@ allowed-accepted p a o h e =
     }
 
 -- what the checks accept with some buffer is allowed, by demand 2
-example : (p buffer : List ℕ) (a : Acceptance) (t : List ℕ) → fileAnswer p (length buffer) ≡ decided (accept (record { fields = a; table = t })) → Example p a
+example : (p buffer : List ℕ) (a : Acceptance) (t : List ℕ) → fileAnswer p (length buffer) ≡ decided (accept (record { fields = a; table = t }))
+    → Example p a
 example p buffer a t e =
     let r : ReadsFile p buffer (Accepted a) t = rw e (record { verdict = refl; buffer = refl }) in
     let s = demand-2 p buffer (Accepted a) t r .sound a refl in
