@@ -1,0 +1,211 @@
+-- FILES THAT THE LAYOUT ALLOWS, so that demand 2 speaks of something: the file of 148 bytes of document 01, and for each version
+-- one file with every section.
+use mathlib.Core.Path.{_≡_, refl, sym, ap, _∙_}
+use mathlib.Core.List.{List, [], _∷_, _++_}
+use Prim.Native.Nat.{ℕ, _+_, _-_, _/_, _%_, _≤_}
+use native.Mathlib.Omega.{arith}
+use lib.ListN.{length, replicate}
+use Rattle.lists.specs.First.{firstFrom}
+use Rattle.lists.specs.Table.{tabulate}
+use Rattle.lists.specs.Count.{some, count}
+use Rattle.little_endian.specs.Number.{le}
+use Rattle.layout.specs.Versions.{versionOf, layoutOf, versionNumber}
+use Rattle.layout.specs.declared.Version.{Version}
+use Rattle.layout.specs.declared.Version.the-variants.{V17, V23, V26}
+use Rattle.incremental.specs.Decision.{Decision, accept}
+use Rattle.incremental.specs.Plan.{Answer, decided, run, andThen}
+use Rattle.sections.specs.Fields.{signatureFault, sizeFault, nameEnd, headOf, outside, firstOutside, shares, firstShared}
+use Rattle.head.specs.Checks.{openPlan, startPlan, signaturePlan, sizePlan, namePlan, headPlan, sectionPlan}
+use Rattle.head.specs.declared.checks.Start.{Start}
+use Rattle.head.specs.declared.checks.Opening.{Opening}
+use Rattle.names.specs.Names.{fits, sound, firstMisfit, firstUnsound}
+use Rattle.trace.specs.Links.{end, nexts, follow, namers, cyclic, chains, predecessor, predecessors, linkChecks}
+use Rattle.volumes.specs.Volumes.{pathFits, referenceCount, referencesFit, stepAt, directoryChecks, entryChecks, volumesFrom, pathUnits, volumeOf, referenceOf}
+use Rattle.reader.specs.declared.verdict.Acceptance.{Acceptance}
+use Rattle.reader.specs.declared.verdict.Verdict.{Verdict}
+use Rattle.reader.specs.declared.verdict.Verdict.the-variants.{Accepted}
+use Rattle.reader.specs.Verdict.{Acceptable}
+use Rattle.reader.specs.Checks.{recordOf, volumesPlan, tracePlan, namesPlan, metricsPlan, restPlan, readPlan, fileAnswer, ReadsFile}
+use Rattle.reader.specs.Allowed.{Allowed, givenRecord, demand-2}
+use Rattle.query.specs.Queries.{entryPlace, entryShown, volumeAsked, volumeShown, volumeFacts, referenceAsked, referenceShown}
+use Rattle.query.specs.declared.PlaceAnswer.the-variants as place
+use Rattle.query.specs.declared.VolumeAnswer.the-variants as volume
+use Rattle.query.specs.declared.ReferenceAnswer.the-variants as reference
+
+-- ---- the files
+
+abbrev pub u16 : ℕ → List ℕ
+u16 n = n % 256 ∷ n / 256 % 256 ∷ []
+
+abbrev pub u32 : ℕ → List ℕ
+u32 n = u16 n ++ u16 (n / 65536)
+
+abbrev pub zeroBytes : ℕ → List ℕ
+zeroBytes n = replicate n 0
+
+-- a head of H bytes, with program name A, stored hash 65, and the given 36 bytes of section offsets, counts and sizes
+abbrev pub headBytes : Version → ℕ → ℕ → List ℕ → List ℕ
+headBytes v size runs sections =
+    -- 0: version, signature, 4 bytes unread, declared size
+    u32 (versionNumber v) ++ (0x53 ∷ 0x43 ∷ 0x43 ∷ 0x41 ∷ []) ++ zeroBytes 4 ++ u32 size
+    -- 16: the program name's 30 units
+    ++ u16 65 ++ zeroBytes 58
+    -- 76: stored hash, 4 bytes unread
+    ++ u32 65 ++ zeroBytes 4
+    -- 84
+    ++ sections
+    -- 120: last run time 0, and what stands before the run count; the run count ends the head
+    ++ zeroBytes (layoutOf v .runs - 120) ++ u32 runs
+
+-- 148 bytes, all section counts and sizes 0. With one run it is the file of document 01's "Program".
+abbrev pub smallest : ℕ → List ℕ
+smallest runs = headBytes V17 148 runs (zeroBytes 36)
+
+abbrev pub smallestRecord : ℕ → Acceptance
+smallestRecord runs =
+    record { version = 17; size = 148; units = 1; hash = 65; time = 0; runs = runs; metrics = 0; trace = 0; volumes = 0; chains = 0 }
+
+-- one metrics entry: its name is at 0 of the strings and has one unit
+abbrev metricsBytes : Version → List ℕ
+metricsBytes v = zeroBytes (layoutOf v .name) ++ u32 0 ++ u32 1 ++ zeroBytes (layoutOf v .metric - (layoutOf v .name + 8))
+
+-- two trace entries: entry 0 names entry 1 as next, and entry 1 ends the chain
+abbrev traceBytes : List ℕ
+traceBytes = u32 1 ++ zeroBytes 8 ++ u32 end ++ zeroBytes 8
+
+-- the name B and its zero unit
+abbrev stringsBytes : List ℕ
+stringsBytes = u16 66 ++ u16 0
+
+-- one volume, whose path, references and directories stand one after another behind its entry
+abbrev volumesBytes : Version → List ℕ
+volumesBytes v =
+    -- path offset and unit count; creation time 7, serial number 9
+    u32 (layoutOf v .volume) ++ u32 1 ++ u32 7 ++ u32 0 ++ u32 9
+    -- file references offset and byte size; directory offset and count; the rest of the entry
+    ++ u32 (layoutOf v .volume + 2) ++ u32 16 ++ u32 (layoutOf v .volume + 18) ++ u32 1 ++ zeroBytes (layoutOf v .volume - 36)
+    -- the path C
+    ++ u16 67
+    -- the number of references at byte 4; the reference with entry index 5 and sequence number 3
+    ++ u32 0 ++ u32 1 ++ u32 5 ++ u16 0 ++ u16 3
+    -- the directory D: its length, its unit, a zero unit
+    ++ u16 1 ++ u16 68 ++ u16 0
+
+-- where the sections start, one after another from H, and where the last ends
+abbrev traceAt : Version → ℕ
+traceAt v = layoutOf v .head + layoutOf v .metric
+
+abbrev stringsAt : Version → ℕ
+stringsAt v = traceAt v + 24
+
+abbrev volumesAt : Version → ℕ
+volumesAt v = stringsAt v + 4
+
+abbrev pub fullSize : Version → ℕ
+fullSize V17 = 260
+fullSize V23 = 344
+fullSize V26 = 400
+
+-- one metrics entry with its name, two trace entries in a chain, one volume with a path, one reference and one directory
+abbrev pub full : Version → List ℕ
+full v =
+    headBytes v (fullSize v) 1
+    (u32 (layoutOf v .head) ++ u32 1
+    ++ u32 (traceAt v) ++ u32 2
+    ++ u32 (stringsAt v) ++ u32 4
+    ++ u32 (volumesAt v) ++ u32 1 ++ u32 (layoutOf v .volume + 24))
+    ++ metricsBytes v ++ traceBytes ++ stringsBytes ++ volumesBytes v
+
+abbrev pub fullRecord : Version → Acceptance
+fullRecord v =
+    record { version = versionNumber v; size = fullSize v; units = 1; hash = 65; time = 0; runs = 1; metrics = 1; trace = 2; volumes = 1; chains = 1 }
+
+-- ---- what holds of them
+
+-- a file that the layout allows, and that so is accepted wherever each trace entry has a working place
+pub record Example (p : List ℕ) (a : Acceptance) : Type 0 where
+  pub allowed : (o : Opening) × Allowed p o × (givenRecord o p ≡ a)
+  pub accepted : (buffer : List ℕ) (v : Verdict) (after : List ℕ) → a .trace ≤ length buffer → ReadsFile p buffer v after → v ≡ Accepted a
+
+pub record SmallestFile : Type 0 where
+  pub long : length (smallest 1) ≡ 148
+  pub answer : fileAnswer (smallest 1) 0 ≡ decided (accept (record { fields = smallestRecord 1; table = [] }))
+  -- with a working place, which no entry names; and with another run count
+  pub place : fileAnswer (smallest 1) 1 ≡ decided (accept (record { fields = smallestRecord 1; table = end ∷ [] }))
+  pub runs : fileAnswer (smallest 2) 0 ≡ decided (accept (record { fields = smallestRecord 2; table = [] }))
+
+pub record FullFile (v : Version) : Type 0 where
+  pub long : length (full v) ≡ fullSize v
+  -- entry 0 names entry 1 as next
+  pub answer : fileAnswer (full v) 2 ≡ decided (accept (record { fields = fullRecord v; table = end ∷ 0 ∷ [] }))
+  -- the metrics entry's name, the volume with its counts and its path, and its reference can be shown
+  pub name : entryPlace (full v) 0 ≡ place.Shown (record { at = stringsAt v; len = 2 })
+  pub volume : volumeAsked (full v) 0
+      ≡ volume.Shown (record { created = 7; serial = 9; references = 1; directories = 1; path = record { at = volumesAt v + layoutOf v .volume; len = 2 } })
+  pub reference : referenceAsked (full v) 0 0 ≡ reference.Shown (record { index = 5; sequence = 3 })
+
+pub record Examples : Type 0 where
+  pub smallest-file : SmallestFile
+  pub smallest-allowed : Example (smallest 1) (smallestRecord 1)
+  pub full-file : (v : Version) → FullFile v
+  pub full-allowed : (v : Version) → Example (full v) (fullRecord v)
+
+-- ---- the proofs: the checks are computed
+
+-- to unfold one of these is to unfold all that its line names
+started : List ℕ → Answer Start
+unfolding run le startPlan signaturePlan sizePlan namePlan signatureFault sizeFault nameEnd versionOf firstFrom
+started p = run startPlan p
+
+opened : List ℕ → Answer Opening
+unfolding started andThen openPlan headPlan sectionPlan headOf outside firstOutside shares firstShared
+opened p = run openPlan p
+
+linked : List ℕ → ℕ
+unfolding nexts tabulate linkChecks some count cyclic namers follow chains predecessors predecessor
+linked s = chains s
+
+inVolumes : List ℕ → Version → ℕ → ℕ → Decision Unit
+unfolding volumesFrom entryChecks pathFits referencesFit referenceCount directoryChecks stepAt
+inVolumes s v n i = volumesFrom s v n i
+
+answered : List ℕ → ℕ → Answer Acceptable
+unfolding opened linked inVolumes readPlan restPlan metricsPlan namesPlan tracePlan volumesPlan recordOf firstMisfit firstUnsound fits sound
+answered p m = fileAnswer p m
+
+smallest-computed : SmallestFile
+unfolding answered
+smallest-computed = record { long = refl; answer = refl; place = refl; runs = refl }
+
+full-computed : (v : Version) → FullFile v
+unfolding answered entryShown volumeShown volumeFacts volumeOf pathUnits referenceShown referenceOf
+full-computed V17 = record { long = refl; answer = refl; name = refl; volume = refl; reference = refl }
+full-computed V23 = record { long = refl; answer = refl; name = refl; volume = refl; reference = refl }
+full-computed V26 = record { long = refl; answer = refl; name = refl; volume = refl; reference = refl }
+
+-- what is allowed is accepted, by demand 2
+allowed-accepted : (p : List ℕ) (a : Acceptance) (o : Opening) → Allowed p o → a ≡ givenRecord o p → Example p a
+unfolding recordOf
+allowed-accepted p a o h e =
+    let n : o .head .trace .count ≡ a .trace = ap (λ (b : Acceptance). b .trace) (sym e) in
+    record {
+      allowed = (o, h, sym e);
+      accepted = λ buffer v after l r. demand-2 p buffer v after r .complete o h (omega arith) .0 ∙ ap Accepted (sym e);
+    }
+
+-- what the checks accept with some buffer is allowed, by demand 2
+example : (p buffer : List ℕ) (a : Acceptance) (t : List ℕ) → fileAnswer p (length buffer) ≡ decided (accept (record { fields = a; table = t }))
+    → Example p a
+example p buffer a t e =
+    let r : ReadsFile p buffer (Accepted a) t = rw e (record { verdict = refl; buffer = refl }) in
+    let s = demand-2 p buffer (Accepted a) t r .sound a refl in
+    allowed-accepted p a (s .0) (s .1) (s .3)
+
+pub examples : Examples
+examples =
+    record {
+      smallest-file = smallest-computed;
+      smallest-allowed = example (smallest 1) [] (smallestRecord 1) [] (smallest-computed .answer);
+      full-file = full-computed;
+      full-allowed = λ v. example (full v) (zeroBytes 2) (fullRecord v) (end ∷ 0 ∷ []) (full-computed v .answer);
+    }
