@@ -7,20 +7,9 @@ use native.Mathlib.Nat.{zero-add}
 use native.Mathlib.Omega.{arith}
 use lib.ListN.{length, take, drop, drop-of-length-le}
 use lib.Seq.{paste, take-all}
+use Rattle.lists.specs.Answer.{Said, Answers}
 use Rattle.lists.specs.Count.{pick}
 use Rattle.incremental.specs.Plan.{Answer}
-use Rattle.volumes.specs.declared.Reference.{Reference}
-use Rattle.query.specs.Queries.{placeOf}
-use Rattle.path_search.specs.Search.{reportNumber}
-use Rattle.query.specs.declared.PlaceAnswer.{PlaceAnswer}
-use Rattle.query.specs.declared.PlaceAnswer.the-variants as placeAnswer
-use Rattle.query.specs.declared.VolumeFacts.{VolumeFacts}
-use Rattle.query.specs.declared.VolumeAnswer.{VolumeAnswer}
-use Rattle.query.specs.declared.VolumeAnswer.the-variants as volumeAnswer
-use Rattle.query.specs.declared.ReferenceAnswer.{ReferenceAnswer}
-use Rattle.query.specs.declared.ReferenceAnswer.the-variants as referenceAnswer
-use Rattle.path_search.specs.declared.PathAnswer.{PathAnswer}
-use Rattle.path_search.specs.declared.PathAnswer.the-variants as pathAnswer
 use Rattle.reader.specs.Verdict.{Acceptable, Values, Reads, valuesOf, answerValues, bufferAfter}
 use Rattle.reader.specs.declared.verdict.Verdict.{Verdict}
 use Rattle.catalogue.specs.declared.Fields.{Fields}
@@ -102,43 +91,11 @@ verdict-out v w code out out′ e k q = rw e (k, q)
 
 -- ---- questions: 1 for yes, 0 for no, and the values, zeros where the answer is no
 
-pub record Answered (yes : ℕ) (values : List ℕ) (r : ℕ) (out out′ : List ℕ) : Type 0 where
-  pub number : r ≡ yes
-  pub output : out′ ≡ overlay out values
-
--- offset in the file, length in bytes
-abbrev pub placeYes : PlaceAnswer → ℕ
-placeYes (placeAnswer.Shown w) = 1
-placeYes placeAnswer.NotShown = 0
-
-abbrev pub placeValues : PlaceAnswer → List ℕ
-placeValues a = placeOf a .at ∷ placeOf a .len ∷ []
-
--- creation time, serial number, references, directories, path offset, path length in bytes
-abbrev pub volumeYes : VolumeAnswer → ℕ
-volumeYes (volumeAnswer.Shown f) = 1
-volumeYes volumeAnswer.NotShown = 0
-
-abbrev pub volumeList : VolumeFacts → List ℕ
-volumeList f = f .created ∷ f .serial ∷ f .references ∷ f .directories ∷ f .path .at ∷ f .path .len ∷ []
-
--- entry index, sequence number
-abbrev pub referenceYes : ReferenceAnswer → ℕ
-referenceYes (referenceAnswer.Shown r) = 1
-referenceYes referenceAnswer.NotShown = 0
-
-abbrev pub referenceList : Reference → List ℕ
-referenceList r = r .index ∷ r .sequence ∷ []
-
--- entry index, report: 0 none to make, 1 Vista only, 2 2008 only, 3 both
-abbrev pub pathYes : PathAnswer → ℕ
-pathYes (pathAnswer.Entry i r) = 1
-pathYes pathAnswer.NoPath = 0
-
-abbrev pub pathValues : PathAnswer → List ℕ
-pathValues (pathAnswer.Entry i r) = i ∷ reportNumber r ∷ []
-pathValues pathAnswer.NoPath = 0 ∷ 0 ∷ []
+pub record Answered (said : Said) (r : ℕ) (out out′ : List ℕ) : Type 0 where
+  pub number : r ≡ said .number
+  pub output : out′ ≡ overlay out (said .values)
 
 -- the promise by the case `b` of what a call gave
-pub answered-case : {A : Type 0} (number : A → ℕ) (values : A → List ℕ) (a b c : A) (r : ℕ) (out out′ : List ℕ) → a ≡ c → a ≡ b → r ≡ number b → out′ ≡ overlay out (values b) → Answered (number c) (values c) r out out′
-answered-case number values a b c r out out′ e q n o = rw (sym e ∙ q) (record { number = n; output = o })
+pub answered-case : {A : Type 0} (said : A → Said) (a b c : A) (r : ℕ) (out out′ : List ℕ)
+    → Answers said c a → a ≡ b → r ≡ said b .number → out′ ≡ overlay out (said b .values) → Answered (said c) r out out′
+answered-case said a b c r out out′ e q n o = rw (sym (e .answer) ∙ q) (record { number = n; output = o })

@@ -6,9 +6,9 @@ ghost use Rattle.catalogue.specs.Line.{reading};
 ghost use lib.ListN.{length};
 ghost use Rattle.reader.specs.Verdict.{valuesOf, zeros};
 ghost use Rattle.reader.specs.Checks.{prefixAnswer, fileAnswer};
-ghost use Rattle.query.specs.Queries.{programPlace, entryPlace, volumeAsked, volumeValues, referenceAsked, referenceValues};
-ghost use Rattle.path_search.specs.Search.{pathFound, reportNumber};
-ghost use Rattle.hivesaddle.specs.Output.{Answered, placeYes, placeValues, volumeYes, volumeList, referenceYes, referenceList, pathYes, pathValues, overlay, lineValues, fieldsOf, LineWriting, verdictValues, ReadOut};
+ghost use Rattle.query.specs.Queries.{placeSaid, programPlace, entryPlace, volumeAsked, volumeList, volumeValues, volumeSaid, referenceAsked, referenceSaid, placesNeeded, placesSaid};
+ghost use Rattle.path_search.specs.Search.{pathFound, pathSaid, reportNumber};
+ghost use Rattle.hivesaddle.specs.Output.{Answered, overlay, lineValues, fieldsOf, LineWriting, verdictValues, ReadOut};
 use catalogue::Fields;
 use catalogue::ReadLine;
 use catalogue::WrittenLine;
@@ -16,6 +16,7 @@ use path_search::PathAnswer;
 use path_search::Report;
 use query::Place;
 use query::PlaceAnswer;
+use query::PlacesAnswer;
 use query::ReferenceAnswer;
 use query::VolumeAnswer;
 use query::VolumeFacts;
@@ -215,6 +216,30 @@ pub extern "C" fn hs_read_file(file: &[u8], predecessors: &mut [u32], out: &mut 
     put_verdict(v, out)
 }
 
+fn put_one(out: &mut [u64], a: u64)
+    ensures { λ _. ⌜ now (out .exit) ≡ overlay (now (out .entry)) (a ∷ []) ⌝ }
+{
+    let values = [a];
+    put(out, &values);
+}
+
+// How many working places the readers need for the file, where checks 1 to 6 pass.
+#[no_mangle]
+pub extern "C" fn hs_places(file: &[u8], out: &mut [u64]) -> u32
+    ensures { λ r. ⌜ Answered (placesSaid (placesNeeded (now (file .entry)))) r (now (out .entry)) (now (out .exit)) ⌝ }
+{
+    match query::places(file) {
+        PlacesAnswer::Needed(n) => {
+            put_one(out, n as u64);
+            1
+        }
+        PlacesAnswer::Unknown => {
+            put_one(out, 0);
+            0
+        }
+    }
+}
+
 fn put_two(out: &mut [u64], a: u64, b: u64)
     ensures { λ _. ⌜ now (out .exit) ≡ overlay (now (out .entry)) (a ∷ b ∷ []) ⌝ }
 {
@@ -223,7 +248,7 @@ fn put_two(out: &mut [u64], a: u64, b: u64)
 }
 
 fn put_place(answer: PlaceAnswer, out: &mut [u64]) -> u32
-    ensures { λ r. ⌜ Answered (placeYes answer) (placeValues answer) r (now (out .entry)) (now (out .exit)) ⌝ }
+    ensures { λ r. ⌜ Answered (placeSaid answer) r (now (out .entry)) (now (out .exit)) ⌝ }
 {
     match answer {
         PlaceAnswer::Shown(w) => {
@@ -240,7 +265,7 @@ fn put_place(answer: PlaceAnswer, out: &mut [u64]) -> u32
 // Whether the program name can be shown: its offset in the file and its length in bytes.
 #[no_mangle]
 pub extern "C" fn hs_program_name(file: &[u8], out: &mut [u64]) -> u32
-    ensures { λ r. ⌜ Answered (placeYes (programPlace (now (file .entry)))) (placeValues (programPlace (now (file .entry)))) r (now (out .entry)) (now (out .exit)) ⌝ }
+    ensures { λ r. ⌜ Answered (placeSaid (programPlace (now (file .entry)))) r (now (out .entry)) (now (out .exit)) ⌝ }
 {
     put_place(query::program_place(file), out)
 }
@@ -248,7 +273,7 @@ pub extern "C" fn hs_program_name(file: &[u8], out: &mut [u64]) -> u32
 // Whether the name of metrics entry i can be shown: its offset in the file and its length in bytes.
 #[no_mangle]
 pub extern "C" fn hs_entry_name(file: &[u8], i: u64, out: &mut [u64]) -> u32
-    ensures { λ r. ⌜ Answered (placeYes (entryPlace (now (file .entry)) i)) (placeValues (entryPlace (now (file .entry)) i)) r (now (out .entry)) (now (out .exit)) ⌝ }
+    ensures { λ r. ⌜ Answered (placeSaid (entryPlace (now (file .entry)) i)) r (now (out .entry)) (now (out .exit)) ⌝ }
 {
     put_place(query::entry_place(file, i as usize), out)
 }
@@ -284,7 +309,7 @@ fn no_facts() -> VolumeFacts
 // Volume i: creation time, serial number, counts of references and directories, and the path's offset and length in bytes.
 #[no_mangle]
 pub extern "C" fn hs_volume(file: &[u8], i: u64, out: &mut [u64]) -> u32
-    ensures { λ r. ⌜ Answered (volumeYes (volumeAsked (now (file .entry)) i)) (volumeList (volumeValues (volumeAsked (now (file .entry)) i))) r (now (out .entry)) (now (out .exit)) ⌝ }
+    ensures { λ r. ⌜ Answered (volumeSaid (volumeAsked (now (file .entry)) i)) r (now (out .entry)) (now (out .exit)) ⌝ }
 {
     match query::volume(file, i as usize) {
         VolumeAnswer::Shown(f) => {
@@ -301,7 +326,7 @@ pub extern "C" fn hs_volume(file: &[u8], i: u64, out: &mut [u64]) -> u32
 // Reference k of volume i: entry index and sequence number.
 #[no_mangle]
 pub extern "C" fn hs_reference(file: &[u8], i: u64, k: u64, out: &mut [u64]) -> u32
-    ensures { λ r. ⌜ Answered (referenceYes (referenceAsked (now (file .entry)) i k)) (referenceList (referenceValues (referenceAsked (now (file .entry)) i k))) r (now (out .entry)) (now (out .exit)) ⌝ }
+    ensures { λ r. ⌜ Answered (referenceSaid (referenceAsked (now (file .entry)) i k)) r (now (out .entry)) (now (out .exit)) ⌝ }
 {
     match query::reference(file, i as usize, k as usize) {
         ReferenceAnswer::Shown(r) => {
@@ -329,7 +354,7 @@ fn report_number(r: Report) -> u64
 // The first metrics entry whose path hash is the stored one, and for version 23 which hash it was.
 #[no_mangle]
 pub extern "C" fn hs_find_path(file: &[u8], out: &mut [u64]) -> u32
-    ensures { λ r. ⌜ Answered (pathYes (pathFound (now (file .entry)))) (pathValues (pathFound (now (file .entry)))) r (now (out .entry)) (now (out .exit)) ⌝ }
+    ensures { λ r. ⌜ Answered (pathSaid (pathFound (now (file .entry)))) r (now (out .entry)) (now (out .exit)) ⌝ }
 {
     match path_search::find_path(file) {
         PathAnswer::Entry { index, report } => {

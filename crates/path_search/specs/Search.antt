@@ -1,8 +1,9 @@
 -- Document 01's path search.
 use mathlib.Core.Bool.{Bool, true, false, _&&_, _||_}
-use mathlib.Core.List.{List}
+use mathlib.Core.List.{List, [], _∷_}
 use Prim.Native.Nat.{ℕ}
 use lib.Dec.{eqb}
+use Rattle.lists.specs.Answer.{Said}
 use Rattle.lists.specs.First.{first}
 use Rattle.lists.specs.declared.Found.{Found}
 use Rattle.lists.specs.declared.Found.the-variants.{At, Nothing}
@@ -63,3 +64,8 @@ reportNumber report.Silent = 0
 reportNumber report.Vista = 1
 reportNumber report.Hash2008 = 2
 reportNumber report.Both = 3
+
+-- what each case says: 1 for an entry, with its index and report, or 0 for none, with zeros
+abbrev pub pathSaid : PathAnswer → Said
+pathSaid (pathAnswer.Entry i r) = record { number = 1; values = i ∷ reportNumber r ∷ [] }
+pathSaid pathAnswer.NoPath = record { number = 0; values = 0 ∷ 0 ∷ [] }

@@ -2,9 +2,10 @@
 ghost use mathlib.Core.Path.{_≡_};
 ghost use Prim.Native.Nat.{_≤_};
 ghost use lib.ListN.{length};
+ghost use Rattle.lists.specs.Answer.{Answers};
 ghost use Rattle.layout.specs.Versions.{sizeLimit};
 ghost use Rattle.head.specs.Facts.{OpenFacts};
-ghost use Rattle.path_search.specs.Search.{numbersOf, pathFound, reported, firstMatch};
+ghost use Rattle.path_search.specs.Search.{numbersOf, pathFound, pathSaid, reported, firstMatch};
 ghost use Rattle.path_search.specs.Matches.{oneHash, twoHashes, matchOf, whereSound, matchIn, searched};
 use head::OpenAnswer;
 use head::Opening;
@@ -136,7 +137,7 @@ fn path_in(file: &[u8], o: Opening) -> PathAnswer
 
 // The first metrics entry that can be shown and whose path hash equals the stored one.
 pub fn find_path(file: &[u8]) -> PathAnswer
-    ensures { λ r. ⌜ r ≡ pathFound (now (file .entry)) ⌝ }
+    ensures { λ r. ⌜ Answers pathSaid (pathFound (now (file .entry))) r ⌝ }
 {
     match head::read_open(file) {
         OpenAnswer::Opened(o) => path_in(file, o),

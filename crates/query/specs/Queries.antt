@@ -1,9 +1,12 @@
 -- Document 01's "Questions about one entry".
 use mathlib.Core.Bool.{Bool, true, false, _&&_}
-use mathlib.Core.List.{List}
+use mathlib.Core.List.{List, [], _∷_}
 use Prim.Native.Nat.{ℕ, _+_, _*_}
+use denote.Ref.{RefT}
 use lib.Dec.{leb, ltb}
 use lib.ListN.{length, take, drop}
+use Rattle.lists.specs.Answer.{Said}
+use Rattle.lists.specs.Part.{IsPart}
 use Rattle.lists.specs.Count.{pick}
 use Rattle.layout.specs.Versions.{layoutOf}
 use Rattle.incremental.specs.Decision.{Decision, accept, refuse}
@@ -16,6 +19,8 @@ use Rattle.volumes.specs.Volumes.{volumeChecks, volumeOf, referenceOf, entryAt}
 use Rattle.query.specs.declared.Place.{Place}
 use Rattle.query.specs.declared.PlaceAnswer.{PlaceAnswer}
 use Rattle.query.specs.declared.PlaceAnswer.the-variants as placeAnswer
+use Rattle.query.specs.declared.PlacesAnswer.{PlacesAnswer}
+use Rattle.query.specs.declared.PlacesAnswer.the-variants as placesAnswer
 use Rattle.query.specs.declared.VolumeFacts.{VolumeFacts}
 use Rattle.query.specs.declared.VolumeAnswer.{VolumeAnswer}
 use Rattle.query.specs.declared.VolumeAnswer.the-variants as volumeAnswer
@@ -33,10 +38,31 @@ asked (wants k) none some = none
 abbrev pub bytesAt : Place → List ℕ → List ℕ
 bytesAt w p = take (w .len) (drop (w .at) p)
 
--- what each case says: yes or no, the place, zeros where the answer is no
+-- `r` is the part of the borrowed file at that place: the very bytes, where they lie
+abbrev pub ShownAt : RefT (List ℕ) → Place → RefT (List ℕ) → Type 0
+ShownAt file w r = IsPart file (w .at) (w .len) r
+
+-- ---- the number of working places: checks 1 to 6 pass; a place for each trace entry
+
+abbrev pub placesNeeded : List ℕ → PlacesAnswer
+placesNeeded p = asked (run openPlan p) placesAnswer.Unknown (λ o. placesAnswer.Needed (o .head .trace .count))
+
+-- what each case says: 1 for yes and 0 for no; the number, zero where the answer is no
+abbrev pub placesSaid : PlacesAnswer → Said
+placesSaid (placesAnswer.Needed n) = record { number = 1; values = n ∷ [] }
+placesSaid placesAnswer.Unknown = record { number = 0; values = 0 ∷ [] }
+
+-- ---- names
+
+-- the place where a name is shown; an empty part at the start where it is not
 abbrev pub placeOf : PlaceAnswer → Place
 placeOf (placeAnswer.Shown w) = w
 placeOf placeAnswer.NotShown = record { at = 0; len = 0 }
+
+-- what each case says: 1 for yes and 0 for no; offset and length in bytes, zeros where the answer is no
+abbrev pub placeSaid : PlaceAnswer → Said
+placeSaid (placeAnswer.Shown w) = record { number = 1; values = w .at ∷ w .len ∷ [] }
+placeSaid placeAnswer.NotShown = record { number = 0; values = 0 ∷ 0 ∷ [] }
 
 -- ---- the program name: checks 1 to 4 pass; the units before its first zero, from byte 16
 
@@ -98,11 +124,20 @@ abbrev pub volumeAsked : List ℕ → ℕ → VolumeAnswer
 volumeAsked p i =
     asked (run openPlan p) volumeAnswer.NotShown (λ o. pick (volumeShown o p i) (volumeAnswer.Shown (volumeFacts o p i)) volumeAnswer.NotShown)
 
--- no: zeros and an empty part
+-- the facts where a volume is shown; no: zeros and an empty part
 abbrev pub volumeValues : VolumeAnswer → VolumeFacts
 volumeValues (volumeAnswer.Shown f) = f
 volumeValues volumeAnswer.NotShown =
     record { created = 0; serial = 0; references = 0; directories = 0; path = record { at = 0; len = 0 } }
+
+-- creation time, serial number, references, directories, path offset, path length in bytes
+abbrev pub volumeList : VolumeFacts → List ℕ
+volumeList f = f .created ∷ f .serial ∷ f .references ∷ f .directories ∷ f .path .at ∷ f .path .len ∷ []
+
+-- what each case says: 1 for yes and 0 for no, and the facts in that order
+abbrev pub volumeSaid : VolumeAnswer → Said
+volumeSaid (volumeAnswer.Shown f) = record { number = 1; values = volumeList f }
+volumeSaid volumeAnswer.NotShown = record { number = 0; values = volumeList (volumeValues volumeAnswer.NotShown) }
 
 -- ---- reference k of volume i, where k is below n
 
@@ -117,6 +152,7 @@ referenceAsked p i k =
     (referenceAnswer.Shown (referenceOf (part (o .head .volumes) p) (entryAt (o .version) i) k))
     referenceAnswer.NotShown)
 
-abbrev pub referenceValues : ReferenceAnswer → Reference
-referenceValues (referenceAnswer.Shown r) = r
-referenceValues referenceAnswer.NotShown = record { index = 0; sequence = 0 }
+-- what each case says: 1 for yes and 0 for no; entry index and sequence number, zeros where the answer is no
+abbrev pub referenceSaid : ReferenceAnswer → Said
+referenceSaid (referenceAnswer.Shown r) = record { number = 1; values = r .index ∷ r .sequence ∷ [] }
+referenceSaid referenceAnswer.NotShown = record { number = 0; values = 0 ∷ 0 ∷ [] }

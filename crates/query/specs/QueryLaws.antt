@@ -9,6 +9,10 @@ use native.Mathlib.Omega.{arith}
 use lib.Dec.{eqb}
 use lib.ListN.{length, take, drop, length-take, length-drop}
 use borrow.Author.Tests.{lt-ltb, le-ltb, le-leb, lt-leb, ltb-true, leb-true, eqb-true, eqb-false, ne-eqb, not-true, not-false}
+use denote.Ref.{RefT}
+use Rattle.lists.specs.Answer.{Said, Answers}
+use Rattle.lists.specs.Part.{IsPart}
+use Rattle.lists.proofs.Answers.{answers}
 use Rattle.lists.specs.Count.{pick, true-false}
 use Rattle.lists.specs.Parts.{part-part}
 use Rattle.lists.specs.First.{first, first-at}
@@ -37,7 +41,7 @@ use Rattle.volumes.specs.Volumes.{entryAt, volumeChecks, volumeOf, referenceOf,
 use Rattle.volumes.specs.SoundVolume.{SoundReferences, SoundVolume, sound-volume}
 use Rattle.volumes.specs.declared.Volume.{Volume}
 use Rattle.volumes.specs.declared.Reference.{Reference}
-use Rattle.query.specs.Queries.{asked, bytesAt, placeOf, entryShown, namePlace, accepts, volumeShown, volumeFacts, volumeValues, referenceShown}
+use Rattle.query.specs.Queries.{asked, bytesAt, placeOf, placeSaid, volumeSaid, ShownAt, entryShown, namePlace, accepts, volumeShown, volumeFacts, volumeValues, referenceShown}
 use Rattle.query.specs.Parts.{entryIn, nameSound, nameIn, nameShown, sectionShown, volumeIn, referenceIn}
 use Rattle.query.specs.declared.Place.{Place}
 use Rattle.query.specs.declared.PlaceAnswer.{PlaceAnswer}
@@ -48,14 +52,17 @@ use Rattle.query.specs.declared.VolumeAnswer.the-variants as volumeAnswe
 use Rattle.query.specs.declared.ReferenceAnswer.the-variants as referenceAnswer
 
 -- What is asked of a file, by what a call for its checks gave: `r` is that answer, on which the code has matched.
-asked-case : {R A B : Type 0} (of : R → Answer A) (t : Plan A) (p : List ℕ) (r x : R) (none v : B) (some : A → B) → of r ≡ run t p → r ≡ x → v ≡ asked (of x) none some → v ≡ asked (run t p) none some
-asked-case of t p r x none v some e q h = rw (← e, q) h
+asked-case : {R A B : Type 0} (said : B → Said) (of : R → Answer A) (t : Plan A) (p : List ℕ) (r x : R) (none v : B) (some : A → B)
+    → of r ≡ run t p → r ≡ x → v ≡ asked (of x) none some → Answers said (asked (run t p) none some) v
+asked-case said of t p r x none v some e q h = answers said (asked (run t p) none some) v (rw (← e, q) h)
 
-pub start-asked : {B : Type 0} (t : Plan Start) (p : List ℕ) (r x : StartAnswer) (none v : B) (some : Start → B) → startOf r ≡ run t p → r ≡ x → v ≡ asked (startOf x) none some → v ≡ asked (run t p) none some
-start-asked = asked-case startOf
+pub start-asked : {B : Type 0} (said : B → Said) (t : Plan Start) (p : List ℕ) (r x : StartAnswer) (none v : B) (some : Start → B)
+    → startOf r ≡ run t p → r ≡ x → v ≡ asked (startOf x) none some → Answers said (asked (run t p) none some) v
+start-asked said = asked-case said startOf
 
-pub open-asked : {B : Type 0} (t : Plan Opening) (p : List ℕ) (r x : OpenAnswer) (none v : B) (some : Opening → B) → openOf r ≡ run t p → r ≡ x → v ≡ asked (openOf x) none some → v ≡ asked (run t p) none some
-open-asked = asked-case openOf
+pub open-asked : {B : Type 0} (said : B → Said) (t : Plan Opening) (p : List ℕ) (r x : OpenAnswer) (none v : B) (some : Opening → B)
+    → openOf r ≡ run t p → r ≡ x → v ≡ asked (openOf x) none some → Answers said (asked (run t p) none some) v
+open-asked said = asked-case said openOf
 
 pub ruleset asking = (open-met, start-asked, open-asked)
 
@@ -117,20 +124,21 @@ name-end v metrics strings i w e q =
 
 -- ---- a part of the file, where it is shown and where it is not
 
-pub place-part : (p : List ℕ) {b : List ℕ} {a : PlaceAnswer} {w : Place} → a ≡ placeAnswer.Shown w → b ≡ take (w .len) (drop (w .at) p) → b ≡ bytesAt (placeOf a) p
-place-part p q h = rw q h
+module _ (file r : RefT (List ℕ)) where
+  pub place-part : {a : PlaceAnswer} {w : Place} → a ≡ placeAnswer.Shown w → IsPart file (w .at) (w .len) r → ShownAt file (placeOf a) r
+  place-part q h = rw q h
 
-pub place-none : (p : List ℕ) {a : PlaceAnswer} → a ≡ placeAnswer.NotShown → [] ≡ bytesAt (placeOf a) p
-place-none p q = rw q
+  pub place-none : {a : PlaceAnswer} → a ≡ placeAnswer.NotShown → IsPart file 0 0 r → ShownAt file (placeOf a) r
+  place-none q h = rw q h
 
-pub place-of : (p : List ℕ) {b : List ℕ} {r a : PlaceAnswer} → b ≡ bytesAt (placeOf r) p → r ≡ a → b ≡ bytesAt (placeOf a) p
-place-of p h e = rw (← e) h
+  pub place-of : {x a : PlaceAnswer} → ShownAt file (placeOf x) r → Answers placeSaid a x → ShownAt file (placeOf a) r
+  place-of h e = rw (← e .answer) h
 
-pub path-part : (p : List ℕ) {b : List ℕ} {r a : VolumeAnswer} {v : VolumeFacts} → r ≡ a → r ≡ volumeAnswer.Shown v → b ≡ take (v .path .len) (drop (v .path .at) p) → b ≡ bytesAt (volumeValues a .path) p
-path-part p e q h = rw (← e, q) h
+  pub path-part : {x a : VolumeAnswer} {v : VolumeFacts} → Answers volumeSaid a x → x ≡ volumeAnswer.Shown v → IsPart file (v .path .at) (v .path .len) r → ShownAt file (volumeValues a .path) r
+  path-part e q h = rw (← e .answer, q) h
 
-pub path-none : (p : List ℕ) {r a : VolumeAnswer} → r ≡ a → r ≡ volumeAnswer.NotShown → [] ≡ bytesAt (volumeValues a .path) p
-path-none p e q = rw (← e, q)
+  pub path-none : {x a : VolumeAnswer} → Answers volumeSaid a x → x ≡ volumeAnswer.NotShown → IsPart file 0 0 r → ShownAt file (volumeValues a .path) r
+  path-none e q h = rw (← e .answer, q) h
 
 pub ruleset shown-parts = (place-part, place-none, place-of, path-part, path-none)
 

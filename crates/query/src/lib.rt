@@ -1,7 +1,8 @@
 // Questions about one entry of a file that is there in part or whole.
 ghost use mathlib.Core.Path.{_≡_};
+ghost use Rattle.lists.specs.Answer.{Answers};
 ghost use Rattle.head.specs.Facts.{OpenFacts};
-ghost use Rattle.query.specs.Queries.{programPlace, entryPlace, placeOf, bytesAt, volumeAsked, volumeValues, referenceAsked};
+ghost use Rattle.query.specs.Queries.{placeSaid, placeOf, ShownAt, programPlace, entryPlace, volumeAsked, volumeSaid, volumeValues, referenceAsked, referenceSaid, placesNeeded, placesSaid};
 ghost use Rattle.query.specs.Parts.{nameShown, entryIn, sectionShown, volumeIn, referenceIn};
 use head::OpenAnswer;
 use head::Opening;
@@ -41,9 +42,26 @@ pub enum ReferenceAnswer {
     NotShown,
 }
 
+// Document 01: the working places that a file needs, one for each trace entry.
+pub enum PlacesAnswer {
+    Needed(u32),
+    Unknown,
+}
+
+// How many working places the readers need for the file, known where checks 1 to 6 pass.
+pub fn places(file: &[u8]) -> PlacesAnswer
+    ensures { λ r. ⌜ Answers placesSaid (placesNeeded (now (file .entry))) r ⌝ }
+{
+    match head::read_open(file) {
+        OpenAnswer::Opened(o) => PlacesAnswer::Needed(o.head.trace.count),
+        OpenAnswer::Refused(_) => PlacesAnswer::Unknown,
+        OpenAnswer::Wanted(_) => PlacesAnswer::Unknown,
+    }
+}
+
 // Where the program name stands, without its zero.
 pub fn program_place(file: &[u8]) -> PlaceAnswer
-    ensures { λ r. ⌜ r ≡ programPlace (now (file .entry)) ⌝ }
+    ensures { λ r. ⌜ Answers placeSaid (programPlace (now (file .entry))) r ⌝ }
 {
     match head::read_start(file) {
         StartAnswer::Started(s) => PlaceAnswer::Shown(Place {
@@ -55,19 +73,19 @@ pub fn program_place(file: &[u8]) -> PlaceAnswer
     }
 }
 
-// The bytes of the file at a place, and an empty part where there is none to show.
+// The bytes of the file at a place, and an empty part at its start where there is none to show.
 fn part_shown(file: &[u8], answer: PlaceAnswer) -> &[u8]
-    ensures { λ r. ⌜ now r ≡ bytesAt (placeOf answer) (now (file .entry)) ⌝ }
+    ensures { λ r. ⌜ ShownAt (file .entry) (placeOf answer) r ⌝ }
 {
     match answer {
         PlaceAnswer::Shown(w) => lists::part(file, w.at, w.len),
-        PlaceAnswer::NotShown => &file[..0],
+        PlaceAnswer::NotShown => lists::part(file, 0, 0),
     }
 }
 
 // The program name as the bytes of the file.
 pub fn program_name(file: &[u8]) -> &[u8]
-    ensures { λ r. ⌜ now r ≡ bytesAt (placeOf (programPlace (now (file .entry)))) (now (file .entry)) ⌝ }
+    ensures { λ r. ⌜ ShownAt (file .entry) (placeOf (programPlace (now (file .entry)))) r ⌝ }
 {
     part_shown(file, program_place(file))
 }
@@ -117,7 +135,7 @@ fn entry_in(file: &[u8], o: Opening, i: usize) -> PlaceAnswer
 
 // Where the name of metrics entry i stands, without its zero.
 pub fn entry_place(file: &[u8], i: usize) -> PlaceAnswer
-    ensures { λ r. ⌜ r ≡ entryPlace (now (file .entry)) i ⌝ }
+    ensures { λ r. ⌜ Answers placeSaid (entryPlace (now (file .entry)) i) r ⌝ }
 {
     match head::read_open(file) {
         OpenAnswer::Opened(o) => entry_in(file, o, i),
@@ -128,7 +146,7 @@ pub fn entry_place(file: &[u8], i: usize) -> PlaceAnswer
 
 // That name as the bytes of the file.
 pub fn entry_name(file: &[u8], i: usize) -> &[u8]
-    ensures { λ r. ⌜ now r ≡ bytesAt (placeOf (entryPlace (now (file .entry)) i)) (now (file .entry)) ⌝ }
+    ensures { λ r. ⌜ ShownAt (file .entry) (placeOf (entryPlace (now (file .entry)) i)) r ⌝ }
 {
     part_shown(file, entry_place(file, i))
 }
@@ -180,7 +198,7 @@ fn volume_in(file: &[u8], o: Opening, i: usize) -> VolumeAnswer
 
 // The facts of volume i, its path as a place of the file.
 pub fn volume(file: &[u8], i: usize) -> VolumeAnswer
-    ensures { λ r. ⌜ r ≡ volumeAsked (now (file .entry)) i ⌝ }
+    ensures { λ r. ⌜ Answers volumeSaid (volumeAsked (now (file .entry)) i) r ⌝ }
 {
     match head::read_open(file) {
         OpenAnswer::Opened(o) => volume_in(file, o, i),
@@ -189,16 +207,16 @@ pub fn volume(file: &[u8], i: usize) -> VolumeAnswer
     }
 }
 
-// The path of volume i as the bytes of the file, and an empty part where there is none to show.
+// The path of volume i as the bytes of the file, and an empty part at its start where there is none to show.
 pub fn volume_path(file: &[u8], i: usize) -> &[u8]
-    ensures { λ r. ⌜ now r ≡ bytesAt (volumeValues (volumeAsked (now (file .entry)) i) .path) (now (file .entry)) ⌝ }
+    ensures { λ r. ⌜ ShownAt (file .entry) (volumeValues (volumeAsked (now (file .entry)) i) .path) r ⌝ }
 {
     match volume(file, i) {
         VolumeAnswer::Shown(v) => {
             let w = v.path;
             lists::part(file, w.at, w.len)
         }
-        VolumeAnswer::NotShown => &file[..0],
+        VolumeAnswer::NotShown => lists::part(file, 0, 0),
     }
 }
 
@@ -221,7 +239,7 @@ fn reference_in(file: &[u8], o: Opening, i: usize, k: usize) -> ReferenceAnswer
 }
 
 pub fn reference(file: &[u8], i: usize, k: usize) -> ReferenceAnswer
-    ensures { λ r. ⌜ r ≡ referenceAsked (now (file .entry)) i k ⌝ }
+    ensures { λ r. ⌜ Answers referenceSaid (referenceAsked (now (file .entry)) i k) r ⌝ }
 {
     match head::read_open(file) {
         OpenAnswer::Opened(o) => reference_in(file, o, i, k),

@@ -12,7 +12,7 @@ same-length : tie.Need-same-length
 same-length c = search needs
 
 returns : tie.Need-returns
-returns c = rw (c .before .before .before .before .entry-place .ensures) at (c .before .before .put-place .ensures)
+returns c = rw (c .before .before .before .before .entry-place .ensures .answer) at (c .before .before .put-place .ensures)
 
 pub hs-entry-name-spec : {M : Type 1} → statement M
 hs-entry-name-spec =

@@ -1,5 +1,6 @@
 use mathlib.Core.Path.{refl}
-use Rattle.hivesaddle.specs.Output.{answered-case, pathYes, pathValues}
+use Rattle.hivesaddle.specs.Output.{answered-case}
+use Rattle.path_search.specs.Search.{pathSaid}
 use borrow.Author.Needs.{needs}
 use Rattle.hivesaddle.proofs.hs_find_path.Statement.{statement}
 use Rattle.hivesaddle.proofs.hs_find_path.Tie as tie
@@ -26,13 +27,13 @@ same-length : tie.Need-same-length
 same-length c = search needs
 
 returns : tie.Need-returns
-returns c = answered-case pathYes pathValues (c .before .before .before .before .before .before .before .before .find-path .result) _ _ _ (c .before .before .before .before .before .before .before .before .before .before .before .args .out .now) _ (c .before .before .before .before .before .before .before .before .find-path .ensures) (c .before .before .before .before .before .before .index .given .1) refl (rw (c .before .before .before .report-number .ensures) at (c .before .before .put-two .ensures))
+returns c = answered-case pathSaid (c .before .before .before .before .before .before .before .before .find-path .result) _ _ _ (c .before .before .before .before .before .before .before .before .before .before .before .args .out .now) _ (c .before .before .before .before .before .before .before .before .find-path .ensures) (c .before .before .before .before .before .before .index .given .1) refl (rw (c .before .before .before .report-number .ensures) at (c .before .before .put-two .ensures))
 
 same-length-2 : tie.Need-same-length-2
 same-length-2 c = search needs
 
 returns-2 : tie.Need-returns-2
-returns-2 c = answered-case pathYes pathValues (c .before .before .before .before .before .before .find-path .result) _ _ _ (c .before .before .before .before .before .before .before .before .before .args .out .now) _ (c .before .before .before .before .before .before .find-path .ensures) (c .before .before .before .before .enum-told .given .1) refl (c .before .before .put-two2 .ensures)
+returns-2 c = answered-case pathSaid (c .before .before .before .before .before .before .find-path .result) _ _ _ (c .before .before .before .before .before .before .before .before .before .args .out .now) _ (c .before .before .before .before .before .before .find-path .ensures) (c .before .before .before .before .enum-told .given .1) refl (c .before .before .put-two2 .ensures)
 
 pub hs-find-path-spec : {M : Type 1} → statement M
 hs-find-path-spec =

@@ -12,7 +12,7 @@ same-length : tie.Need-same-length
 same-length c = search needs
 
 returns : tie.Need-returns
-returns c = rw (c .before .before .before .before .program-place .ensures) at (c .before .before .put-place .ensures)
+returns c = rw (c .before .before .before .before .program-place .ensures .answer) at (c .before .before .put-place .ensures)
 
 pub hs-program-name-spec : {M : Type 1} → statement M
 hs-program-name-spec =

@@ -1,6 +1,6 @@
-use Rattle.query.specs.Queries.{referenceValues}
+use Rattle.query.specs.Queries.{referenceSaid}
 use mathlib.Core.Path.{refl}
-use Rattle.hivesaddle.specs.Output.{answered-case, referenceYes, referenceList}
+use Rattle.hivesaddle.specs.Output.{answered-case}
 use borrow.Author.Needs.{needs}
 use Rattle.hivesaddle.proofs.hs_reference.Statement.{statement}
 use Rattle.hivesaddle.proofs.hs_reference.Tie as tie
@@ -27,13 +27,13 @@ same-length : tie.Need-same-length
 same-length c = search needs
 
 returns : tie.Need-returns
-returns c = answered-case referenceYes (λ a. referenceList (referenceValues a)) (c .before .before .before .before .before .before .before .before .reference .result) _ _ _ (c .before .before .before .before .before .before .before .before .before .before .before .args .out .now) _ (c .before .before .before .before .before .before .before .before .reference .ensures) (c .before .before .before .before .before .before .r .given .1) refl (c .before .before .put-two .ensures)
+returns c = answered-case referenceSaid (c .before .before .before .before .before .before .before .before .reference .result) _ _ _ (c .before .before .before .before .before .before .before .before .before .before .before .args .out .now) _ (c .before .before .before .before .before .before .before .before .reference .ensures) (c .before .before .before .before .before .before .r .given .1) refl (c .before .before .put-two .ensures)
 
 same-length-2 : tie.Need-same-length-2
 same-length-2 c = search needs
 
 returns-2 : tie.Need-returns-2
-returns-2 c = answered-case referenceYes (λ a. referenceList (referenceValues a)) (c .before .before .before .before .before .before .reference .result) _ _ _ (c .before .before .before .before .before .before .before .before .before .args .out .now) _ (c .before .before .before .before .before .before .reference .ensures) (c .before .before .before .before .enum-told .given .1) refl (c .before .before .put-two2 .ensures)
+returns-2 c = answered-case referenceSaid (c .before .before .before .before .before .before .reference .result) _ _ _ (c .before .before .before .before .before .before .before .before .before .args .out .now) _ (c .before .before .before .before .before .before .reference .ensures) (c .before .before .before .before .enum-told .given .1) refl (c .before .before .put-two2 .ensures)
 
 pub hs-reference-spec : {M : Type 1} → statement M
 hs-reference-spec =

@@ -1,6 +1,6 @@
-use Rattle.query.specs.Queries.{volumeValues}
+use Rattle.query.specs.Queries.{volumeSaid}
 use mathlib.Core.Path.{refl}
-use Rattle.hivesaddle.specs.Output.{answered-case, volumeYes, volumeList}
+use Rattle.hivesaddle.specs.Output.{answered-case}
 use borrow.Author.Needs.{needs}
 use Rattle.hivesaddle.proofs.hs_volume.Statement.{statement}
 use Rattle.hivesaddle.proofs.hs_volume.Tie as tie
@@ -27,13 +27,13 @@ same-length : tie.Need-same-length
 same-length c = search needs
 
 returns : tie.Need-returns
-returns c = answered-case volumeYes (λ a. volumeList (volumeValues a)) (c .before .before .before .before .before .before .before .volume .result) _ _ _ (c .before .before .before .before .before .before .before .before .before .before .args .out .now) _ (c .before .before .before .before .before .before .before .volume .ensures) (c .before .before .before .before .before .f .given .1) refl (c .before .before .put-facts .ensures)
+returns c = answered-case volumeSaid (c .before .before .before .before .before .before .before .volume .result) _ _ _ (c .before .before .before .before .before .before .before .before .before .before .args .out .now) _ (c .before .before .before .before .before .before .before .volume .ensures) (c .before .before .before .before .before .f .given .1) refl (c .before .before .put-facts .ensures)
 
 same-length-2 : tie.Need-same-length-2
 same-length-2 c = search needs
 
 returns-2 : tie.Need-returns-2
-returns-2 c = answered-case volumeYes (λ a. volumeList (volumeValues a)) (c .before .before .before .before .before .before .before .volume .result) _ _ _ (c .before .before .before .before .before .before .before .before .before .before .args .out .now) _ (c .before .before .before .before .before .before .before .volume .ensures) (c .before .before .before .before .before .enum-told .given .1) refl (rw (c .before .before .before .no-facts .ensures) at (c .before .before .put-facts2 .ensures))
+returns-2 c = answered-case volumeSaid (c .before .before .before .before .before .before .before .volume .result) _ _ _ (c .before .before .before .before .before .before .before .before .before .before .args .out .now) _ (c .before .before .before .before .before .before .before .volume .ensures) (c .before .before .before .before .before .enum-told .given .1) refl (rw (c .before .before .before .no-facts .ensures) at (c .before .before .put-facts2 .ensures))
 
 pub hs-volume-spec : {M : Type 1} → statement M
 hs-volume-spec =

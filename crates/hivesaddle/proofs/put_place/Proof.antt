@@ -1,5 +1,7 @@
 use mathlib.Core.Path.{refl}
-use Rattle.hivesaddle.specs.Output.{answered-case, placeYes, placeValues}
+use Rattle.lists.proofs.Answers.{answers}
+use Rattle.query.specs.Queries.{placeSaid}
+use Rattle.hivesaddle.specs.Output.{answered-case}
 use borrow.Author.Needs.{needs}
 use Rattle.hivesaddle.proofs.put_place.Statement.{statement}
 use Rattle.hivesaddle.proofs.put_place.Tie as tie
@@ -20,13 +22,13 @@ same-length : tie.Need-same-length
 same-length c = search needs
 
 returns : tie.Need-returns
-returns c = answered-case placeYes placeValues _ _ (c .before .before .before .before .before .before .before .before .args .answer) _ (c .before .before .before .before .before .before .before .before .args .out .now) _ refl (c .before .before .before .before .before .answer .given .1) refl (c .before .before .put-two .ensures)
+returns c = answered-case placeSaid _ _ (c .before .before .before .before .before .before .before .before .args .answer) _ (c .before .before .before .before .before .before .before .before .args .out .now) _ (answers placeSaid _ _ refl) (c .before .before .before .before .before .answer .given .1) refl (c .before .before .put-two .ensures)
 
 same-length-2 : tie.Need-same-length-2
 same-length-2 c = search needs
 
 returns-2 : tie.Need-returns-2
-returns-2 c = answered-case placeYes placeValues _ _ (c .before .before .before .before .before .before .before .args .answer) _ (c .before .before .before .before .before .before .before .args .out .now) _ refl (c .before .before .before .before .enum-told .given .1) refl (c .before .before .put-two2 .ensures)
+returns-2 c = answered-case placeSaid _ _ (c .before .before .before .before .before .before .before .args .answer) _ (c .before .before .before .before .before .before .before .args .out .now) _ (answers placeSaid _ _ refl) (c .before .before .before .before .enum-told .given .1) refl (c .before .before .put-two2 .ensures)
 
 pub put-place-spec : {M : Type 1} → statement M
 put-place-spec =

@@ -12,8 +12,8 @@ part-requires c κs = search needs
 enum-told : tie.Need-enum-told
 enum-told c = search needs
 
-slice-aggregate-result : tie.Need-slice-aggregate-result
-slice-aggregate-result c = search needs
+part-requires-2 : tie.Need-part-requires-2
+part-requires-2 c κs = search needs
 
 returns : tie.Need-returns
 returns c = search shown-parts
@@ -24,4 +24,4 @@ returns-2 c = search shown-parts
 pub part-shown-spec : {M : Type 1} → statement M
 part-shown-spec =
     tie.close
-    (tie.spec enum-known-answer part-requires enum-told slice-aggregate-result returns returns-2)
+    (tie.spec enum-known-answer part-requires enum-told part-requires-2 returns returns-2)

@@ -15,8 +15,8 @@ part-requires c κs = search needs
 enum-told : tie.Need-enum-told
 enum-told c = search needs
 
-slice-aggregate-result : tie.Need-slice-aggregate-result
-slice-aggregate-result c = search needs
+part-requires-2 : tie.Need-part-requires-2
+part-requires-2 c κs = search needs
 
 returns : tie.Need-returns
 returns c = search shown-parts
@@ -32,6 +32,6 @@ volume-path-spec =
     enum-known-v
     part-requires
     enum-told
-    slice-aggregate-result
+    part-requires-2
     returns
     returns-2)
