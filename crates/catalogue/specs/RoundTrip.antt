@@ -61,8 +61,8 @@ line-written f o a b c d l ea eb ec ed =
     ∙ set-at (((p ++ q) ++ r) ++ t) (getD o 24 0) (drop 25 o) 10 24 lall in
     e ∙ simp append-assoc
 
--- The stored hash and the run count fit 32 bits. Both are a `u32` in the code, whose type gives this to each call of `write_line`; a
--- definition has plain numbers, and a larger one would lose its upper digits. Size and version are as small where they form a line.
+-- The stored hash and the run count fit 32 bits. The code's types give this to each call of `write_line`: both are a `u32`. In a
+-- definition they are plain numbers, and a larger one would lose its upper digits. A size and a version that form a line fit theirs.
 pub record Sized (f : Fields) : Type 0 where
   pub hash : f .hash < 2 ^ 32
   pub runs : f .runs < 2 ^ 32
@@ -268,7 +268,9 @@ written-case writtenLine.Written e = refl
 written-case writtenLine.Refused e = absurd (omega arith)
 
 -- the line that was written
-written-form : (f : Fields) (before after : List ℕ) → Writing f before writtenLine.Written after → (canForm f ≡ true) × (after ≡ lineOf f ++ drop 25 before)
+written-form : (f : Fields) (before after : List ℕ)
+    → Writing f before writtenLine.Written after
+    → (canForm f ≡ true) × (after ≡ lineOf f ++ drop 25 before)
 unfolding canWrite
 written-form f before after h = go (leb 25 (length before)) (canForm f) refl (h .number) (h .output)
   where
@@ -278,7 +280,12 @@ written-form f before after h = go (leb 25 (length before)) (canForm f) refl (h 
     go true false e n o = absurd (omega arith)
     go false b e n o = absurd (omega arith)
 
-form-written : (f : Fields) (before : List ℕ) (w : WrittenLine) (after : List ℕ) → canForm f ≡ true → 25 ≤ length before → Writing f before w after → Rewritten (lineOf f) before w after
+-- fields that can form a line are written where there is room
+form-written : (f : Fields) (before : List ℕ) (w : WrittenLine) (after : List ℕ)
+    → canForm f ≡ true
+    → 25 ≤ length before
+    → Writing f before w after
+    → Rewritten (lineOf f) before w after
 unfolding canWrite
 form-written f before w after e l h =
     let o : after ≡ lineOf f ++ drop 25 before = rw (le-leb 25 (length before) l, e) at (h .output) in
@@ -288,6 +295,14 @@ form-written f before w after e l h =
       rest = rw o (drop-at (lineOf f) (drop 25 before) 25 (line-size f));
     }
 
+-- a line that reads is written again
+written-again : (s : List ℕ) (f : Fields) (before : List ℕ) (w : WrittenLine) (after : List ℕ)
+    → readAnswer (readLine.Line f) ≡ reading s
+    → 25 ≤ length before
+    → Writing f before w after
+    → Rewritten s before w after
+written-again s f before w after e l h = let p = read-written s f (sym e) in rw (p .0) (form-written f before w after (p .1) l h)
+
 pub round-trip : RoundTrip
 round-trip =
     record {
@@ -295,9 +310,9 @@ round-trip =
           let w = written-form f before after h in
           let t : take 25 after ≡ lineOf f = rw (w .1) (take-at (lineOf f) (drop 25 before) 25 (line-size f)) in
           line-case r f (e ∙ ap reading t ∙ written-reads f (w .0) z);
-      writes-again = again;
-      refused-unread = λ s f before after l h e. let z : _≡_ {A = ℕ} 19 0 = ap writtenNumber (again s f before writtenLine.Refused after e l h .written) in omega arith;
+      writes-again = written-again;
+      refused-unread = λ s f before after l h e.
+          let w = written-again s f before writtenLine.Refused after e l h in
+          let z : _≡_ {A = ℕ} 19 0 = ap writtenNumber (w .written) in
+          omega arith;
     }
-  where
-    again : (s : List ℕ) (f : Fields) (before : List ℕ) (w : WrittenLine) (after : List ℕ) → readAnswer (readLine.Line f) ≡ reading s → 25 ≤ length before → Writing f before w after → Rewritten s before w after
-    again s f before w after e l h = let p = read-written s f (sym e) in rw (p .0) (form-written f before w after (p .1) l h)

@@ -83,7 +83,9 @@ law-below (suc bound) n l = go (decLt n 10) (law-below bound (n / 10))
   where
     go : Dec (n < 10) → (n / 10 < bound → IsDecimal (n / 10) (decimal (n / 10))) → IsDecimal n (decimal n)
     go (yes m) ih = rw (decimal-digit n m) (one-digit n m)
-    go (no m) ih = rw (decimal-more n (omega arith)) (digit-more n (n / 10) (n % 10) (decimal (n / 10)) (ih (omega arith)) (omega arith) (omega arith) (omega arith))
+    go (no m) ih =
+        let h = ih (omega arith) in
+        rw (decimal-more n (omega arith)) (digit-more n (n / 10) (n % 10) (decimal (n / 10)) h (omega arith) (omega arith) (omega arith))
 
 -- THE DIGITS OF A NUMBER ARE IT IN DECIMAL
 pub decimal-law : (n : ℕ) → IsDecimal n (decimal n)
@@ -103,6 +105,7 @@ decimal-from n (c ∷ s) p h =
     let more : decimal m ≡ decimal n ++ (c ∷ []) = decimal-more m (omega arith) ∙ rw (a, b) in
     decimal-from m s (omega arith) (λ k l. h (suc k) (omega arith)) ∙ rw more (append-assoc (decimal n) (c ∷ []) s)
 
+-- bytes that are a number in decimal are its digits, so there is one way to write it
 pub decimal-only : (n : ℕ) (s : List ℕ) → IsDecimal n s → s ≡ decimal n
 unfolding decimalValue decimalFrom
 decimal-only n [] h = absurd (omega (arith, h .nonempty))

@@ -85,7 +85,11 @@ module _ (p buffer : List ℕ) (h : Bytes p) where
   whole-text : (t : Text) → textOf t ≡ take room (listing p (length buffer)) → textOf t ≡ listing p (length buffer)
   whole-text t e = e ∙ take-all room (listing p (length buffer)) (listing-short p (length buffer) h)
 
-  pub listed-too-long : (t : Text) (after : List ℕ) → fileLimit < length p → after ≡ filled (length buffer) → Shows (line too-long) t → Listed p buffer t after
+  pub listed-too-long : (t : Text) (after : List ℕ)
+      → fileLimit < length p
+      → after ≡ filled (length buffer)
+      → Shows (line too-long) t
+      → Listed p buffer t after
   unfolding listing
   listed-too-long t after l e s =
       record { sound = s .sound; text = whole-text t (rw (lt-ltb fileLimit (length p) l) (s .text)); places = rw (lt-ltb fileLimit (length p) l) e }
