@@ -1,4 +1,4 @@
--- A line that is written reads back equal, and a line that reads is the one that writing its fields gives.
+-- A line that is written reads back equal, and a line that reads is the one that writing its fields gives: `round-trip`.
 use mathlib.Core.Path.{_≡_, refl, sym, ap, _∙_}
 use mathlib.Core.Bool.{Bool, true, false, _&&_}
 use mathlib.Core.List.{List, [], _∷_, _++_, append-assoc}
@@ -7,7 +7,7 @@ use native.Mathlib.Nat.{mod-eq-of-lt}
 use native.Mathlib.Omega.{arith}
 use lib.ListN.{length, getD, take, drop, set, length-append, List·getD-append, take-append-drop, drop-of-length-le}
 use lib.Seq.{paste, take-at, drop-at, drop-drop, take-all, drop-cons, set-at, getD-append-add}
-use borrow.Author.Tests.{leb-true, eqb-true}
+use borrow.Author.Tests.{leb-true, le-leb, eqb-true}
 use Rattle.lists.specs.Count.{pick, true-false}
 use native.Mathlib.Decide.{decLt}
 use lib.Dec.{leb, eqb}
@@ -16,8 +16,12 @@ use Rattle.layout.specs.declared.Version.{Version}
 use Rattle.layout.specs.declared.Version.the-variants.{V17, V23, V26}
 use Rattle.layout.specs.declared.KnownVersion.the-variants.{Known, Unknown}
 use Rattle.catalogue.specs.declared.Fields.{Fields}
+use Rattle.catalogue.specs.declared.ReadLine.{ReadLine}
+use Rattle.catalogue.specs.declared.ReadLine.the-variants as readLine
+use Rattle.catalogue.specs.declared.WrittenLine.{WrittenLine}
+use Rattle.catalogue.specs.declared.WrittenLine.the-variants as writtenLine
 use Rattle.catalogue.specs.Hex.{isDigit, hexAt, hexDigits, Digits, length-digits, digits-are, hex-digits, digits-hex}
-use Rattle.catalogue.specs.Line.{lineOf, fieldsIn, canForm, isFrame, isLine, Frame, frame-is, frame-true, Answer, zeros, reading, read-good, sizeInRange}
+use Rattle.catalogue.specs.Line.{lineOf, fieldsIn, canForm, isFrame, isLine, Frame, frame-is, frame-true, Answer, zeros, reading, read-good, sizeInRange, readAnswer, canWrite, writtenNumber, Writing}
 
 -- what stands after a start of a list is replaced
 pub paste-after : (a b ds : List ℕ) (at w : ℕ) → length a ≡ at → length ds ≡ w → paste (a ++ b) at ds w ≡ (a ++ ds) ++ drop w b
@@ -57,7 +61,8 @@ line-written f o a b c d l ea eb ec ed =
     ∙ set-at (((p ++ q) ++ r) ++ t) (getD o 24 0) (drop 25 o) 10 24 lall in
     e ∙ simp append-assoc
 
--- the stored hash and the run count fit 32 bits, as they do in a file
+-- The stored hash and the run count fit 32 bits. The code's types give this to each call of `write_line`: both are a `u32`. In a
+-- definition they are plain numbers, and a larger one would lose its upper digits. A size and a version that form a line fit theirs.
 pub record Sized (f : Fields) : Type 0 where
   pub hash : f .hash < 2 ^ 32
   pub runs : f .runs < 2 ^ 32
@@ -181,7 +186,7 @@ form-small f e = go (eqb (f .version) 17) (eqb (f .version) 23) (eqb (f .version
     go false false true x y z e = (ranged V26 e, omega (arith, eqb-true (f .version) 26 z))
     go false false false x y z e = absurd (true-false (sym e))
 
--- WHAT IS WRITTEN READS BACK EQUAL
+-- what is written reads back equal
 pub written-reads : (f : Fields) → canForm f ≡ true → Sized f → reading (lineOf f) ≡ record { number = 0; fields = f }
 unfolding fieldsIn
 written-reads f e z =
@@ -210,7 +215,7 @@ frame-line s z =
     ∙ ap (λ (x : List ℕ). take 6 s ++ x) (ap (λ (x : List ℕ). take 8 (drop 6 s) ++ x) (sym (drop-drop 8 6 s)) ∙ take-append-drop 8 (drop 6 s))
     ∙ take-append-drop 6 s))
 
--- A LINE THAT READS IS THE ONE THAT WRITING ITS FIELDS GIVES
+-- a line that reads is the one that its fields give
 pub read-written : (s : List ℕ) (f : Fields) → reading s ≡ record { number = 0; fields = f } → (s ≡ lineOf f) × (canForm f ≡ true)
 unfolding reading isLine
 read-written s f e = go (isFrame s) (canForm (fieldsIn s)) refl refl e
@@ -223,3 +228,91 @@ read-written s f e = go (isFrame s) (canForm (fieldsIn s)) refl refl e
         (frame-line s (frame-true s p) ∙ ap lineOf g, ap canForm (sym g) ∙ q)
     go true false p q e = let z : _≡_ {A = ℕ} 18 0 = ap (λ (x : Answer). x .number) e in absurd (omega arith)
     go false b p q e = let z : _≡_ {A = ℕ} 18 0 = ap (λ (x : Answer). x .number) e in absurd (omega arith)
+
+-- ---- the same of the two calls
+
+-- a line was written: the output's first 25 bytes are the line and the others as before
+pub record Rewritten (s before : List ℕ) (w : WrittenLine) (after : List ℕ) : Type 0 where
+  pub written : w ≡ writtenLine.Written
+  pub line : take 25 after ≡ s
+  pub rest : drop 25 after ≡ drop 25 before
+
+-- THE ROUND TRIP, from nothing but what `write_line` and `read_line` promise
+pub record RoundTrip : Type 0 where
+  -- a line that was written reads back with equal fields
+  pub reads-back : (f : Fields) (before after : List ℕ) (r : ReadLine)
+      → Sized f
+      → Writing f before writtenLine.Written after
+      → readAnswer r ≡ reading (take 25 after)
+      → r ≡ readLine.Line f
+  -- a line that reads is the one that its fields give when they are written, which is not refused where there is room
+  pub writes-again : (s : List ℕ) (f : Fields) (before : List ℕ) (w : WrittenLine) (after : List ℕ)
+      → readAnswer (readLine.Line f) ≡ reading s
+      → 25 ≤ length before
+      → Writing f before w after
+      → Rewritten s before w after
+  -- fields that are refused for another reason than room are those of no line
+  pub refused-unread : (s : List ℕ) (f : Fields) (before after : List ℕ)
+      → 25 ≤ length before
+      → Writing f before writtenLine.Refused after
+      → readAnswer (readLine.Line f) ≡ reading s
+      → ⊥
+
+-- which case an answer is
+line-case : (r : ReadLine) (f : Fields) → readAnswer r ≡ record { number = 0; fields = f } → r ≡ readLine.Line f
+line-case (readLine.Line g) f e = ap (λ (x : Fields). readLine.Line x) (ap (λ (x : Answer). x .fields) e)
+line-case readLine.Refused f e = let z : _≡_ {A = ℕ} 18 0 = ap (λ (x : Answer). x .number) e in absurd (omega arith)
+
+written-case : (w : WrittenLine) → writtenNumber w ≡ 0 → w ≡ writtenLine.Written
+written-case writtenLine.Written e = refl
+written-case writtenLine.Refused e = absurd (omega arith)
+
+-- the line that was written
+written-form : (f : Fields) (before after : List ℕ)
+    → Writing f before writtenLine.Written after
+    → (canForm f ≡ true) × (after ≡ lineOf f ++ drop 25 before)
+unfolding canWrite
+written-form f before after h = go (leb 25 (length before)) (canForm f) refl (h .number) (h .output)
+  where
+    go : (a b : Bool) → canForm f ≡ b → _≡_ {A = ℕ} 0 (pick (a && b) 0 19) → after ≡ pick (a && b) (lineOf f ++ drop 25 before) before
+        → (canForm f ≡ true) × (after ≡ lineOf f ++ drop 25 before)
+    go true true e n o = (e, o)
+    go true false e n o = absurd (omega arith)
+    go false b e n o = absurd (omega arith)
+
+-- fields that can form a line are written where there is room
+form-written : (f : Fields) (before : List ℕ) (w : WrittenLine) (after : List ℕ)
+    → canForm f ≡ true
+    → 25 ≤ length before
+    → Writing f before w after
+    → Rewritten (lineOf f) before w after
+unfolding canWrite
+form-written f before w after e l h =
+    let o : after ≡ lineOf f ++ drop 25 before = rw (le-leb 25 (length before) l, e) at (h .output) in
+    record {
+      written = written-case w (rw (le-leb 25 (length before) l, e) at (h .number));
+      line = rw o (take-at (lineOf f) (drop 25 before) 25 (line-size f));
+      rest = rw o (drop-at (lineOf f) (drop 25 before) 25 (line-size f));
+    }
+
+-- a line that reads is written again
+written-again : (s : List ℕ) (f : Fields) (before : List ℕ) (w : WrittenLine) (after : List ℕ)
+    → readAnswer (readLine.Line f) ≡ reading s
+    → 25 ≤ length before
+    → Writing f before w after
+    → Rewritten s before w after
+written-again s f before w after e l h = let p = read-written s f (sym e) in rw (p .0) (form-written f before w after (p .1) l h)
+
+pub round-trip : RoundTrip
+round-trip =
+    record {
+      reads-back = λ f before after r z h e.
+          let w = written-form f before after h in
+          let t : take 25 after ≡ lineOf f = rw (w .1) (take-at (lineOf f) (drop 25 before) 25 (line-size f)) in
+          line-case r f (e ∙ ap reading t ∙ written-reads f (w .0) z);
+      writes-again = written-again;
+      refused-unread = λ s f before after l h e.
+          let w = written-again s f before writtenLine.Refused after e l h in
+          let z : _≡_ {A = ℕ} 19 0 = ap writtenNumber (w .written) in
+          omega arith;
+    }

@@ -6,6 +6,7 @@ use native.Mathlib.Omega.{arith}
 use borrow.Author.Tests.{lt-ltb, le-ltb}
 use lib.ListN.{length, take}
 use lib.Seq.{take-all}
+use Rattle.trace.specs.Links.{filled}
 use Rattle.incremental.specs.Decision.{accept, refuse}
 use Rattle.incremental.specs.Plan.{Answer, decided, wants}
 use Rattle.incremental.specs.declared.Refusal.{Refusal}
@@ -84,9 +85,14 @@ module _ (p buffer : List ℕ) (h : Bytes p) where
   whole-text : (t : Text) → textOf t ≡ take room (listing p (length buffer)) → textOf t ≡ listing p (length buffer)
   whole-text t e = e ∙ take-all room (listing p (length buffer)) (listing-short p (length buffer) h)
 
-  pub listed-too-long : (t : Text) → fileLimit < length p → Shows (line too-long) t → Listed p buffer t buffer
+  pub listed-too-long : (t : Text) (after : List ℕ)
+      → fileLimit < length p
+      → after ≡ filled (length buffer)
+      → Shows (line too-long) t
+      → Listed p buffer t after
   unfolding listing
-  listed-too-long t l s = record { sound = s .sound; text = whole-text t (rw (lt-ltb fileLimit (length p) l) (s .text)); places = rw (lt-ltb fileLimit (length p) l) }
+  listed-too-long t after l e s =
+      record { sound = s .sound; text = whole-text t (rw (lt-ltb fileLimit (length p) l) (s .text)); places = rw (lt-ltb fileLimit (length p) l) e }
 
   module _ (l : length p ≤ fileLimit) (v : Verdict) (after : List ℕ) (r : Reads (fileAnswer p (length buffer)) (length buffer) v after) where
     listed : (t : Text) → Shows (answerText (fileAnswer p (length buffer)) p) t → Listed p buffer t after

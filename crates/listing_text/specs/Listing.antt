@@ -9,6 +9,7 @@ use Rattle.lists.specs.Count.{pick}
 use Rattle.lists.specs.Table.{tabulate}
 use Rattle.little_endian.specs.Number.{le}
 use Rattle.catalogue.specs.Hex.{hexDigits}
+use Rattle.trace.specs.Links.{filled}
 use Rattle.incremental.specs.Decision.{accept, refuse}
 use Rattle.incremental.specs.Plan.{Answer, decided, wants}
 use Rattle.reader.specs.Verdict.{Acceptable, bufferAfter}
@@ -122,8 +123,8 @@ pub record Sound (t : Text) : Type 0 where
   pub size : length (t .bytes) ≡ room
   pub rest : drop (t .len) (t .bytes) ≡ replicate (room - t .len) 0
 
--- the text, and the working buffer afterwards: as it was where the file is too long, else as the whole-file reader leaves it
+-- the text, and the working buffer afterwards: filled where the file is too long, else as the whole-file reader leaves it
 pub record Listed (p buffer : List ℕ) (t : Text) (after : List ℕ) : Type 0 where
   pub sound : Sound t
   pub text : textOf t ≡ listing p (length buffer)
-  pub places : after ≡ pick (ltb fileLimit (length p)) buffer (bufferAfter (fileAnswer p (length buffer)) (length buffer))
+  pub places : after ≡ pick (ltb fileLimit (length p)) (filled (length buffer)) (bufferAfter (fileAnswer p (length buffer)) (length buffer))

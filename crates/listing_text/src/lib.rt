@@ -214,11 +214,12 @@ fn too_long_text() -> Text
 }
 
 // The listing of a file that has been read, up to the limit of the program's buffer. The working buffer may hold anything before
-// and holds what the whole-file reader leaves, or is as it was where the file is too long.
+// and holds what the whole-file reader leaves, or is filled where the file is too long.
 pub fn list(file: &[u8], predecessors: &mut [u32]) -> Text
     ensures { λ r. ⌜ Listed (now (file .entry)) (now (predecessors .entry)) r (now (predecessors .exit)) ⌝ }
 {
     if FILE_LIMIT < file.len() {
+        trace::fill(predecessors);
         return too_long_text();
     }
     match reader::read_file(file, predecessors) {

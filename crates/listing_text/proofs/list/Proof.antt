@@ -5,11 +5,17 @@ use borrow.Author.Needs.{needs}
 use Rattle.listing_text.proofs.list.Statement.{statement}
 use Rattle.listing_text.proofs.list.Tie as tie
 
+fill-requires : tie.Need-fill-requires
+fill-requires c κs = search needs
+
 too-long-text-requires : tie.Need-too-long-text-requires
 too-long-text-requires c κs = search needs
 
+same-length : tie.Need-same-length
+same-length c = search needs
+
 returns : tie.Need-returns
-returns c = listed-too-long _ _ (λ i. omega (arith, c .before .before .before .shared-slice-known .given i)) _ (c .before .if1 .taken) (c .too-long-text .ensures)
+returns c = listed-too-long _ _ (λ i. omega (arith, c .before .before .before .before .before .before .before .shared-slice-known .given i)) _ _ (c .before .before .before .before .before .if1 .taken) (c .before .before .before .fill .ensures) (c .too-long-text .ensures)
 
 read-file-requires : tie.Need-read-file-requires
 read-file-requires c κs = search needs
@@ -32,20 +38,20 @@ enum-told c = search needs
 empty-requires : tie.Need-empty-requires
 empty-requires c κs = search needs
 
-same-length : tie.Need-same-length
-same-length c = search needs
+same-length-2 : tie.Need-same-length-2
+same-length-2 c = search needs
 
 returns-2 : tie.Need-returns-2
 returns-2 c = listed-accepted _ _ (λ i. omega (arith, c .before .before .before .before .before .before .before .before .before .before .shared-slice-known .given i)) (c .before .before .before .before .before .before .before .before .if1 .left) _ _ (c .before .before .before .before .before .before .read-file .ensures) _ _ (c .before .before .a .given .1) (c .accepted-text .ensures)
 
-same-length-2 : tie.Need-same-length-2
-same-length-2 c = search needs
+same-length-3 : tie.Need-same-length-3
+same-length-3 c = search needs
 
 returns-3 : tie.Need-returns-3
 returns-3 c = listed-refused _ _ (λ i. omega (arith, c .before .before .before .before .before .before .before .before .before .before .shared-slice-known .given i)) (c .before .before .before .before .before .before .before .before .if1 .left) _ _ (c .before .before .before .before .before .before .read-file .ensures) _ _ (c .before .before .r .given .1) (c .refused-text .ensures)
 
-same-length-3 : tie.Need-same-length-3
-same-length-3 c = search needs
+same-length-4 : tie.Need-same-length-4
+same-length-4 c = search needs
 
 returns-4 : tie.Need-returns-4
 returns-4 c = listed-wanted _ _ (λ i. omega (arith, c .before .before .before .before .before .before .before .before .before .shared-slice-known .given i)) (c .before .before .before .before .before .before .before .if1 .left) _ _ (c .before .before .before .before .before .read-file .ensures) _ _ (c .before .enum-told .given .1) (record { sound = c .empty .ensures .0; text = c .empty .ensures .1 })
@@ -54,7 +60,9 @@ pub list-spec : {M : Type 1} → statement M
 list-spec =
     tie.close
     (tie.spec
+    fill-requires
     too-long-text-requires
+    same-length
     returns
     read-file-requires
     enum-known-a
@@ -63,9 +71,9 @@ list-spec =
     refused-text-requires
     enum-told
     empty-requires
-    same-length
-    returns-2
     same-length-2
-    returns-3
+    returns-2
     same-length-3
+    returns-3
+    same-length-4
     returns-4)
