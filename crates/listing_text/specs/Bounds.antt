@@ -9,7 +9,7 @@ use lib.ListN.{length, getD, take, length-take, List·getD-eq-default}
 use lib.Seq.{getD-take}
 use borrow.Author.Tests.{leb-true, leb-false}
 use native.Mathlib.Decide.{decLt}
-use Rattle.lists.specs.First.{first, first-at, at-nothing}
+use Rattle.lists.specs.First.{first, firstFrom, first-at, at-nothing}
 use Rattle.lists.specs.Count.{pick, count-le}
 use Rattle.lists.specs.declared.Found.{Found}
 use Rattle.lists.specs.declared.Found.the-variants.{At, Nothing}
@@ -22,6 +22,7 @@ use Rattle.layout.specs.declared.KnownVersion.the-variants.{Known, Unknown}
 use Rattle.incremental.specs.Decision.{Decision, accept, refuse, refusal, check}
 use Rattle.incremental.specs.Plan.{Plan, decide, await, andThen, Answer, decided, wants, run, onward, run-here, run-short, run-then}
 use Rattle.incremental.specs.declared.Refusal.{Refusal}
+use Rattle.sections.proofs.Cases.{pairs-are}
 use Rattle.sections.specs.Fields.{faultAt, signatureFault, declaredSize, sizeFault, nameEnd, headOf, outside, firstOutside, shares, firstShared, part}
 use Rattle.head.specs.Checks.{stop, byName, namePlan, sizePlan, signaturePlan, byVersion, startPlan, sectionPlan, headPlan, openPlan}
 use Rattle.head.specs.Facts.{OpenFacts, open-facts, name-law}
@@ -213,7 +214,7 @@ each-known p (Known v) =
     (each-await Any 76 _ p λ _. each-name v (nameEnd (take 76 p)) p))
 
 low-outside : (v : Version) (h : Head) → LowFault (firstOutside v h)
-unfolding firstOutside
+unfolding firstOutside firstFrom
 low-outside v h =
     let f = layoutOf v .head in
     low-pick (outside f (h .size) (h .metrics)) (At 1) _ (low-at 1 (omega arith))
@@ -223,15 +224,15 @@ low-outside v h =
     low-none)))
 
 low-shared : (h : Head) → LowFault (firstShared h)
-unfolding firstShared
 low-shared h =
-    low-pick (shares (h .metrics) (h .trace)) (At 2) _ (low-at 2 (omega arith))
+    rw (pairs-are h)
+    (low-pick (shares (h .metrics) (h .trace)) (At 2) _ (low-at 2 (omega arith))
     (low-pick (shares (h .metrics) (h .strings)) (At 3) _ (low-at 3 (omega arith))
     (low-pick (shares (h .trace) (h .strings)) (At 3) _ (low-at 3 (omega arith))
     (low-pick (shares (h .metrics) (h .volumes)) (At 4) _ (low-at 4 (omega arith))
     (low-pick (shares (h .trace) (h .volumes)) (At 4) _ (low-at 4 (omega arith))
     (low-pick (shares (h .strings) (h .volumes)) (At 4) _ (low-at 4 (omega arith))
-    low-none)))))
+    low-none))))))
 
 each-open : (p : List ℕ) → Each Any (run openPlan p)
 unfolding openPlan startPlan headPlan sectionPlan

@@ -31,7 +31,7 @@ push-path-line-requires : tie.Need-push-path-line-requires
 push-path-line-requires c κs = search needs
 
 returns : tie.Need-returns
-returns c = accepted-lines _ _ _ _ _ _ _ _ _ (c .before .before .before .before .before .before .before .before .empty .ensures .1) (c .before .before .before .before .before .push-count .ensures) (c .before .before .before .before .push-name-line .ensures) (c .before .before .before .push-hash-line .ensures) (c .before .before .push-counts .ensures) (c .before .find-path .ensures) (c .push-path-line .ensures)
+returns c = accepted-lines _ _ _ _ _ _ _ _ _ (c .before .before .before .before .before .before .before .before .empty .ensures .1) (c .before .before .before .before .before .push-count .ensures) (c .before .before .before .before .push-name-line .ensures) (c .before .before .before .push-hash-line .ensures) (c .before .before .push-counts .ensures) (c .before .find-path .ensures .answer) (c .push-path-line .ensures)
 
 pub accepted-text-spec : {M : Type 1} → statement M
 accepted-text-spec =
