@@ -1,3 +1,4 @@
+pub mod EveryName
 pub mod Points
 pub mod Examples
 pub mod EmptyPrograms

@@ -88,7 +88,7 @@ within-end h size s l e (inl z) =
 within-end h size s l e (inr w) = w .1
 
 -- checks 1 to 6 accept what is allowed
-opens : (p : List ℕ) (o : Opening) → Allowed p o → OpenFacts p o
+pub opens : (p : List ℕ) (o : Opening) → Allowed p o → OpenFacts p o
 unfolding headOf
 opens p o a =
     let h = layoutOf (o .version) .head in
