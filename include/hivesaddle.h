@@ -91,7 +91,8 @@ uint32_t hs_read_file(const uint8_t *file, size_t length, uint32_t *predecessors
  *  11   trace end       a next index is neither 4,294,967,295 nor that of an entry           first such trace entry
  *  12   trace end       an entry is named as next by two or more                             smallest entry so named
  *  13   trace end       following next from an entry comes back to it                        smallest such entry
- *  14   volumes end     a path, references or a directory run past the volumes section       the volume
+ *  14   volumes end     a path, references or a directory run past the volumes section, or   the volume
+ *                       references have a size of 1 to 7, or more numbers than it holds
  *  15   volumes end     a directory does not end in a zero unit                              the volume
  *  16                   hs_read_file only: the file is shorter than S or than a check needs  0
  *  17                   hs_read_file only: the file is longer than S                         0

@@ -107,8 +107,8 @@ module _ (p : List ℕ) (o : Opening) (a : Allowed p o) where
       let m : n ≤ o .head .metrics .count * layoutOf (o .version) .metric = mul-le-mul-right (layoutOf (o .version) .metric) (omega arith) in
       let some : 1 * layoutOf (o .version) .metric ≤ n = mul-le-mul-right (layoutOf (o .version) .metric) (omega arith) in
       let t =
-        part-there-to (o .head .metrics) p n (omega (arith, some, layout-sound (o .version) .name)) .0
-        (omega (arith, metrics-there, open-shapes p o facts .metrics-len)) in
+      part-there-to (o .head .metrics) p n (omega (arith, some, layout-sound (o .version) .name)) .0
+      (omega (arith, metrics-there, open-shapes p o facts .metrics-len)) in
       record { below = l; in-section = t .0; in-file = t .1; name = a .names i l }
 
   entry-is : (i : ℕ) → i < o .head .metrics .count → entryPlace p i ≡ placeAnswer.Shown (namePlace o p i)
