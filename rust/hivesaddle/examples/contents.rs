@@ -1,5 +1,5 @@
 //! Lists what a file says of itself: the program, the files it read, the
-//! volumes they lie on, and how its trace entries hang together.
+//! volumes they lie on, and where its trace chains start.
 //!
 //!     contents FILE
 //!
@@ -14,18 +14,16 @@ fn show(file: &[u8], contents: &FileContents) {
     println!("program {}", text(program_name(file).unwrap_or_default()));
     println!("version {}, run {} times", record.version, record.run_count);
     println!("last run at {} (FILETIME)", record.run_time);
-    for i in 0..record.metrics_count.into() {
-        println!("file {i} {}", text(entry_name(file, i).unwrap_or_default()));
+    // Every name and every volume of an accepted file can be shown.
+    for name in (0..record.metrics_count.into()).filter_map(|i| entry_name(file, i)) {
+        println!("file {}", text(name));
     }
     for volume in (0..record.volume_count.into()).filter_map(|i| volume(file, i)) {
         println!("volume {:08X} {}", volume.serial_number, text(volume.path));
     }
-    for (entry, &before) in contents.predecessors.iter().enumerate() {
-        match before {
-            NONE => println!("trace entry {entry} starts a chain"),
-            before => println!("trace entry {entry} follows {before}"),
-        }
-    }
+    let links = contents.predecessors.iter().enumerate();
+    let starts: Vec<usize> = links.filter(|link| *link.1 == NONE).map(|link| link.0).collect();
+    println!("{} trace entries, chains start at {starts:?}", record.trace_count);
 }
 
 /// UTF-16, low byte first. What is no text is shown as U+FFFD.
