@@ -71,6 +71,12 @@ uint32_t hs_read_prefix(const uint8_t *file, size_t length, uint32_t *predecesso
 uint32_t hs_read_file(const uint8_t *file, size_t length, uint32_t *predecessors, size_t places, uint64_t *out,
                       size_t out_length);
 
+/* How many places both need for this file: its trace count. 1 where checks 1 to 6 of the table below pass on these bytes,
+ * so from H bytes on, and the number is then at most 1,398,088. Else 0; both then answer the same with any number of
+ * places. Of the file only its head is looked at.
+ * out: places, 0 after a no. */
+uint32_t hs_places(const uint8_t *file, size_t length, uint64_t *out, size_t out_length);
+
 /* Refusals, in the order of the checks. A check is decided once the prefix reaches the length in the middle column, and
  * the first that is not passed gives the answer. S is the declared size, H the end of the head's last field: 148, 156 and
  * 212 for versions 17, 23 and 26. Sections are numbered 1 metrics, 2 trace, 3 strings, 4 volumes.

@@ -24,6 +24,7 @@
 
 uint32_t judge_read_prefix(const uint8_t *, size_t, uint32_t *, size_t, uint64_t *, size_t);
 uint32_t judge_read_file(const uint8_t *, size_t, uint32_t *, size_t, uint64_t *, size_t);
+uint32_t judge_places(const uint8_t *, size_t, uint64_t *, size_t);
 uint32_t judge_program_name(const uint8_t *, size_t, uint64_t *, size_t);
 uint32_t judge_entry_name(const uint8_t *, size_t, uint64_t, uint64_t *, size_t);
 uint32_t judge_volume(const uint8_t *, size_t, uint64_t, uint64_t *, size_t);
@@ -40,11 +41,11 @@ uint32_t judge_catalogue_write(uint32_t, uint32_t, uint32_t, uint32_t, uint8_t *
 
 enum call {
     READ_PREFIX, READ_FILE, PROGRAM_NAME, ENTRY_NAME, VOLUME, REFERENCE, FIND_PATH, HASH_XP, HASH_VISTA, HASH_2008,
-    HASH_XP_UNITS, HASH_VISTA_UNITS, HASH_2008_UNITS, CATALOGUE_READ, CATALOGUE_WRITE, CALLS
+    HASH_XP_UNITS, HASH_VISTA_UNITS, HASH_2008_UNITS, CATALOGUE_READ, CATALOGUE_WRITE, PLACES, CALLS
 };
 static const char *const names[CALLS] = {
     "read_prefix", "read_file", "program_name", "entry_name", "volume", "reference", "find_path", "hash_xp", "hash_vista",
-    "hash_2008", "hash_xp_units", "hash_vista_units", "hash_2008_units", "catalogue_read", "catalogue_write"
+    "hash_2008", "hash_xp_units", "hash_vista_units", "hash_2008_units", "catalogue_read", "catalogue_write", "places"
 };
 
 /* ---- Lists between pages that cannot be touched ---- */
@@ -293,6 +294,10 @@ static void one_call(enum call call, const struct input *in, uint64_t i, uint64_
     case CATALOGUE_WRITE:
         given = hs_catalogue_write(i, i >> 32, k, k >> 32, pointer(&lists[LINE]), line);
         expected = judge_catalogue_write(i, i >> 32, k, k >> 32, pointer(&lists[JUDGE_LINE]), line);
+        break;
+    case PLACES:
+        given = hs_places(file, n, out, o);
+        expected = judge_places(file, n, judge_out, o);
         break;
     default: abort();
     }

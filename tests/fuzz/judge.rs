@@ -95,6 +95,17 @@ pub unsafe extern "C" fn judge_read_file(
 }
 
 #[no_mangle]
+pub unsafe extern "C" fn judge_places(
+    file: *const u8,
+    length: usize,
+    out: *mut u64,
+    out_length: usize,
+) -> u32 {
+    let places = questions::places(list(file, length));
+    tell(places.map(|places| [places]), out, out_length)
+}
+
+#[no_mangle]
 pub unsafe extern "C" fn judge_program_name(
     file: *const u8,
     length: usize,

@@ -35,6 +35,7 @@ static uint32_t (*volatile nothing_called)(const uint8_t *, size_t, uint32_t *, 
 static void call_nothing(void) { answer = nothing_called(file, length, predecessors, places, out, HS_READER_OUT); }
 static void read_file(void) { answer = hs_read_file(file, length, predecessors, places, out, HS_READER_OUT); }
 static void read_prefix(void) { answer = hs_read_prefix(file, length, predecessors, places, out, HS_READER_OUT); }
+static void places_needed(void) { answer = hs_places(file, length, out, HS_READER_OUT); }
 static void find_path(void) { answer = hs_find_path(file, length, out, HS_READER_OUT); }
 static void program_name(void) { answer = hs_program_name(file, length, out, HS_READER_OUT); }
 static void entry_name(void) { answer = hs_entry_name(file, length, 1, out, HS_READER_OUT); }
@@ -57,6 +58,7 @@ static struct {
     {"a call that does nothing", call_nothing, 0},
     {"hs_read_prefix", read_prefix, 0},
     {"hs_read_file", read_file, 0},
+    {"hs_places", places_needed, 0},
     {"hs_program_name", program_name, 0},
     {"hs_entry_name", entry_name, 0},
     {"hs_volume", volume, 0},

@@ -1,7 +1,7 @@
 //! Safe calls into the proved reader of Windows Prefetch (SCCA) files.
 //!
 //! Every function takes any bytes, any index and any buffer length and comes
-//! to an end. Nothing is allocated.
+//! to an end. Nothing is allocated, but by [`read_file_alloc`].
 //!
 //! Numbers in a file are little-endian. A text is UTF-16 units kept as they
 //! stand, and is handed over as bytes, low byte first.
@@ -19,7 +19,7 @@ pub use hashes::{
 pub use queries::{
     entry_name, find_path, program_name, reference, volume, FoundPath, Reference, Report, Volume,
 };
-pub use readers::{read_file, read_prefix, Record, Verdict};
+pub use readers::{places, read_file, read_file_alloc, read_prefix, FileContents, Record, Verdict};
 
 /// What a working place holds where no entry is named, and everywhere after
 /// an answer that is no acceptance.

@@ -51,6 +51,8 @@ extern "C" {
         out: *mut u64,
         out_length: usize,
     ) -> u32;
+    /// 1 for a yes and 0 for a no. `out`: the places that both need.
+    pub fn hs_places(file: *const u8, length: usize, out: *mut u64, out_length: usize) -> u32;
 }
 
 // Each gives 1 for a yes and 0 for a no.

@@ -29,6 +29,15 @@ pub enum Verdict {
     Wanted(u64),
 }
 
+/// An accepted file, for callers that have a heap.
+#[derive(Clone, Debug, PartialEq, Eq)]
+pub struct FileContents {
+    pub record: Record,
+    /// One place for each trace entry: place j holds the entry that names j as
+    /// next, and [`crate::NONE`] where none does.
+    pub predecessors: Vec<u32>,
+}
+
 /// Numbers in `out`.
 const OUT_LENGTH: usize = 13;
 
@@ -65,7 +74,8 @@ pub fn read_prefix(prefix: &[u8], predecessors: &mut [u32]) -> Verdict {
     verdict(answer, &out)
 }
 
-/// Looks at a complete file. `predecessors` is as for [`read_prefix`].
+/// Looks at a complete file. `predecessors` is as for [`read_prefix`];
+/// [`places`] says how many it needs, and [`read_file_alloc`] allocates them.
 ///
 /// ```
 /// let mut file = [0; 148];
@@ -100,6 +110,70 @@ pub fn read_file(file: &[u8], predecessors: &mut [u32]) -> Result<Record, Refusa
         Verdict::Refused(refusal) => Err(refusal),
         Verdict::Wanted(bytes) => unreachable!("the whole reader asked for {bytes} bytes"),
     }
+}
+
+/// How many places [`read_prefix`] and [`read_file`] need for this file: its
+/// trace count. None where checks 1 to 6 do not pass on these bytes; both then
+/// answer the same with any number of places.
+///
+/// Only the head is looked at, so a prefix that has all of it is enough. The
+/// number is at most 1,398,088: check 5 keeps the trace entries, 12 bytes each,
+/// inside the declared size, and check 3 keeps that to 16,777,215.
+///
+/// ```
+/// // Version 17: three trace entries at 148.
+/// let mut file = [0; 184];
+/// file[0] = 17;
+/// file[4..8].copy_from_slice(b"SCCA");
+/// file[12] = 184;
+/// (file[92], file[96]) = (148, 3);
+/// assert_eq!(hivesaddle::places(&file), Some(3));
+/// assert_eq!(hivesaddle::places(&file[..148]), Some(3));
+/// assert_eq!(hivesaddle::places(&file[..147]), None);
+/// // A fourth would end behind the declared size.
+/// file[96] = 4;
+/// assert_eq!(hivesaddle::places(&file), None);
+/// ```
+pub fn places(file: &[u8]) -> Option<usize> {
+    let mut out = [0];
+    let answer = unsafe { raw::hs_places(file.as_ptr(), file.len(), out.as_mut_ptr(), out.len()) };
+    match answer {
+        0 => None,
+        1 => Some(out[0] as usize),
+        other => unreachable!("no such answer: {other}"),
+    }
+}
+
+/// [`read_file`] with as many places as the file needs: it is never refused
+/// for a lack of them, and any other refusal is the one that [`read_file`]
+/// gives.
+///
+/// The places are allocated before the trace section is looked at. There are
+/// at most 1,398,088, see [`places`], so no file takes more than 5.4 MiB.
+///
+/// ```
+/// // Version 17: three trace entries at 148, the chains 2 -> 0 and 1.
+/// let mut file = [0; 184];
+/// file[0] = 17;
+/// file[4..8].copy_from_slice(b"SCCA");
+/// file[12] = 184;
+/// (file[92], file[96]) = (148, 3);
+/// for (entry, next) in [hivesaddle::NONE, hivesaddle::NONE, 0].into_iter().enumerate() {
+///     file[148 + 12 * entry..][..4].copy_from_slice(&next.to_le_bytes());
+/// }
+/// let contents = hivesaddle::read_file_alloc(&file).unwrap();
+/// assert_eq!((contents.record.trace_count, contents.record.chain_count), (3, 2));
+/// assert_eq!(contents.predecessors, [2, hivesaddle::NONE, hivesaddle::NONE]);
+///
+/// // Entry 2 names itself as next.
+/// file[148 + 24] = 2;
+/// let refusal = hivesaddle::read_file_alloc(&file).unwrap_err();
+/// assert_eq!((refusal.number, refusal.index), (13, 2));
+/// ```
+pub fn read_file_alloc(file: &[u8]) -> Result<FileContents, Refusal> {
+    let mut predecessors = vec![0; places(file).unwrap_or(0)];
+    let record = read_file(file, &mut predecessors)?;
+    Ok(FileContents { record, predecessors })
 }
 
 fn verdict(answer: u32, out: &[u64; OUT_LENGTH]) -> Verdict {

@@ -1,4 +1,5 @@
-//! Questions about one entry and the path search beside the reference.
+//! Questions about one entry, the number of working places and the path search
+//! beside the reference.
 
 use super::Run;
 use crate::generate::cuts::{cuts, question_cuts};
@@ -70,6 +71,7 @@ impl Queries<'_> {
     /// All questions on the first bytes of the sample.
     fn prefix(&mut self, sample: &Sample, length: usize) {
         let file = &sample.bytes[..length];
+        self.places(file);
         self.program_name(file);
         for i in indexes(count(file, metrics_count)) {
             self.entry_name(file, i);
@@ -78,6 +80,14 @@ impl Queries<'_> {
             self.volume(file, i);
         }
         self.find_path(file);
+    }
+
+    fn places(&mut self, file: &[u8]) {
+        let places = reference::places(file);
+        self.seen.places.answer(places.is_some());
+        self.ask("places", file, "", places.map(|places| [places]), |out| unsafe {
+            raw::hs_places(file.as_ptr(), file.len(), out.as_mut_ptr(), out.len())
+        });
     }
 
     fn program_name(&mut self, file: &[u8]) {
@@ -156,6 +166,8 @@ impl Queries<'_> {
         let file = &sample.bytes[..];
         let input = || hex(file);
         let place = |part: &[u8]| part_numbers(place_of(file, part));
+        let places = hivesaddle::places(file).map(|places| places as u64);
+        self.tally.same("places", &reference::places(file), &places, input);
         let name = hivesaddle::program_name(file).map(place);
         self.tally.same(
             "program_name",
@@ -290,6 +302,7 @@ impl Count {
 /// How often each question had a yes and a no for its answer.
 #[derive(Default)]
 struct Seen {
+    places: Count,
     program_name: Count,
     entry_name: Count,
     volume: Count,
@@ -300,6 +313,7 @@ struct Seen {
 impl Seen {
     fn report(&self, tally: &mut Tally) {
         let counts = [
+            ("places", &self.places),
             ("program name", &self.program_name),
             ("entry name", &self.entry_name),
             ("volume", &self.volume),

@@ -1,12 +1,21 @@
 //! Questions on small files put together by hand, with answers by hand.
 
+use crate::generate::bare::{bare, with_links, HEADS};
 use crate::generate::{set_16, set_32};
+use crate::reference::layout::END;
+use crate::reference::questions;
 use crate::tally::Tally;
 use hivesaddle::raw;
-use hivesaddle::{entry_name, find_path, program_name, reference, volume, FoundPath, Report};
+use hivesaddle::{
+    entry_name, find_path, places, program_name, read_file_alloc, reference, volume, FileContents,
+    FoundPath, Report,
+};
 use std::ptr::{null, null_mut};
 
 pub fn run(tally: &mut Tally) {
+    numbers_of_places(tally);
+    most_places(tally);
+    places_allocated(tally);
     program_names(tally);
     entry_names(tally);
     paths(tally);
@@ -45,6 +54,112 @@ fn with_names(version: u32, names: &[(u32, u32)], strings: &[u8]) -> Vec<u8> {
     }
     file[strings_start..].copy_from_slice(strings);
     file
+}
+
+/// The library and the reference both have to give the number.
+fn needs(tally: &mut Tally, name: &str, file: &[u8], number: Option<u64>) {
+    tally.named(name, &number, &places(file).map(|places| places as u64));
+    tally.named(name, &number, &questions::places(file));
+}
+
+/// Three trace entries right behind the head, up to S.
+fn with_three(version: u32) -> Vec<u8> {
+    let mut file = bare(version, 36);
+    let head_end = file.len() as u32 - 36;
+    set_32(&mut file, 92, head_end);
+    set_32(&mut file, 96, 3);
+    file
+}
+
+fn numbers_of_places(tally: &mut Tally) {
+    for (version, head_end) in HEADS {
+        let file = with_three(version);
+        let cut = head_end as usize;
+        needs(tally, "a section that ends at S", &file, Some(3));
+        needs(tally, "H bytes", &file[..cut], Some(3));
+        needs(tally, "a byte short of H", &file[..cut - 1], None);
+        needs(tally, "no bytes", &[], None);
+        let trace_fields: [(&str, usize, u32, Option<u64>); 9] = [
+            ("an entry past S", 96, 4, None),
+            ("a section that ends at S + 1", 92, head_end + 1, None),
+            ("a section that starts at H - 1", 92, head_end - 1, None),
+            ("two entries, at H", 96, 2, Some(2)),
+            ("a trace count of 0", 96, 0, Some(0)),
+            ("a product past 32 bits", 96, 357_913_942, None),
+            ("the greatest count", 96, u32::MAX, None),
+            ("a size below H", 12, head_end - 1, None),
+            ("a size past the limit", 12, 16_777_216, None),
+        ];
+        for (name, field, number, expected) in trace_fields {
+            let mut file = with_three(version);
+            set_32(&mut file, field, number);
+            needs(tally, name, &file, expected);
+        }
+        others_of_places(tally, version, head_end);
+    }
+}
+
+/// The other checks: 1 to 6 of any field count, 7 and later do not.
+fn others_of_places(tally: &mut Tally, version: u32, head_end: u32) {
+    let mut file = with_three(version);
+    set_32(&mut file, 112, u32::MAX);
+    needs(tally, "check 8 plays no part", &file, Some(3));
+    set_32(&mut file, 100, head_end + 35);
+    set_32(&mut file, 104, 1);
+    needs(tally, "a byte shared with the strings", &file, None);
+    set_32(&mut file, 96, 0);
+    needs(tally, "and none shared with no entries", &file, Some(0));
+    set_32(&mut file, 104, 2);
+    needs(tally, "strings past S", &file, None);
+    let mut file = with_three(version);
+    file.push(0);
+    needs(tally, "a byte past S", &file, Some(3));
+    file[4] = b's';
+    needs(tally, "check 2", &file, None);
+    let mut file = with_three(version);
+    set_32(&mut file, 0, version + 1);
+    needs(tally, "check 1", &file, None);
+    let mut file = with_three(version);
+    for place in 0..30 {
+        set_16(&mut file, 16 + 2 * place, 65);
+    }
+    needs(tally, "check 4", &file, None);
+}
+
+/// The head of the largest file: 16,777,067 bytes behind 148, 12 for each.
+fn most_places(tally: &mut Tally) {
+    let mut file = bare(17, 0);
+    set_32(&mut file, 12, 16_777_215);
+    set_32(&mut file, 92, 148);
+    set_32(&mut file, 96, 1_398_088);
+    needs(tally, "the most that can be", &file, Some(1_398_088));
+    let refusal = read_file_alloc(&file).map_err(|refusal| (refusal.number, refusal.index));
+    tally.named("the most, on a head alone", &Err((16, 0)), &refusal);
+    set_32(&mut file, 96, 1_398_089);
+    needs(tally, "one more than can be", &file, None);
+    let refusal = read_file_alloc(&file).map_err(|refusal| (refusal.number, refusal.index));
+    tally.named("one more, read", &Err((5, 2)), &refusal);
+}
+
+fn places_allocated(tally: &mut Tally) {
+    let contents = |links: &[u32]| read_file_alloc(&with_links(links));
+    let table = |contents: FileContents| contents.predecessors;
+    let refusal = |number, index| Err(hivesaddle::Refusal { number, index });
+    let sound: [(&[u32], &[u32]); 3] =
+        [(&[], &[]), (&[END], &[END]), (&[3, END, END, 1], &[END, 3, END, 0])];
+    for (links, predecessors) in sound {
+        let name = format!("links {links:?}, places allocated");
+        tally.named(&name, &Ok(predecessors.to_vec()), &contents(links).map(table));
+        let count = contents(links).map(|contents| contents.record.trace_count as usize);
+        tally.named(&name, &Ok(links.len()), &count);
+    }
+    tally.named("a ring, places allocated", &refusal(13, 0), &contents(&[1, 0]).map(table));
+    let mut file = with_links(&[END, END]);
+    file.push(0);
+    tally.named("too long, places allocated", &refusal(17, 0), &read_file_alloc(&file).map(table));
+    let cut = read_file_alloc(&file[..171]).map(table);
+    tally.named("too short, places allocated", &refusal(16, 0), &cut);
+    tally.named("nothing, places allocated", &refusal(16, 0), &read_file_alloc(&[]).map(table));
 }
 
 fn program_names(tally: &mut Tally) {
@@ -206,6 +321,7 @@ fn references(tally: &mut Tally, file: &[u8]) {
 fn null_pointers(tally: &mut Tally) {
     unsafe {
         let (file, out) = (null(), null_mut());
+        tally.named("places, null", &0, &raw::hs_places(file, 0, out, 0));
         tally.named("program name, null", &0, &raw::hs_program_name(file, 0, out, 0));
         tally.named("entry name, null", &0, &raw::hs_entry_name(file, 0, 0, out, 0));
         tally.named("volume, null", &0, &raw::hs_volume(file, 0, 0, out, 0));

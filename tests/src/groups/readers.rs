@@ -7,6 +7,7 @@ use crate::generate::cuts::cuts;
 use crate::generate::damage::{damage, edits, AIMS};
 use crate::generate::{any, rich, sound, Counts, Sample};
 use crate::random::Random;
+use crate::reference::questions;
 use crate::reference::readers::{part_reader, whole_reader, Answer, Verdict};
 use crate::tally::{hex, Tally};
 
@@ -158,6 +159,26 @@ impl Readers<'_> {
         let answers = both(&mut self.random, self.tally, &sample.bytes[..length], places);
         self.seen.answer(&answers.part);
         self.seen.answer(&answers.whole);
+        self.allocated(&sample.bytes[..length]);
+    }
+
+    /// The safe call that finds its own places. Where their number is not
+    /// known the answer is that of any buffer.
+    fn allocated(&mut self, file: &[u8]) {
+        let places = questions::places(file);
+        let other = self.random.below(9);
+        let answer = whole_reader(file, places.map_or(other, |places| places as usize));
+        let (verdict, table) = match hivesaddle::read_file_alloc(file) {
+            Ok(contents) => {
+                (hivesaddle::Verdict::Accepted(contents.record), Some(contents.predecessors))
+            }
+            Err(refusal) => (hivesaddle::Verdict::Refused(refusal), None),
+        };
+        let input = || hex(file);
+        let given = safe_verdict(verdict);
+        self.tally.same("read_file_alloc", &numbers_of(&answer.verdict), &given, input);
+        let expected = matches!(answer.verdict, Verdict::Accepted(_)).then_some(answer.buffer);
+        self.tally.same("read_file_alloc, table", &expected, &table, input);
     }
 
     /// Once for each sample: its bytes are as they were, and the safe calls

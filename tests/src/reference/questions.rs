@@ -38,6 +38,11 @@ pub fn head_and_sections_pass(file: &[u8]) -> bool {
     passes(file, &[1, 2, 3, 4, 5, 6])
 }
 
+/// The places that the working buffer needs: one for each trace entry.
+pub fn places(file: &[u8]) -> Option<u64> {
+    head_and_sections_pass(file).then(|| trace_count(file))
+}
+
 pub fn program_name(file: &[u8]) -> Option<Part> {
     if !passes(file, &[1, 2, 3, 4]) {
         return None;
