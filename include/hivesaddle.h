@@ -33,9 +33,9 @@ extern "C" {
  *
  * hs_read_file looks at a complete file, and never asks for more.
  *
- * predecessors needs one place for each trace entry, else the file is refused with 7. After an acceptance place j holds
- * the entry that names j as next, and HS_NONE where none does and behind the last entry. After anything else every place
- * holds HS_NONE. All of it is written in every call, whatever it held.
+ * predecessors needs one place for each trace entry, else the file is refused with 7; hs_places says how many. After an
+ * acceptance place j holds the entry that names j as next, and HS_NONE where none does and behind the last entry. After
+ * anything else every place holds HS_NONE. All of it is written in every call, whatever it held.
  */
 
 /* What both give back. */

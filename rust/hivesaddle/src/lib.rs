@@ -17,9 +17,10 @@ pub use hashes::{
     hash_2008, hash_2008_units, hash_vista, hash_vista_units, hash_xp, hash_xp_units,
 };
 pub use queries::{
-    entry_name, find_path, program_name, reference, volume, FoundPath, Reference, Report, Volume,
+    entry_name, find_path, places, program_name, reference, volume, FoundPath, Reference, Report,
+    Volume,
 };
-pub use readers::{places, read_file, read_file_alloc, read_prefix, FileContents, Record, Verdict};
+pub use readers::{read_file, read_file_alloc, read_prefix, FileContents, Record, Verdict};
 
 /// What a working place holds where no entry is named, and everywhere after
 /// an answer that is no acceptance.

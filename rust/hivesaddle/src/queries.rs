@@ -1,5 +1,6 @@
-//! Questions about one entry, and the path search. All of them work on a
-//! prefix of a file too, and hand back parts of the bytes they were lent.
+//! Questions about one entry, the path search, and the number of working
+//! places. All of them work on a prefix of a file too, and hand back parts of
+//! the bytes they were lent.
 
 use crate::raw;
 
@@ -38,6 +39,34 @@ pub enum Report {
 pub struct FoundPath {
     pub entry: u64,
     pub report: Report,
+}
+
+/// How many places [`crate::read_prefix`] and [`crate::read_file`] need for
+/// this file: its trace count. None where checks 1 to 6 do not pass on these
+/// bytes; both then answer the same with any number of places.
+///
+/// Only the head is looked at, so a prefix that has all of it is enough. The
+/// number is at most 1,398,088: check 5 keeps the trace entries, 12 bytes each,
+/// inside the declared size, and check 3 keeps that to 16,777,215.
+///
+/// ```
+/// // Version 17: three trace entries at 148.
+/// let mut file = [0; 184];
+/// file[0] = 17;
+/// file[4..8].copy_from_slice(b"SCCA");
+/// file[12] = 184;
+/// (file[92], file[96]) = (148, 3);
+/// assert_eq!(hivesaddle::places(&file), Some(3));
+/// assert_eq!(hivesaddle::places(&file[..148]), Some(3));
+/// assert_eq!(hivesaddle::places(&file[..147]), None);
+/// // A fourth would end behind the declared size.
+/// file[96] = 4;
+/// assert_eq!(hivesaddle::places(&file), None);
+/// ```
+pub fn places(file: &[u8]) -> Option<usize> {
+    let mut out = [0];
+    let answer = unsafe { raw::hs_places(file.as_ptr(), file.len(), out.as_mut_ptr(), out.len()) };
+    yes(answer).then(|| out[0] as usize)
 }
 
 /// The bytes of the program name before its first zero unit.

@@ -1,6 +1,6 @@
 //! The part reader, which looks at a prefix, and the whole reader.
 
-use crate::{raw, Refusal};
+use crate::{places, raw, Refusal};
 
 /// What an accepted file says of itself.
 #[derive(Clone, Copy, Debug, PartialEq, Eq)]
@@ -112,44 +112,11 @@ pub fn read_file(file: &[u8], predecessors: &mut [u32]) -> Result<Record, Refusa
     }
 }
 
-/// How many places [`read_prefix`] and [`read_file`] need for this file: its
-/// trace count. None where checks 1 to 6 do not pass on these bytes; both then
-/// answer the same with any number of places.
-///
-/// Only the head is looked at, so a prefix that has all of it is enough. The
-/// number is at most 1,398,088: check 5 keeps the trace entries, 12 bytes each,
-/// inside the declared size, and check 3 keeps that to 16,777,215.
-///
-/// ```
-/// // Version 17: three trace entries at 148.
-/// let mut file = [0; 184];
-/// file[0] = 17;
-/// file[4..8].copy_from_slice(b"SCCA");
-/// file[12] = 184;
-/// (file[92], file[96]) = (148, 3);
-/// assert_eq!(hivesaddle::places(&file), Some(3));
-/// assert_eq!(hivesaddle::places(&file[..148]), Some(3));
-/// assert_eq!(hivesaddle::places(&file[..147]), None);
-/// // A fourth would end behind the declared size.
-/// file[96] = 4;
-/// assert_eq!(hivesaddle::places(&file), None);
-/// ```
-pub fn places(file: &[u8]) -> Option<usize> {
-    let mut out = [0];
-    let answer = unsafe { raw::hs_places(file.as_ptr(), file.len(), out.as_mut_ptr(), out.len()) };
-    match answer {
-        0 => None,
-        1 => Some(out[0] as usize),
-        other => unreachable!("no such answer: {other}"),
-    }
-}
-
-/// [`read_file`] with as many places as the file needs: it is never refused
-/// for a lack of them, and any other refusal is the one that [`read_file`]
-/// gives.
+/// [`read_file`] with as many places as the file needs, so that refusal 7 never
+/// comes. Any other answer is the one that [`read_file`] gives.
 ///
 /// The places are allocated before the trace section is looked at. There are
-/// at most 1,398,088, see [`places`], so no file takes more than 5.4 MiB.
+/// at most 1,398,088, see [`places`], so no file takes more than 5.6 MB.
 ///
 /// ```
 /// // Version 17: three trace entries at 148, the chains 2 -> 0 and 1.
