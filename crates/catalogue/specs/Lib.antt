@@ -2,3 +2,4 @@ pub mod Hex
 pub mod Line
 pub mod RoundTrip
 pub mod Points
+pub mod Private

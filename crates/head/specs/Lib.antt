@@ -1,3 +1,3 @@
 pub mod Checks
-pub mod Steps
-pub mod Facts
+pub mod Rules
+pub mod Private

@@ -1,7 +1,6 @@
 -- Document 01's table of versions.
 use mathlib.Core.List.{[], _∷_}
-use Prim.Native.Nat.{ℕ, _+_, _≤_}
-use native.Mathlib.Omega.{arith}
+use Prim.Native.Nat.{ℕ}
 use lib.Dec.{eqb}
 use Rattle.lists.specs.Answer.{Said}
 use Rattle.lists.specs.Count.{pick}
@@ -39,22 +38,3 @@ versionOf v = pick (eqb v 17) (Known V17) (pick (eqb v 23) (Known V23) (pick (eq
 abbrev pub knownSaid : KnownVersion → Said
 knownSaid (Known v) = record { number = 1; values = versionNumber v ∷ [] }
 knownSaid Unknown = record { number = 0; values = [] }
-
--- what holds of the constants of every version
-pub record Sound (l : Layout) : Type 0 where
-  pub fixed : 120 ≤ l .head
-  pub small : l .head ≤ 212
-  pub time : l .time + 8 ≤ l .head
-  pub runs : l .runs + 4 ≤ l .head
-  pub metric : l .metric ≤ 32
-  pub name : l .name + 4 ≤ l .metric
-  pub units : l .units + 4 ≤ l .metric
-  pub volume : l .volume ≤ 104
-  pub entry : 36 ≤ l .volume
-  pub link : l .link ≤ 12
-  pub next : 4 ≤ l .link
-
-pub layout-sound : (v : Version) → Sound (layoutOf v)
-layout-sound V17 = omega arith
-layout-sound V23 = omega arith
-layout-sound V26 = omega arith

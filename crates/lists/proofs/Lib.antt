@@ -1,1 +1,7 @@
 pub mod Answers
+pub mod Count
+pub mod First
+pub mod Parts
+pub mod Pigeon
+pub mod Table
+pub mod Tests

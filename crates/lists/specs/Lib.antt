@@ -3,6 +3,4 @@ pub mod Part
 pub mod First
 pub mod Count
 pub mod Table
-pub mod Tests
-pub mod Pigeon
-pub mod Parts
+pub mod Private

@@ -1,2 +1,2 @@
 pub mod Names
-pub mod NameLaws
+pub mod Private

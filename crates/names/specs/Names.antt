@@ -1,15 +1,25 @@
--- Checks 9 and 10 of document 01 on a metrics array and a strings section.
-use mathlib.Core.Bool.{Bool, not, _&&_}
+-- Laws on the names of metrics entries: what each way through the code decides, and what a sound name is.
+use mathlib.Core.Path.{_≡_}
 use mathlib.Core.List.{List}
-use Prim.Native.Nat.{ℕ, _+_, _*_}
-use lib.Dec.{leb}
+use Prim.Native.Nat.{ℕ, _+_, _*_, _≤_, _<_}
 use lib.ListN.{length}
+use Rattle.little_endian.specs.Number.{le, zeroUnit}
+use mathlib.Core.Bool.{Bool, not, _&&_}
+use lib.Dec.{leb}
 use Rattle.lists.specs.First.{first}
 use Rattle.lists.specs.Count.{some}
 use Rattle.lists.specs.declared.Found.{Found}
-use Rattle.little_endian.specs.Number.{le, zeroUnit}
 use Rattle.layout.specs.Versions.{layoutOf}
 use Rattle.layout.specs.declared.Version.{Version}
+
+-- WHAT A SOUND NAME IS
+pub record SoundName (strings : List ℕ) (at units : ℕ) : Type 0 where
+  -- it lies in the section, with the unit after it
+  pub inside : at + 2 * units + 2 ≤ length strings
+  -- none of its units is zero
+  pub text : (k : ℕ) → k < units → le 2 strings (at + 2 * k) ≡ 0 → ⊥
+  -- the unit directly after it is
+  pub end : le 2 strings (at + 2 * units) ≡ 0
 
 -- the name of metrics entry i: its offset in the strings section, and its length in units
 abbrev pub nameAt : Version → List ℕ → ℕ → ℕ

@@ -1,7 +1,7 @@
 -- Document 01's points marked P on the path hashes.
-use mathlib.Core.Path.{_≡_, refl}
+use mathlib.Core.Path.{_≡_}
 use mathlib.Core.List.{[], _∷_}
-use Rattle.path_hash.specs.Hash.{step, plain, vista, xp, xpEnd, wrapSub, eightSum, eight, eights, hash2008, signedRemainder}
+use Rattle.path_hash.specs.Hash.{vista, xp, hash2008, signedRemainder}
 
 pub record HashPoints : Type 0 where
   pub xp-nothing : xp [] ≡ 0
@@ -12,17 +12,3 @@ pub record HashPoints : Type 0 where
   pub xp-A : xp (65 ∷ []) ≡ 54483988
   pub least-signed : signedRemainder 2147483648 ≡ 147483634
   pub minus-one : signedRemainder 4294967295 ≡ 1
-
-pub hash-points : HashPoints
-unfolding step plain xpEnd wrapSub eightSum eight eights hash2008
-hash-points =
-    record {
-      xp-nothing = refl;
-      vista-nothing = refl;
-      vista-A = refl;
-      hash2008-A = refl;
-      vista-AB = refl;
-      xp-A = refl;
-      least-signed = refl;
-      minus-one = refl;
-    }

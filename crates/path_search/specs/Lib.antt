@@ -1,3 +1,2 @@
 pub mod Search
-pub mod Matches
-pub mod SearchLaws
+pub mod Private

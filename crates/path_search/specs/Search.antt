@@ -1,7 +1,7 @@
 -- Document 01's path search.
 use mathlib.Core.Bool.{Bool, true, false, _&&_, _||_}
 use mathlib.Core.List.{List, [], _∷_}
-use Prim.Native.Nat.{ℕ}
+use Prim.Native.Nat.{ℕ, _<_}
 use lib.Dec.{eqb}
 use Rattle.lists.specs.Answer.{Said}
 use Rattle.lists.specs.First.{first}
@@ -19,6 +19,7 @@ use Rattle.path_search.specs.declared.Report.{Report}
 use Rattle.path_search.specs.declared.Report.the-variants as report
 use Rattle.path_search.specs.declared.PathAnswer.{PathAnswer}
 use Rattle.path_search.specs.declared.PathAnswer.the-variants as pathAnswer
+use mathlib.Core.Path.{_≡_}
 
 -- the numbers that a name's bytes give to the hash: each 16-bit unit is one number
 abbrev pub numbersOf : List ℕ → List ℕ
@@ -69,3 +70,13 @@ reportNumber report.Both = 3
 abbrev pub pathSaid : PathAnswer → Said
 pathSaid (pathAnswer.Entry i r) = record { number = 1; values = i ∷ reportNumber r ∷ [] }
 pathSaid pathAnswer.NoPath = record { number = 0; values = 0 ∷ 0 ∷ [] }
+
+-- ---- WHAT A FOUND PATH IS
+
+-- the entry can be shown, its hash equals the stored one, and no earlier entry is so
+pub record PathFound (o : Opening) (p : List ℕ) (i : ℕ) (x : Report) : Type 0 where
+  pub below : i < o .head .metrics .count
+  pub shown : entryShown o p i ≡ true
+  pub equal : matches (o .version) (entryNumbers o p i) (storedHash p) ≡ true
+  pub report : x ≡ reportOf (o .version) (entryNumbers o p i) (storedHash p)
+  pub first : (k : ℕ) → k < i → entryShown o p k ≡ true → matches (o .version) (entryNumbers o p k) (storedHash p) ≡ false

@@ -1,39 +1,27 @@
 -- FILES THAT THE LAYOUT ALLOWS, so that demand 2 speaks of something: the file of 148 bytes of document 01, and for each version
 -- one file with every section.
-use mathlib.Core.Path.{_≡_, refl, sym, ap, _∙_}
+use mathlib.Core.Path.{_≡_}
 use mathlib.Core.List.{List, [], _∷_, _++_}
 use Prim.Native.Nat.{ℕ, _+_, _-_, _/_, _%_, _≤_}
-use native.Mathlib.Omega.{arith}
 use lib.ListN.{length, replicate}
-use Rattle.lists.specs.First.{firstFrom}
-use Rattle.lists.specs.Table.{tabulate}
-use Rattle.lists.specs.Count.{some, count}
-use Rattle.little_endian.specs.Number.{le}
-use Rattle.layout.specs.Versions.{versionOf, layoutOf, versionNumber}
+use Rattle.layout.specs.Versions.{layoutOf, versionNumber}
 use Rattle.layout.specs.declared.Version.{Version}
 use Rattle.layout.specs.declared.Version.the-variants.{V17, V23, V26}
-use Rattle.incremental.specs.Decision.{Decision, accept}
-use Rattle.incremental.specs.Plan.{Answer, decided, run, andThen}
-use Rattle.sections.specs.Fields.{signatureFault, sizeFault, nameEnd, headOf, outside, firstOutside, shares, firstShared}
-use Rattle.head.specs.Checks.{openPlan, startPlan, signaturePlan, sizePlan, namePlan, headPlan, sectionPlan}
-use Rattle.head.specs.declared.checks.Start.{Start}
+use Rattle.incremental.specs.Decision.{accept}
+use Rattle.incremental.specs.Plan.{decided}
 use Rattle.head.specs.declared.checks.Opening.{Opening}
-use Rattle.names.specs.Names.{fits, sound, firstMisfit, firstUnsound}
-use Rattle.trace.specs.Links.{end, nexts, follow, namers, cyclic, chains, predecessor, predecessors, linkChecks}
-use Rattle.volumes.specs.Volumes.{pathFits, referenceCount, referencesFit, stepAt, directoryChecks, entryChecks, volumesFrom, pathUnits, volumeOf, referenceOf}
+use Rattle.trace.specs.Links.{end, chains}
 use Rattle.reader.specs.declared.verdict.Acceptance.{Acceptance}
 use Rattle.reader.specs.declared.verdict.Verdict.{Verdict}
 use Rattle.reader.specs.declared.verdict.Verdict.the-variants.{Accepted}
-use Rattle.reader.specs.Verdict.{Acceptable}
-use Rattle.reader.specs.Checks.{recordOf, volumesPlan, tracePlan, namesPlan, metricsPlan, restPlan, readPlan, fileAnswer, ReadsFile}
-use Rattle.reader.specs.Allowed.{Allowed, givenRecord, demand-2}
-use Rattle.query.specs.Queries.{entryPlace, entryShown, volumeAsked, volumeShown, volumeFacts, referenceAsked, referenceShown}
+use Rattle.reader.specs.Checks.{fileAnswer, ReadsFile}
+use Rattle.reader.specs.Allowed.{Allowed, givenRecord}
+use Rattle.query.specs.Queries.{entryPlace, volumeAsked, referenceAsked}
 use Rattle.query.specs.declared.PlaceAnswer.the-variants as place
 use Rattle.query.specs.declared.VolumeAnswer.the-variants as volume
 use Rattle.query.specs.declared.ReferenceAnswer.the-variants as reference
 
 -- ---- the files
-
 abbrev pub u16 : ℕ → List ℕ
 u16 n = n % 256 ∷ n / 256 % 256 ∷ []
 
@@ -149,63 +137,3 @@ pub record Examples : Type 0 where
   pub smallest-allowed : Example (smallest 1) (smallestRecord 1)
   pub full-file : (v : Version) → FullFile v
   pub full-allowed : (v : Version) → Example (full v) (fullRecord v)
-
--- ---- the proofs: the checks are computed
-
--- to unfold one of these is to unfold all that its line names
-started : List ℕ → Answer Start
-unfolding run le startPlan signaturePlan sizePlan namePlan signatureFault sizeFault nameEnd versionOf firstFrom
-started p = run startPlan p
-
-opened : List ℕ → Answer Opening
-unfolding started andThen openPlan headPlan sectionPlan headOf outside firstOutside shares firstShared
-opened p = run openPlan p
-
-linked : List ℕ → ℕ
-unfolding nexts tabulate linkChecks some count cyclic namers follow chains predecessors predecessor
-linked s = chains s
-
-inVolumes : List ℕ → Version → ℕ → ℕ → Decision Unit
-unfolding volumesFrom entryChecks pathFits referencesFit referenceCount directoryChecks stepAt
-inVolumes s v n i = volumesFrom s v n i
-
-answered : List ℕ → ℕ → Answer Acceptable
-unfolding opened linked inVolumes readPlan restPlan metricsPlan namesPlan tracePlan volumesPlan recordOf firstMisfit firstUnsound fits sound
-answered p m = fileAnswer p m
-
-smallest-computed : SmallestFile
-unfolding answered
-smallest-computed = record { long = refl; answer = refl; place = refl; runs = refl }
-
-full-computed : (v : Version) → FullFile v
-unfolding answered entryShown volumeShown volumeFacts volumeOf pathUnits referenceShown referenceOf
-full-computed V17 = record { long = refl; answer = refl; name = refl; volume = refl; reference = refl }
-full-computed V23 = record { long = refl; answer = refl; name = refl; volume = refl; reference = refl }
-full-computed V26 = record { long = refl; answer = refl; name = refl; volume = refl; reference = refl }
-
--- what is allowed is accepted, by demand 2
-allowed-accepted : (p : List ℕ) (a : Acceptance) (o : Opening) → Allowed p o → a ≡ givenRecord o p → Example p a
-unfolding recordOf
-allowed-accepted p a o h e =
-    let n : o .head .trace .count ≡ a .trace = ap (λ (b : Acceptance). b .trace) (sym e) in
-    record {
-      allowed = (o, h, sym e);
-      accepted = λ buffer v after l r. demand-2 p buffer v after r .complete o h (omega arith) .0 ∙ ap Accepted (sym e);
-    }
-
--- what the checks accept with some buffer is allowed, by demand 2
-example : (p buffer : List ℕ) (a : Acceptance) (t : List ℕ) → fileAnswer p (length buffer) ≡ decided (accept (record { fields = a; table = t }))
-    → Example p a
-example p buffer a t e =
-    let r : ReadsFile p buffer (Accepted a) t = rw e (record { verdict = refl; buffer = refl }) in
-    let s = demand-2 p buffer (Accepted a) t r .sound a refl in
-    allowed-accepted p a (s .0) (s .1) (s .3)
-
-pub examples : Examples
-examples =
-    record {
-      smallest-file = smallest-computed;
-      smallest-allowed = example (smallest 1) [] (smallestRecord 1) [] (smallest-computed .answer);
-      full-file = full-computed;
-      full-allowed = λ v. example (full v) (zeroBytes 2) (fullRecord v) (end ∷ 0 ∷ []) (full-computed v .answer);
-    }

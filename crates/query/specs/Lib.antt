@@ -1,3 +1,3 @@
 pub mod Queries
-pub mod Parts
-pub mod QueryLaws
+pub mod Private
+pub mod Shown

@@ -26,7 +26,6 @@ use Rattle.query.specs.declared.VolumeAnswer.{VolumeAnswer}
 use Rattle.query.specs.declared.VolumeAnswer.the-variants as volumeAnswer
 use Rattle.query.specs.declared.ReferenceAnswer.{ReferenceAnswer}
 use Rattle.query.specs.declared.ReferenceAnswer.the-variants as referenceAnswer
-use Rattle.volumes.specs.declared.Reference.{Reference}
 
 -- what is asked of a file whose checks accept, and a no otherwise
 abbrev pub asked : {A B : Type 0} → Answer A → B → (A → B) → B
@@ -43,7 +42,6 @@ abbrev pub ShownAt : RefT (List ℕ) → Place → RefT (List ℕ) → Type 0
 ShownAt file w r = IsPart file (w .at) (w .len) r
 
 -- ---- the number of working places: checks 1 to 6 pass; a place for each trace entry
-
 abbrev pub placesNeeded : List ℕ → PlacesAnswer
 placesNeeded p = asked (run openPlan p) placesAnswer.Unknown (λ o. placesAnswer.Needed (o .head .trace .count))
 
@@ -65,7 +63,6 @@ placeSaid (placeAnswer.Shown w) = record { number = 1; values = w .at ∷ w .len
 placeSaid placeAnswer.NotShown = record { number = 0; values = 0 ∷ 0 ∷ [] }
 
 -- ---- the program name: checks 1 to 4 pass; the units before its first zero, from byte 16
-
 abbrev pub programPlace : List ℕ → PlaceAnswer
 programPlace p = asked (run startPlan p) placeAnswer.NotShown (λ s. placeAnswer.Shown (record { at = 16; len = 2 * s .units }))
 
@@ -95,7 +92,6 @@ entryPlace p i =
     asked (run openPlan p) placeAnswer.NotShown (λ o. pick (entryShown o p i) (placeAnswer.Shown (namePlace o p i)) placeAnswer.NotShown)
 
 -- ---- volume i
-
 abbrev pub accepts : Decision Unit → Bool
 accepts (accept t) = true
 accepts (refuse r) = false
@@ -140,7 +136,6 @@ volumeSaid (volumeAnswer.Shown f) = record { number = 1; values = volumeList f }
 volumeSaid volumeAnswer.NotShown = record { number = 0; values = volumeList (volumeValues volumeAnswer.NotShown) }
 
 -- ---- reference k of volume i, where k is below n
-
 unfoldable pub referenceShown : Opening → List ℕ → ℕ → ℕ → Bool
 referenceShown o p i k = volumeShown o p i && ltb k (volumeOf (part (o .head .volumes) p) (entryAt (o .version) i) .references)
 

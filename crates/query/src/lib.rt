@@ -1,9 +1,9 @@
 // Questions about one entry of a file that is there in part or whole.
 ghost use mathlib.Core.Path.{_≡_};
 ghost use Rattle.lists.specs.Answer.{Answers};
-ghost use Rattle.head.specs.Facts.{OpenFacts};
+ghost use Rattle.head.specs.Private.{OpenFacts};
 ghost use Rattle.query.specs.Queries.{placeSaid, placeOf, ShownAt, programPlace, entryPlace, volumeAsked, volumeSaid, volumeValues, referenceAsked, referenceSaid, placesNeeded, placesSaid};
-ghost use Rattle.query.specs.Parts.{nameShown, entryIn, sectionShown, volumeIn, referenceIn};
+ghost use Rattle.query.specs.Private.{nameShown, entryIn, sectionShown, volumeIn, referenceIn};
 use head::OpenAnswer;
 use head::Opening;
 use head::StartAnswer;

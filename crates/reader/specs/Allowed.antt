@@ -1,34 +1,23 @@
 -- DEMAND 2: a file is accepted exactly when document 01's layout allows it, and then every field is the one that layout gives.
-use mathlib.Core.Path.{_≡_, refl, sym, _∙_, ap}
+use mathlib.Core.Path.{_≡_}
 use mathlib.Core.List.{List}
-use mathlib.Core.Logic.{_⊎_, inl, inr}
-use Prim.Native.Nat.{ℕ, _+_, _*_, _≤_, _<_}
-use native.Mathlib.Omega.{arith}
-use borrow.Author.Tests.{eq-eqb}
-use lib.Dec.{eqb}
+use mathlib.Core.Logic.{_⊎_}
+use Prim.Native.Nat.{ℕ, _*_, _≤_, _<_}
 use lib.ListN.{length}
-use Rattle.lists.specs.Count.{pick}
 use Rattle.little_endian.specs.Number.{le}
-use Rattle.layout.specs.Versions.{versionOf, layoutOf, sizeLimit, layout-sound}
+use Rattle.layout.specs.Versions.{versionOf, layoutOf, sizeLimit}
 use Rattle.layout.specs.declared.KnownVersion.the-variants.{Known}
-use Rattle.incremental.specs.Plan.{Answer}
 use Rattle.sections.specs.Fields.{declaredSize, headOf, part}
-use Rattle.head.specs.Facts.{NameEnds, Inside, Apart, Within, OpenFacts, Shapes, head-shapes, signature-law, outside-law, shares-law}
-use Rattle.sections.specs.declared.Section.{Section}
-use Rattle.sections.specs.declared.Head.{Head}
+use Rattle.head.specs.Rules.{NameEnds, Inside, Apart}
 use Rattle.head.specs.declared.checks.Opening.{Opening}
-use Rattle.names.specs.Names.{nameAt, nameUnits}
-use Rattle.names.specs.NameLaws.{SoundName}
+use Rattle.names.specs.Names.{nameAt, nameUnits, SoundName}
 use Rattle.trace.specs.Links.{end, after, Cyclic, chains, predecessors}
 use Rattle.volumes.specs.Volumes.{entryAt}
 use Rattle.volumes.specs.SoundVolume.{SoundVolume}
 use Rattle.reader.specs.declared.verdict.Acceptance.{Acceptance}
 use Rattle.reader.specs.declared.verdict.Verdict.{Verdict}
 use Rattle.reader.specs.declared.verdict.Verdict.the-variants.{Accepted}
-use Rattle.reader.specs.Verdict.{Acceptable, valuesOf, answerValues, bufferAfter}
-use Rattle.reader.specs.Values.{accepted-answer, same-values}
-use Rattle.reader.specs.Checks.{nextsIn, recordOf, prefixAnswer, fileAnswer, ReadsFile}
-use Rattle.reader.specs.AllowedLaws.{head-take, name-ends, RestFacts, read-facts, read-complete, whole-accepted, whole-accepts}
+use Rattle.reader.specs.Checks.{nextsIn, recordOf}
 
 -- what the layout allows of the bytes `p`: the version, the name's length and the sections are those of `o`
 pub record Allowed (p : List ℕ) (o : Opening) : Type 0 where
@@ -77,111 +66,3 @@ pub record AcceptedExactly (p buffer : List ℕ) (v : Verdict) (after : List ℕ
       → (o : Opening) × Allowed p o × (o .head .trace .count ≤ length buffer) × (a ≡ givenRecord o p) × (after ≡ givenTable o p (length buffer))
   -- what is allowed is accepted, with a working place for each trace entry
   pub complete : (o : Opening) → Allowed p o → o .head .trace .count ≤ length buffer → (v ≡ Accepted (givenRecord o p)) × (after ≡ givenTable o p (length buffer))
-
--- ---- the proof
-
--- a section that is within S ends by S, for an empty one ends at H
-within-end : (h size : ℕ) (s : Section) → h ≤ size → s .end ≡ pick (eqb (s .len) 0) h (s .at + s .len) → Within h size s → s .end ≤ size
-within-end h size s l e (inl z) =
-    let q : s .end ≡ h = e ∙ rw (eq-eqb _ _ z) in
-    omega arith
-within-end h size s l e (inr w) = w .1
-
--- checks 1 to 6 accept what is allowed
-pub opens : (p : List ℕ) (o : Opening) → Allowed p o → OpenFacts p o
-unfolding headOf
-opens p o a =
-    let h = layoutOf (o .version) .head in
-    let b = layout-sound (o .version) .fixed in
-    let g : Shapes (layoutOf (o .version)) (o .head) = rw (a .sections) (head-shapes (o .version) p) in
-    let size : o .head .size ≡ declaredSize p = ap (λ (x : Head). x .size) (a .sections) in
-    let l : h ≤ o .head .size = rw size (a .least) in
-    record {
-      start =
-          record {
-            least = a .least;
-            most = a .most;
-            known = a .version;
-            ended = name-ends p (o .units) .1 (a .name);
-            named = omega (arith, b, a .least, a .complete);
-            signed = signature-law p .1 (a .signature);
-          };
-      whole = omega (arith, a .least, a .complete);
-      fields = a .sections ∙ sym (head-take (o .version) p);
-      inside = outside-law (o .version) (o .head) .1 (a .inside);
-      apart = shares-law (o .head) .1 (a .apart);
-      metrics = rw (← size) (within-end h _ (o .head .metrics) l (g .metrics-end) (a .inside .metrics));
-      trace = rw (← size) (within-end h _ (o .head .trace) l (g .trace-end) (a .inside .trace));
-      strings = rw (← size) (within-end h _ (o .head .strings) l (g .strings-end) (a .inside .strings));
-      volumes = rw (← size) (within-end h _ (o .head .volumes) l (g .volumes-end) (a .inside .volumes));
-    }
-
--- and so do checks 7 to 15
-passes : (m : ℕ) (p : List ℕ) (o : Opening) → Allowed p o → o .head .trace .count ≤ m
-    → RestFacts m p o (record { fields = givenRecord o p; table = givenTable o p m })
-passes m p o a l =
-    record {
-      places = l;
-      entries = a .entries;
-      names = a .names;
-      free = record { links = a .links; unshared = a .unshared; acyclic = a .acyclic };
-      volumes = a .volumes;
-      fields = refl;
-      table = refl;
-    }
-
--- what all of them accept is allowed
-allowed : (m : ℕ) (p : List ℕ) (o : Opening) (x : Acceptable) → length p ≡ declaredSize p → OpenFacts p o → RestFacts m p o x → Allowed p o
-allowed m p o x c f r =
-    record {
-      version = f .start .known;
-      signature = signature-law p .0 (f .start .signed);
-      least = f .start .least;
-      most = f .start .most;
-      complete = c;
-      name = name-ends p (o .units) .0 (f .start .ended);
-      sections = f .fields ∙ head-take (o .version) p;
-      inside = outside-law (o .version) (o .head) .0 (f .inside);
-      apart = shares-law (o .head) .0 (f .apart);
-      entries = r .entries;
-      names = r .names;
-      links = r .free .links;
-      unshared = r .free .unshared;
-      acyclic = r .free .acyclic;
-      volumes = r .volumes;
-    }
-
--- the declared size of an acceptance
-sizes : (o : Opening) (p : List ℕ) (n : ℕ) → recordOf o p n .size ≡ declaredSize p
-unfolding recordOf
-sizes o p n = refl
-
--- DEMAND 2
-pub demand-2 : (p buffer : List ℕ) (v : Verdict) (after : List ℕ) → ReadsFile p buffer v after → AcceptedExactly p buffer v after
-demand-2 p buffer v after r = record { sound = is-allowed; complete = is-accepted }
-  where
-    is-allowed : (a : Acceptance) → v ≡ Accepted a
-        → (o : Opening) × Allowed p o × (o .head .trace .count ≤ length buffer) × (a ≡ givenRecord o p) × (after ≡ givenTable o p (length buffer))
-    is-allowed a e =
-        let m = length buffer in
-        let y = accepted-answer (fileAnswer p m) a (ap valuesOf (sym e) ∙ r .verdict) in
-        let x = y .0 in
-        let w = whole-accepted (length p) (prefixAnswer p m) x (y .1) in
-        let t = read-facts m p .holds x (w .0) in
-        let o = t .0 in
-        let g = t .2 in
-        let size : x .fields .size ≡ declaredSize p = ap (λ (b : Acceptance). b .size) (g .fields) ∙ sizes o p _ in (
-          o,
-          allowed m p o x (sym (w .1) ∙ size) (t .1) g,
-          g .places,
-          y .2 ∙ g .fields,
-          r .buffer ∙ ap (λ (z : Answer Acceptable). bufferAfter z m) (y .1) ∙ g .table,
-        )
-
-    is-accepted : (o : Opening) → Allowed p o → o .head .trace .count ≤ length buffer → (v ≡ Accepted (givenRecord o p)) × (after ≡ givenTable o p (length buffer))
-    is-accepted o a l =
-        let m = length buffer in
-        let x : Acceptable = record { fields = givenRecord o p; table = givenTable o p m } in
-        let e = read-complete m p o x (opens p o a) (omega (arith, a .complete)) (passes m p o a l) in
-        let w = whole-accepts (length p) (prefixAnswer p m) x e (sizes o p _ ∙ sym (a .complete)) in
-        (same-values v (Accepted (givenRecord o p)) (r .verdict ∙ ap answerValues w), r .buffer ∙ ap (λ (z : Answer Acceptable). bufferAfter z m) w)

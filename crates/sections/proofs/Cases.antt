@@ -8,12 +8,14 @@ use native.Mathlib.Nat.{mul-le-mul-left}
 use mir.Syntax.{w64}
 use mir.Val.{Fits}
 use borrow.Author.Tests.{eq-eqb, ne-eqb, lt-ltb, le-ltb}
-use Rattle.lists.specs.Count.{pick, some, some-more}
+use Rattle.lists.specs.Count.{pick, some}
+use Rattle.lists.proofs.Count.{some-more}
 use Rattle.lists.specs.First.{firstFrom}
 use Rattle.lists.specs.declared.Found.{Found}
 use Rattle.lists.specs.declared.Found.the-variants.{At, Nothing}
 use Rattle.little_endian.specs.Number.{le}
-use Rattle.layout.specs.Versions.{layoutOf, sizeLimit, layout-sound}
+use Rattle.layout.specs.Versions.{layoutOf, sizeLimit}
+use Rattle.layout.proofs.Versions.{layout-sound}
 use Rattle.layout.specs.declared.Version.{Version}
 use Rattle.layout.specs.declared.Layout.{Layout}
 use Rattle.sections.specs.declared.Section.{Section}

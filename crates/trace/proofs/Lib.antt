@@ -1,2 +1,11 @@
 pub mod Marks
 pub mod Naming
+pub mod Accepted
+pub mod Answers
+pub mod Chains
+pub mod Cycles
+pub mod Forward
+pub mod OneChain
+pub mod Points
+pub mod Predecessors
+pub mod Steps

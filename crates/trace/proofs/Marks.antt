@@ -10,12 +10,13 @@ use lib.Dec.{eqb}
 use lib.ListN.{length, getD, set, length-set, replicate, getD-replicate, length-replicate}
 use lib.Seq.{getD-set-same, getD-set-other}
 use borrow.Author.Tests.{eq-eqb, ne-eqb}
-use Rattle.lists.specs.First.{Least}
-use Rattle.lists.specs.Count.{count, count-le, count-less}
+use Rattle.lists.proofs.First.{Least}
+use Rattle.lists.specs.Count.{count}
+use Rattle.lists.proofs.Count.{count-le, count-less}
 use Rattle.trace.specs.Links.{end, after, follow, cyclic}
-use Rattle.trace.specs.Steps.{Reach, follow-one, follow-add, follow-suc}
-use Rattle.trace.specs.Cycles.{cyclic-yes, cyclic-no}
-use Rattle.trace.specs.Accepted.{Sound, Distinct}
+use Rattle.trace.proofs.Steps.{Reach, follow-one, follow-add, follow-suc}
+use Rattle.trace.proofs.Cycles.{cyclic-yes, cyclic-no}
+use Rattle.trace.specs.Private.{Sound, Distinct}
 
 -- how many entries have no mark
 abbrev pub unmarked : List ℕ → List ℕ → ℕ

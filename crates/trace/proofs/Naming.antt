@@ -10,11 +10,13 @@ use native.Mathlib.Omega.{arith}
 use lib.Dec.{eqb, ltb}
 use lib.ListN.{length, set}
 use borrow.Author.Tests.{eq-eqb, ne-eqb, lt-ltb, le-ltb, ltb-true}
-use Rattle.lists.specs.First.{Least}
-use Rattle.lists.specs.Count.{pick, count-zero}
-use Rattle.lists.specs.Table.{tabulate, tabulate-same, tabulate-replicate, set-tabulate}
+use Rattle.lists.proofs.First.{Least}
+use Rattle.lists.specs.Count.{pick}
+use Rattle.lists.proofs.Count.{count-zero}
+use Rattle.lists.specs.Table.{tabulate}
+use Rattle.lists.proofs.Table.{tabulate-same, tabulate-replicate, set-tabulate}
 use Rattle.trace.specs.Links.{end, after, namers, predecessor, filled}
-use Rattle.trace.specs.Predecessors.{predecessor-same, predecessor-other, Named, none, one, named, namers-same, namers-other}
+use Rattle.trace.proofs.Predecessors.{predecessor-same, predecessor-other, Named, none, one, named, namers-same, namers-other}
 
 -- j is named by two or more of the first i entries
 abbrev pub sharedBy : List ℕ → ℕ → ℕ → Bool

@@ -1,10 +1,5 @@
 pub mod Links
-pub mod Steps
-pub mod Cycles
-pub mod Accepted
-pub mod Predecessors
-pub mod Chains
-pub mod Forward
 pub mod OneChain
 pub mod Points
-pub mod Answers
+pub mod Private
+pub mod WorkingBuffer

@@ -4,12 +4,10 @@ ghost use mathlib.Core.Bool.{true};
 ghost use mathlib.Core.Logic.{_⊎_};
 ghost use Prim.Native.Nat.{_*_, _<_};
 ghost use lib.ListN.{length};
-ghost use Rattle.lists.specs.First.{foundBelow};
+ghost use Rattle.lists.specs.Private.{foundBelow};
 ghost use Rattle.little_endian.specs.Number.{le};
 ghost use Rattle.trace.specs.Links.{end, nexts, filled, predecessors, LinkAnswer};
-ghost use Rattle.trace.specs.Accepted.{Distinct};
-ghost use Rattle.trace.specs.Forward.{Forward};
-ghost use Rattle.trace.specs.Answers.{firstCyclic, cycleChecks, entryChecks, Ready, Blank, Cleared, Clean, Stored, Passed, Answered};
+ghost use Rattle.trace.specs.Private.{Distinct, Forward, firstCyclic, cycleChecks, entryChecks, Ready, Blank, Cleared, Clean, Stored, Passed, Answered};
 use incremental::Refusal;
 use lists::Found;
 

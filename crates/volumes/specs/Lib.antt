@@ -1,3 +1,2 @@
 pub mod Volumes
-pub mod VolumeLaws
 pub mod SoundVolume

@@ -1,4 +1,4 @@
-use Rattle.catalogue.specs.Line.{form-known, form-unknown}
+use Rattle.catalogue.proofs.Line.{form-known, form-unknown}
 use mathlib.Core.Path.{sym, _∙_}
 use borrow.Author.Needs.{needs}
 use Rattle.catalogue.proofs.can_form.Statement.{statement}

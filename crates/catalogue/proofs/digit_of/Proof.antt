@@ -1,4 +1,4 @@
-use Rattle.lists.specs.Tests.{tests}
+use Rattle.lists.proofs.Tests.{tests}
 use Rattle.catalogue.specs.Hex.{digitOf}
 use borrow.Author.Needs.{needs}
 use Rattle.catalogue.proofs.digit_of.Statement.{statement}

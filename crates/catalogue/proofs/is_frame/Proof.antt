@@ -1,5 +1,5 @@
 use borrow.Author.Tests.{not-true}
-use Rattle.catalogue.specs.Line.{frame-size, frame-digit, frame-feed}
+use Rattle.catalogue.proofs.Line.{frame-size, frame-digit, frame-feed}
 use mathlib.Core.Path.{_≡_, sym, _∙_}
 use mathlib.Core.Bool.{true}
 use Prim.Native.Nat.{ℕ, _-_, _<_, _≤_}

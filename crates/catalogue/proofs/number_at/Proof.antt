@@ -1,9 +1,9 @@
 use native.Mathlib.Numerals.{add-one}
-use Rattle.catalogue.specs.Hex.{hex-room}
+use Rattle.catalogue.proofs.Hex.{hex-room, digit-law}
 use mathlib.Core.Path.{_≡_, ap, _∙_}
 use Prim.Native.Nat.{ℕ, _-_, _≤_}
 use native.Mathlib.Omega.{arith}
-use Rattle.catalogue.specs.Hex.{hexAt, digit-law}
+use Rattle.catalogue.specs.Hex.{hexAt}
 use borrow.Author.Needs.{needs}
 use Rattle.catalogue.proofs.number_at.Statement.{statement}
 use Rattle.catalogue.proofs.number_at.Tie as tie

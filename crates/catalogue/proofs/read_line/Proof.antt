@@ -1,7 +1,6 @@
-use Rattle.catalogue.specs.Line.{read-formed, read-unformed}
+use Rattle.catalogue.proofs.Line.{read-formed, read-unformed, read-no-frame, frame-true}
 use mathlib.Core.Path.{sym, _∙_}
 use borrow.Author.Tests.{not-true, not-false}
-use Rattle.catalogue.specs.Line.{read-no-frame, frame-true}
 use borrow.Author.Needs.{needs}
 use Rattle.catalogue.proofs.read_line.Statement.{statement}
 use Rattle.catalogue.proofs.read_line.Tie as tie

@@ -1,6 +1,6 @@
 use native.Mathlib.Omega.{arith}
 use lib.ListN.{length-set}
-use Rattle.catalogue.specs.RoundTrip.{line-written}
+use Rattle.catalogue.proofs.RoundTrip.{line-written}
 use borrow.Author.Needs.{needs}
 use Rattle.catalogue.proofs.write_fields.Statement.{statement}
 use Rattle.catalogue.proofs.write_fields.Tie as tie

@@ -1,4 +1,4 @@
-use Rattle.catalogue.specs.Line.{write-short, write-unformed, write-formed}
+use Rattle.catalogue.proofs.Line.{write-short, write-unformed, write-formed}
 use borrow.Author.Needs.{needs}
 use Rattle.catalogue.proofs.write_line.Statement.{statement}
 use Rattle.catalogue.proofs.write_line.Tie as tie

@@ -4,7 +4,8 @@ use native.Mathlib.Omega.{arith}
 use native.Mathlib.Numerals.{add-one}
 use lib.ListN.{length, getD, length-set}
 use lib.Seq.{paste, paste-zero, paste-suc}
-use Rattle.catalogue.specs.Hex.{hexDigits, length-digits, getD-digits}
+use Rattle.catalogue.specs.Hex.{hexDigits}
+use Rattle.catalogue.proofs.Hex.{length-digits, getD-digits}
 use borrow.Author.Needs.{needs}
 use Rattle.catalogue.proofs.write_number.Statement.{statement}
 use Rattle.catalogue.proofs.write_number.Tie as tie

@@ -1,5 +1,5 @@
 use mathlib.Core.Path.{refl}
-use Rattle.hivesaddle.specs.Output.{read-is}
+use Rattle.hivesaddle.proofs.Output.{read-is}
 use borrow.Author.Needs.{needs}
 use Rattle.hivesaddle.proofs.hs_catalogue_read.Statement.{statement}
 use Rattle.hivesaddle.proofs.hs_catalogue_read.Tie as tie

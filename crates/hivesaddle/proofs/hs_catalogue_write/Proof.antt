@@ -1,6 +1,6 @@
 use mathlib.Core.Path.{ap}
 use Rattle.catalogue.specs.Line.{writtenNumber}
-use Rattle.hivesaddle.specs.Output.{writing-is}
+use Rattle.hivesaddle.proofs.Output.{writing-is}
 use borrow.Author.Needs.{needs}
 use Rattle.hivesaddle.proofs.hs_catalogue_write.Statement.{statement}
 use Rattle.hivesaddle.proofs.hs_catalogue_write.Tie as tie

@@ -1,5 +1,5 @@
 use mathlib.Core.Path.{refl}
-use Rattle.hivesaddle.specs.Output.{answered-case}
+use Rattle.hivesaddle.proofs.Output.{answered-case}
 use Rattle.path_search.specs.Search.{pathSaid}
 use borrow.Author.Needs.{needs}
 use Rattle.hivesaddle.proofs.hs_find_path.Statement.{statement}

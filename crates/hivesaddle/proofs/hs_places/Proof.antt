@@ -1,6 +1,6 @@
 use Rattle.query.specs.Queries.{placesSaid}
 use mathlib.Core.Path.{refl}
-use Rattle.hivesaddle.specs.Output.{answered-case}
+use Rattle.hivesaddle.proofs.Output.{answered-case}
 use borrow.Author.Needs.{needs}
 use Rattle.hivesaddle.proofs.hs_places.Statement.{statement}
 use Rattle.hivesaddle.proofs.hs_places.Tie as tie

@@ -1,4 +1,4 @@
-use Rattle.hivesaddle.specs.Output.{read-out}
+use Rattle.hivesaddle.proofs.Output.{read-out}
 use borrow.Author.Needs.{needs}
 use Rattle.hivesaddle.proofs.hs_read_file.Statement.{statement}
 use Rattle.hivesaddle.proofs.hs_read_file.Tie as tie

@@ -6,7 +6,7 @@ use native.Mathlib.Nat.{zero-add}
 use native.Mathlib.Numerals.{add-one}
 use lib.ListN.{length, set, getD, length-set}
 use lib.Seq.{paste, paste-suc}
-use Rattle.hivesaddle.specs.Output.{overlay-done}
+use Rattle.hivesaddle.proofs.Output.{overlay-done}
 use borrow.Author.Needs.{needs}
 use Rattle.hivesaddle.proofs.put.Statement.{statement}
 use Rattle.hivesaddle.proofs.put.Tie as tie

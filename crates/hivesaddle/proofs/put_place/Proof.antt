@@ -1,7 +1,7 @@
 use mathlib.Core.Path.{refl}
 use Rattle.lists.proofs.Answers.{answers}
 use Rattle.query.specs.Queries.{placeSaid}
-use Rattle.hivesaddle.specs.Output.{answered-case}
+use Rattle.hivesaddle.proofs.Output.{answered-case}
 use borrow.Author.Needs.{needs}
 use Rattle.hivesaddle.proofs.put_place.Statement.{statement}
 use Rattle.hivesaddle.proofs.put_place.Tie as tie

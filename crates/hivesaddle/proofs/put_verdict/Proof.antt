@@ -1,5 +1,5 @@
 use mathlib.Core.Path.{refl}
-use Rattle.hivesaddle.specs.Output.{verdict-out}
+use Rattle.hivesaddle.proofs.Output.{verdict-out}
 use borrow.Author.Needs.{needs}
 use Rattle.hivesaddle.proofs.put_verdict.Statement.{statement}
 use Rattle.hivesaddle.proofs.put_verdict.Tie as tie

@@ -1,4 +1,4 @@
-use Rattle.listing_text.specs.Lines.{accepted-lines}
+use Rattle.listing_text.proofs.Lines.{accepted-lines}
 use borrow.Author.Needs.{needs}
 use Rattle.listing_text.proofs.accepted_text.Statement.{statement}
 use Rattle.listing_text.proofs.accepted_text.Tie as tie

@@ -1,6 +1,6 @@
 use native.Mathlib.Omega.{arith}
-use Rattle.listing_text.specs.Bounds.{accepted-units}
-use Rattle.listing_text.specs.Lines.{listed-too-long, listed-accepted, listed-refused, listed-wanted}
+use Rattle.listing_text.proofs.Bounds.{accepted-units}
+use Rattle.listing_text.proofs.Lines.{listed-too-long, listed-accepted, listed-refused, listed-wanted}
 use borrow.Author.Needs.{needs}
 use Rattle.listing_text.proofs.list.Statement.{statement}
 use Rattle.listing_text.proofs.list.Tie as tie

@@ -1,4 +1,4 @@
-use Rattle.listing_text.specs.Lines.{refused-line}
+use Rattle.listing_text.proofs.Lines.{refused-line}
 use borrow.Author.Needs.{needs}
 use Rattle.listing_text.proofs.refused_text.Statement.{statement}
 use Rattle.listing_text.proofs.refused_text.Tie as tie

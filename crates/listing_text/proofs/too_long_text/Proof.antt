@@ -1,4 +1,4 @@
-use Rattle.listing_text.specs.Lines.{too-long-line}
+use Rattle.listing_text.proofs.Lines.{too-long-line}
 use borrow.Author.Needs.{needs}
 use Rattle.listing_text.proofs.too_long_text.Statement.{statement}
 use Rattle.listing_text.proofs.too_long_text.Tie as tie

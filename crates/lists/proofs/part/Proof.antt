@@ -1,6 +1,6 @@
 use mathlib.Core.Path.{refl}
 use native.Mathlib.Omega.{arith}
-use Rattle.lists.specs.Parts.{is-part-none, is-part-rest, is-part-whole}
+use Rattle.lists.proofs.Parts.{is-part-none, is-part-rest, is-part-whole}
 use borrow.Author.Needs.{needs}
 use Rattle.lists.proofs.part.Statement.{statement}
 use Rattle.lists.proofs.part.Tie as tie

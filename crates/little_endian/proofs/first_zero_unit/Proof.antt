@@ -3,7 +3,8 @@ use Prim.Native.Nat.{_+_, _-_, _*_, _≤_}
 use native.Mathlib.Omega.{arith}
 use borrow.Author.Tests.{eq-eqb, ne-eqb}
 use borrow.Author.Needs.{needs}
-use Rattle.lists.specs.First.{first, firstFrom, first-start, first-miss, first-hit, first-none}
+use Rattle.lists.specs.First.{first, firstFrom}
+use Rattle.lists.proofs.First.{first-start, first-miss, first-hit, first-none}
 use Rattle.little_endian.specs.Number.{zeroUnit}
 use Rattle.little_endian.proofs.first_zero_unit.Statement.{statement}
 use Rattle.little_endian.proofs.first_zero_unit.Tie as tie

@@ -1,7 +1,8 @@
 use Prim.Native.Nat.{_+_}
 use mathlib.Core.Path.{sym}
 use native.Mathlib.Omega.{arith}
-use Rattle.little_endian.specs.Number.{le, le-past}
+use Rattle.little_endian.specs.Number.{le}
+use Rattle.little_endian.proofs.Number.{le-past}
 use borrow.Author.Needs.{needs}
 use Rattle.little_endian.proofs.u16_at.Statement.{statement}
 use Rattle.little_endian.proofs.u16_at.Tie as tie

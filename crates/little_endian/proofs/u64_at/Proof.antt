@@ -1,6 +1,6 @@
 use mathlib.Core.Path.{sym}
 use native.Mathlib.Omega.{arith}
-use Rattle.little_endian.specs.Number.{le-split, le-past}
+use Rattle.little_endian.proofs.Number.{le-split, le-past}
 use borrow.Author.Needs.{needs}
 use Rattle.little_endian.proofs.u64_at.Statement.{statement}
 use Rattle.little_endian.proofs.u64_at.Tie as tie

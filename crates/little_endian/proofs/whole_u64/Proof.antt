@@ -1,5 +1,5 @@
 use native.Mathlib.Omega.{arith}
-use Rattle.little_endian.specs.Number.{le-split}
+use Rattle.little_endian.proofs.Number.{le-split}
 use borrow.Author.Needs.{needs}
 use Rattle.little_endian.proofs.whole_u64.Statement.{statement}
 use Rattle.little_endian.proofs.whole_u64.Tie as tie

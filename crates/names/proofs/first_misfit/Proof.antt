@@ -3,8 +3,9 @@ use Prim.Native.Nat.{_≤_, _-_}
 use native.Mathlib.Omega.{arith}
 use borrow.Author.Needs.{needs}
 use Rattle.names.specs.Names.{fits}
-use Rattle.names.specs.NameLaws.{layout-of-sound, failsAt, fails-at, misfit-of}
-use Rattle.lists.specs.First.{first, firstFrom, first-start, first-miss, first-hit, first-none}
+use Rattle.names.proofs.Laws.{layout-of-sound, failsAt, fails-at, misfit-of}
+use Rattle.lists.specs.First.{first, firstFrom}
+use Rattle.lists.proofs.First.{first-start, first-miss, first-hit, first-none}
 use Rattle.names.proofs.first_misfit.Statement.{statement}
 use Rattle.names.proofs.first_misfit.Tie as tie
 

@@ -2,9 +2,10 @@ use mathlib.Core.Path.{_≡_, sym, _∙_}
 use Prim.Native.Nat.{_≤_, _-_}
 use native.Mathlib.Omega.{arith}
 use borrow.Author.Needs.{needs}
-use Rattle.lists.specs.First.{first, firstFrom, first-start, first-miss, first-hit, first-none}
+use Rattle.lists.specs.First.{first, firstFrom}
+use Rattle.lists.proofs.First.{first-start, first-miss, first-hit, first-none}
 use Rattle.names.specs.Names.{sound}
-use Rattle.names.specs.NameLaws.{layout-of-sound, failsAt, fails-at, unsound-of}
+use Rattle.names.proofs.Laws.{layout-of-sound, failsAt, fails-at, unsound-of}
 use Rattle.names.proofs.first_unsound.Statement.{statement}
 use Rattle.names.proofs.first_unsound.Tie as tie
 

@@ -1,5 +1,5 @@
 use borrow.Author.Needs.{needs}
-use Rattle.names.specs.NameLaws.{layout-of-sound}
+use Rattle.names.proofs.Laws.{layout-of-sound}
 use Rattle.names.proofs.name_at.Statement.{statement}
 use Rattle.names.proofs.name_at.Tie as tie
 

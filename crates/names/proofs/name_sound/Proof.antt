@@ -1,7 +1,7 @@
 use mathlib.Core.Path.{sym, _∙_}
 use borrow.Author.Tests.{not-true, not-false}
 use borrow.Author.Needs.{needs}
-use Rattle.names.specs.NameLaws.{name-past, name-inside, fits-le}
+use Rattle.names.proofs.Laws.{name-past, name-inside, fits-le}
 use Rattle.names.proofs.name_sound.Statement.{statement}
 use Rattle.names.proofs.name_sound.Tie as tie
 

@@ -2,7 +2,8 @@ use mathlib.Core.Path.{_≡_, sym, _∙_}
 use Prim.Native.Nat.{_+_, _*_, _-_, _≤_}
 use native.Mathlib.Omega.{arith}
 use borrow.Author.Needs.{needs}
-use Rattle.names.specs.NameLaws.{soundText, text-start, eight-zero, eight-again}
+use Rattle.names.specs.Private.{soundText}
+use Rattle.names.proofs.Laws.{text-start, eight-zero, eight-again}
 use Rattle.names.proofs.text_sound.Statement.{statement}
 use Rattle.names.proofs.text_sound.Tie as tie
 

@@ -1,6 +1,6 @@
 use native.Mathlib.Omega.{arith}
 use borrow.Author.Needs.{needs}
-use Rattle.names.specs.NameLaws.{entry-low}
+use Rattle.names.proofs.Laws.{entry-low}
 use Rattle.names.proofs.units_field.Statement.{statement}
 use Rattle.names.proofs.units_field.Tie as tie
 

@@ -5,7 +5,7 @@ use native.Mathlib.Omega.{arith}
 use borrow.Author.Count.{below-more}
 use borrow.Author.Needs.{needs}
 use Rattle.little_endian.specs.Number.{zeroUnit}
-use Rattle.names.specs.NameLaws.{text-zero, text-end}
+use Rattle.names.proofs.Laws.{text-zero, text-end}
 use Rattle.names.proofs.units_sound.Statement.{statement}
 use Rattle.names.proofs.units_sound.Tie as tie
 

@@ -1,5 +1,5 @@
 use borrow.Author.Needs.{needs}
-use Rattle.names.specs.NameLaws.{zero-in-eight}
+use Rattle.names.proofs.Laws.{zero-in-eight}
 use Rattle.names.proofs.zero_in_eight.Statement.{statement}
 use Rattle.names.proofs.zero_in_eight.Tie as tie
 

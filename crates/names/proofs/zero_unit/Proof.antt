@@ -1,7 +1,7 @@
 use Prim.Native.Nat.{_+_}
 use native.Mathlib.Omega.{arith}
 use borrow.Author.Needs.{needs}
-use Rattle.names.specs.NameLaws.{unit-zero}
+use Rattle.names.proofs.Laws.{unit-zero}
 use Rattle.names.proofs.zero_unit.Statement.{statement}
 use Rattle.names.proofs.zero_unit.Tie as tie
 

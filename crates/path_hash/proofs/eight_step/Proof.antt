@@ -1,6 +1,6 @@
 use borrow.Author.Needs.{needs}
 use Rattle.path_hash.specs.Hash.{eight, eightSum}
-use Rattle.path_hash.specs.Laws.{wrapped}
+use Rattle.path_hash.proofs.Laws.{wrapped}
 use Rattle.path_hash.proofs.eight_step.Statement.{statement}
 use Rattle.path_hash.proofs.eight_step.Tie as tie
 

@@ -3,8 +3,8 @@ use Prim.Native.Nat.{_+_, _-_, _≤_}
 use native.Mathlib.Omega.{arith}
 use lib.ListN.{length, drop}
 use Rattle.path_hash.specs.Hash.{plain, vista}
-use Rattle.path_hash.specs.Laws.{plain-eight, vista-2008}
-use Rattle.lists.specs.Table.{rest-all}
+use Rattle.path_hash.proofs.Laws.{plain-eight, vista-2008}
+use Rattle.lists.proofs.Table.{rest-all}
 use borrow.Author.Needs.{needs}
 use Rattle.path_hash.proofs.hash_2008.Statement.{statement}
 use Rattle.path_hash.proofs.hash_2008.Tie as tie

@@ -1,5 +1,5 @@
 use mathlib.Core.Path.{_∙_}
-use Rattle.path_hash.specs.Laws.{vista-2008}
+use Rattle.path_hash.proofs.Laws.{vista-2008}
 use borrow.Author.Needs.{needs}
 use Rattle.path_hash.proofs.hash_2008_units.Statement.{statement}
 use Rattle.path_hash.proofs.hash_2008_units.Tie as tie

@@ -4,7 +4,7 @@ use Prim.Native.Nat.{_-_, _≤_, _<_}
 use native.Mathlib.Omega.{arith}
 use lib.ListN.{length, drop}
 use Rattle.path_hash.specs.Hash.{plain}
-use Rattle.path_hash.specs.Laws.{plain-more, plain-done}
+use Rattle.path_hash.proofs.Laws.{plain-more, plain-done}
 use Rattle.path_hash.proofs.plain_from.Statement.{statement}
 use Rattle.path_hash.proofs.plain_from.Tie as tie
 

@@ -3,7 +3,7 @@ use Prim.Native.Nat.{_-_, _*_, _≤_, _<_}
 use native.Mathlib.Omega.{arith}
 use lib.ListN.{length, drop}
 use Rattle.path_hash.specs.Hash.{plain, units}
-use Rattle.path_hash.specs.Laws.{plain-more, plain-done, length-units}
+use Rattle.path_hash.proofs.Laws.{plain-more, plain-done, length-units}
 use borrow.Author.Needs.{needs}
 use Rattle.path_hash.proofs.plain_units.Statement.{statement}
 use Rattle.path_hash.proofs.plain_units.Tie as tie

@@ -1,7 +1,7 @@
 use Prim.Native.Nat.{_+_, _*_}
 use native.Mathlib.Omega.{arith}
 use Rattle.little_endian.specs.Number.{le}
-use Rattle.path_hash.specs.Laws.{getD-units}
+use Rattle.path_hash.proofs.Laws.{getD-units}
 use borrow.Author.Needs.{needs}
 use Rattle.path_hash.proofs.unit_at.Statement.{statement}
 use Rattle.path_hash.proofs.unit_at.Tie as tie

@@ -1,8 +1,8 @@
 use mathlib.Core.Path.{refl, sym, _∙_}
 use native.Mathlib.Omega.{arith}
 use borrow.Author.Tests.{not-true, not-false}
-use Rattle.names.specs.NameLaws.{fits-le}
-use Rattle.path_search.specs.SearchLaws.{match-misfit, match-differs, match-equals}
+use Rattle.names.proofs.Laws.{fits-le}
+use Rattle.path_search.proofs.Laws.{match-misfit, match-differs, match-equals}
 use borrow.Author.Needs.{needs}
 use Rattle.path_search.proofs.entry_matches.Statement.{statement}
 use Rattle.path_search.proofs.entry_matches.Tie as tie

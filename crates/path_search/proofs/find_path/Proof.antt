@@ -1,4 +1,4 @@
-use Rattle.query.specs.QueryLaws.{asking}
+use Rattle.query.proofs.Laws.{asking}
 use borrow.Author.Needs.{needs}
 use Rattle.path_search.proofs.find_path.Statement.{statement}
 use Rattle.path_search.proofs.find_path.Tie as tie

@@ -1,4 +1,4 @@
-use Rattle.path_search.specs.SearchLaws.{by-version}
+use Rattle.path_search.proofs.Laws.{by-version}
 use borrow.Author.Needs.{needs}
 use Rattle.path_search.proofs.name_matches.Statement.{statement}
 use Rattle.path_search.proofs.name_matches.Tie as tie

@@ -1,4 +1,4 @@
-use Rattle.lists.specs.Tests.{tests}
+use Rattle.lists.proofs.Tests.{tests}
 use Rattle.path_search.proofs.one_hash.Statement.{statement}
 use Rattle.path_search.proofs.one_hash.Tie as tie
 

@@ -1,4 +1,4 @@
-use Rattle.path_search.specs.SearchLaws.{metrics-low, path-given}
+use Rattle.path_search.proofs.Laws.{metrics-low, path-given}
 use borrow.Author.Needs.{needs}
 use Rattle.path_search.proofs.path_in.Statement.{statement}
 use Rattle.path_search.proofs.path_in.Tie as tie

@@ -1,11 +1,12 @@
 use lib.ListN.{length}
 use native.Mathlib.Nat.{div-le-self}
-use Rattle.path_search.specs.SearchLaws.{metric-some, entry-equals, entry-differs, search-hit, search-none}
+use Rattle.path_search.proofs.Laws.{metric-some, entry-equals, entry-differs, search-hit, search-none}
 use mathlib.Core.Path.{_≡_, _∙_}
 use Prim.Native.Nat.{_≤_, _-_}
 use native.Mathlib.Omega.{arith}
-use Rattle.lists.specs.First.{first, firstFrom, first-start, first-miss, first-hit, first-none}
-use Rattle.path_search.specs.Matches.{testIn}
+use Rattle.lists.specs.First.{first, firstFrom}
+use Rattle.lists.proofs.First.{first-start, first-miss, first-hit, first-none}
+use Rattle.path_search.specs.Private.{testIn}
 use borrow.Author.Needs.{needs}
 use Rattle.path_search.proofs.search.Statement.{statement}
 use Rattle.path_search.proofs.search.Tie as tie

@@ -1,4 +1,4 @@
-use Rattle.lists.specs.Tests.{tests}
+use Rattle.lists.proofs.Tests.{tests}
 use Rattle.path_search.proofs.two_hashes.Statement.{statement}
 use Rattle.path_search.proofs.two_hashes.Tie as tie
 

@@ -1,4 +1,4 @@
-use Rattle.path_search.specs.SearchLaws.{by-sound}
+use Rattle.path_search.proofs.Laws.{by-sound}
 use borrow.Author.Needs.{needs}
 use Rattle.path_search.proofs.where_sound.Statement.{statement}
 use Rattle.path_search.proofs.where_sound.Tie as tie

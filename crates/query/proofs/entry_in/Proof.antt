@@ -1,8 +1,8 @@
 use Prim.Native.Nat.{_+_, _≤_}
 use Rattle.layout.specs.Versions.{sizeLimit}
 use native.Mathlib.Omega.{arith}
-use Rattle.names.specs.NameLaws.{entry-low, layout-of-sound}
-use Rattle.query.specs.QueryLaws.{entries, name-low}
+use Rattle.names.proofs.Laws.{entry-low, layout-of-sound}
+use Rattle.query.proofs.Laws.{entries, name-low}
 use borrow.Author.Needs.{needs}
 use Rattle.query.proofs.entry_in.Statement.{statement}
 use Rattle.query.proofs.entry_in.Tie as tie

@@ -1,4 +1,4 @@
-use Rattle.query.specs.QueryLaws.{asking}
+use Rattle.query.proofs.Laws.{asking}
 use borrow.Author.Needs.{needs}
 use Rattle.query.proofs.entry_place.Statement.{statement}
 use Rattle.query.proofs.entry_place.Tie as tie

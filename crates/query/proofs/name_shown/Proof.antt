@@ -1,4 +1,4 @@
-use Rattle.query.specs.QueryLaws.{names}
+use Rattle.query.proofs.Laws.{names}
 use borrow.Author.Needs.{needs}
 use Rattle.query.proofs.name_shown.Statement.{statement}
 use Rattle.query.proofs.name_shown.Tie as tie

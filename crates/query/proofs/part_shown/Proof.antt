@@ -1,4 +1,4 @@
-use Rattle.query.specs.QueryLaws.{shown-parts}
+use Rattle.query.proofs.Laws.{shown-parts}
 use borrow.Author.Needs.{needs}
 use Rattle.query.proofs.part_shown.Statement.{statement}
 use Rattle.query.proofs.part_shown.Tie as tie

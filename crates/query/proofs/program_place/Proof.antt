@@ -1,6 +1,6 @@
 use native.Mathlib.Omega.{arith}
-use Rattle.head.specs.Facts.{start-met, name-law}
-use Rattle.query.specs.QueryLaws.{asking}
+use Rattle.head.proofs.Facts.{start-met, name-law}
+use Rattle.query.proofs.Laws.{asking}
 use borrow.Author.Needs.{needs}
 use Rattle.query.proofs.program_place.Statement.{statement}
 use Rattle.query.proofs.program_place.Tie as tie

@@ -1,4 +1,4 @@
-use Rattle.query.specs.QueryLaws.{asking}
+use Rattle.query.proofs.Laws.{asking}
 use borrow.Author.Needs.{needs}
 use Rattle.query.proofs.reference.Statement.{statement}
 use Rattle.query.proofs.reference.Tie as tie

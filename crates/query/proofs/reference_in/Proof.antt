@@ -1,5 +1,5 @@
 use native.Mathlib.Omega.{arith}
-use Rattle.query.specs.QueryLaws.{volumes-asked, section-met}
+use Rattle.query.proofs.Laws.{volumes-asked, section-met}
 use borrow.Author.Needs.{needs}
 use Rattle.query.proofs.reference_in.Statement.{statement}
 use Rattle.query.proofs.reference_in.Tie as tie

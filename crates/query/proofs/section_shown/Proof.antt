@@ -1,8 +1,8 @@
 use Rattle.layout.specs.declared.Layout.{Layout}
 use mathlib.Core.Path.{ap}
 use native.Mathlib.Omega.{arith}
-use Rattle.volumes.specs.VolumeLaws.{size-low}
-use Rattle.query.specs.QueryLaws.{sections}
+use Rattle.volumes.proofs.Laws.{size-low}
+use Rattle.query.proofs.Laws.{sections}
 use borrow.Author.Needs.{needs}
 use Rattle.query.proofs.section_shown.Statement.{statement}
 use Rattle.query.proofs.section_shown.Tie as tie

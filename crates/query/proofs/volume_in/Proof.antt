@@ -1,7 +1,7 @@
 use Prim.Native.Nat.{_+_, _*_, _≤_}
 use Rattle.layout.specs.Versions.{sizeLimit}
 use native.Mathlib.Omega.{arith}
-use Rattle.query.specs.QueryLaws.{volumes-asked, section-met, path-low}
+use Rattle.query.proofs.Laws.{volumes-asked, section-met, path-low}
 use borrow.Author.Needs.{needs}
 use Rattle.query.proofs.volume_in.Statement.{statement}
 use Rattle.query.proofs.volume_in.Tie as tie

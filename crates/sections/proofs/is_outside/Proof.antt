@@ -1,4 +1,4 @@
-use Rattle.lists.specs.Tests.{tests}
+use Rattle.lists.proofs.Tests.{tests}
 use Rattle.sections.specs.Fields.{outside}
 use Rattle.sections.proofs.is_outside.Statement.{statement}
 use Rattle.sections.proofs.is_outside.Tie as tie

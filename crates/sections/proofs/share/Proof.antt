@@ -1,4 +1,4 @@
-use Rattle.lists.specs.Tests.{tests}
+use Rattle.lists.proofs.Tests.{tests}
 use Rattle.sections.specs.Fields.{shares}
 use Rattle.sections.proofs.share.Statement.{statement}
 use Rattle.sections.proofs.share.Tie as tie

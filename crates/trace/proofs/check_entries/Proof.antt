@@ -3,10 +3,10 @@ use native.Mathlib.Omega.{arith}
 use lib.ListN.{length}
 use Rattle.incremental.specs.Decision.{refusal}
 use Rattle.trace.specs.declared.Links.the-variants.{Refused}
-use Rattle.trace.specs.Chains.{ends}
+use Rattle.trace.specs.Private.{ends, firstAstray, firstShared, sharedChecks, cycleChecks}
 use Rattle.trace.specs.Links.{nexts, filled, predecessors}
-use Rattle.trace.specs.Accepted.{sound, once}
-use Rattle.trace.specs.Answers.{firstAstray, firstShared, sharedChecks, cycleChecks, answer-at, answer-nothing, passed-astray, passed-shared, passed-clear}
+use Rattle.trace.proofs.Accepted.{sound, once}
+use Rattle.trace.proofs.Answers.{answer-at, answer-nothing, passed-astray, passed-shared, passed-clear}
 use borrow.Author.Needs.{needs}
 use Rattle.trace.proofs.check_entries.Statement.{statement}
 use Rattle.trace.proofs.check_entries.Tie as tie

@@ -1,9 +1,9 @@
 use mathlib.Core.Path.{_≡_, sym, _∙_, ap}
 use native.Mathlib.Omega.{arith}
 use lib.ListN.{length}
-use Rattle.trace.specs.Steps.{length-nexts}
+use Rattle.trace.proofs.Steps.{length-nexts}
 use Rattle.trace.specs.Links.{filled}
-use Rattle.trace.specs.Answers.{answer-small, answer-links}
+use Rattle.trace.proofs.Answers.{answer-small, answer-links}
 use borrow.Author.Needs.{needs}
 use Rattle.trace.proofs.check_links.Statement.{statement}
 use Rattle.trace.proofs.check_links.Tie as tie

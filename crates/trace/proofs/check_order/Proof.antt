@@ -3,11 +3,12 @@ use native.Mathlib.Omega.{arith}
 use lib.ListN.{length}
 use Rattle.incremental.specs.Decision.{accept}
 use Rattle.trace.specs.declared.Links.the-variants.{Chains}
-use Rattle.trace.specs.Steps.{length-nexts}
-use Rattle.trace.specs.Chains.{chains-are-ends}
-use Rattle.trace.specs.Forward.{forward-acyclic}
+use Rattle.trace.proofs.Steps.{length-nexts}
+use Rattle.trace.proofs.Chains.{chains-are-ends}
+use Rattle.trace.proofs.Forward.{forward-acyclic}
 use Rattle.trace.specs.Links.{nexts, chains}
-use Rattle.trace.specs.Answers.{firstCyclic, answer-nothing}
+use Rattle.trace.specs.Private.{firstCyclic}
+use Rattle.trace.proofs.Answers.{answer-nothing}
 use borrow.Author.Needs.{needs}
 use Rattle.trace.proofs.check_order.Statement.{statement}
 use Rattle.trace.proofs.check_order.Tie as tie

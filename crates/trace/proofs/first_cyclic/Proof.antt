@@ -5,9 +5,10 @@ use Prim.Native.Nat.{ℕ, _-_, _≤_, _<_}
 use native.Mathlib.Omega.{arith}
 use lib.ListN.{length, length-set}
 use borrow.Author.Needs.{needs}
-use Rattle.lists.specs.First.{Least, foundBelow, least-first}
+use Rattle.lists.proofs.First.{Least, least-first}
+use Rattle.lists.specs.Private.{foundBelow}
 use Rattle.trace.specs.Links.{end, nexts, after, cyclic}
-use Rattle.trace.specs.Steps.{length-nexts, after-nexts}
+use Rattle.trace.proofs.Steps.{length-nexts, after-nexts}
 use Rattle.trace.proofs.Marks.{unmarked, Seen, Walk, seen-none, seen-all, walk-start, walk-step, walk-found, walk-end, fewer}
 use Rattle.trace.proofs.first_cyclic.Statement.{statement}
 use Rattle.trace.proofs.first_cyclic.Tie as tie

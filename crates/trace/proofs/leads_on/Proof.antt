@@ -2,9 +2,9 @@ use mathlib.Core.Path.{sym}
 use Prim.Native.Nat.{ℕ, _-_, _≤_, _<_}
 use native.Mathlib.Omega.{arith}
 use borrow.Author.Count.{below-more}
-use Rattle.lists.specs.Count.{true-false}
+use Rattle.lists.proofs.Count.{true-false}
 use Rattle.trace.specs.Links.{nexts, after}
-use Rattle.trace.specs.Steps.{length-nexts, after-nexts}
+use Rattle.trace.proofs.Steps.{length-nexts, after-nexts}
 use borrow.Author.Needs.{needs}
 use Rattle.trace.proofs.leads_on.Statement.{statement}
 use Rattle.trace.proofs.leads_on.Tie as tie

@@ -9,15 +9,15 @@ use lib.Dec.{eqb}
 use lib.ListN.{length, getD}
 use borrow.Author.Tests.{lt-ltb}
 use borrow.Author.Needs.{needs}
-use Rattle.lists.specs.First.{Least, first-is-at, first-is-nothing}
-use Rattle.lists.specs.Count.{true-false, count-zero}
-use Rattle.lists.specs.Table.{length-tabulate, getD-tabulate}
+use Rattle.lists.proofs.First.{Least, first-is-at, first-is-nothing}
+use Rattle.lists.proofs.Count.{true-false, count-zero}
+use Rattle.lists.proofs.Table.{length-tabulate, getD-tabulate}
 use Rattle.trace.specs.declared.Pass.the-variants.{Clear}
 use Rattle.trace.specs.Links.{end, nexts, after, astray, namers, shared, predecessors}
-use Rattle.trace.specs.Steps.{length-nexts, after-nexts}
-use Rattle.trace.specs.Accepted.{astray-yes, astray-below, astray-end}
-use Rattle.trace.specs.Answers.{firstAstray, firstShared}
-use Rattle.trace.specs.Predecessors.{namers-same, namers-other}
+use Rattle.trace.proofs.Steps.{length-nexts, after-nexts}
+use Rattle.trace.proofs.Accepted.{astray-yes, astray-below, astray-end}
+use Rattle.trace.specs.Private.{firstAstray, firstShared}
+use Rattle.trace.proofs.Predecessors.{namers-same, namers-other}
 use Rattle.trace.proofs.Naming.{sharedBy, place, table, table-none, table-end, table-more, least-none, least-end, least-more, none-more}
 use Rattle.trace.proofs.store_predecessors.Statement.{statement}
 use Rattle.trace.proofs.store_predecessors.Tie as tie

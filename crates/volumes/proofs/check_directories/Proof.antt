@@ -4,7 +4,7 @@ use native.Mathlib.Omega.{arith}
 use borrow.Author.Needs.{needs}
 use Rattle.incremental.specs.Decision.{checkedOf}
 use Rattle.volumes.specs.Volumes.{directoryChecks, directoryCount, directoriesAt}
-use Rattle.volumes.specs.VolumeLaws.{directories-start, directories-step, directories-end}
+use Rattle.volumes.proofs.Laws.{directories-start, directories-step, directories-end}
 use Rattle.volumes.proofs.check_directories.Statement.{statement}
 use Rattle.volumes.proofs.check_directories.Tie as tie
 

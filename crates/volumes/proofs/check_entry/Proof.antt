@@ -2,7 +2,7 @@ use mathlib.Core.Path.{ap, sym, _∙_}
 use borrow.Author.Tests.{not-true, not-false}
 use borrow.Author.Needs.{needs}
 use Rattle.incremental.specs.Decision.{checkedOf}
-use Rattle.volumes.specs.VolumeLaws.{entry-path, entry-references, entry-directories}
+use Rattle.volumes.proofs.Laws.{entry-path, entry-references, entry-directories}
 use Rattle.volumes.proofs.check_entry.Statement.{statement}
 use Rattle.volumes.proofs.check_entry.Tie as tie
 

@@ -7,7 +7,7 @@ use Rattle.incremental.specs.Decision.{checkedOf}
 use Rattle.layout.specs.Versions.{layoutOf}
 use Rattle.layout.specs.declared.Version.{Version}
 use Rattle.volumes.specs.Volumes.{volumesFrom}
-use Rattle.volumes.specs.VolumeLaws.{size-low, volume-checked, volumes-start, volumes-next, volumes-refused, volumes-end, volumes-crowded, volumes-room}
+use Rattle.volumes.proofs.Laws.{size-low, volume-checked, volumes-start, volumes-next, volumes-refused, volumes-end, volumes-crowded, volumes-room}
 use Rattle.volumes.proofs.check_volumes.Statement.{statement}
 use Rattle.volumes.proofs.check_volumes.Tie as tie
 

@@ -3,7 +3,7 @@ use Prim.Native.Nat.{ℕ, _*_}
 use native.Mathlib.Omega.{arith}
 use borrow.Author.Needs.{needs}
 use Rattle.layout.specs.declared.Layout.{Layout}
-use Rattle.volumes.specs.VolumeLaws.{size-low}
+use Rattle.volumes.proofs.Laws.{size-low}
 use Rattle.volumes.proofs.entry_at.Statement.{statement}
 use Rattle.volumes.proofs.entry_at.Tie as tie
 

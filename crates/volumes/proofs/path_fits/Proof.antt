@@ -1,6 +1,6 @@
 use native.Mathlib.Omega.{arith}
 use borrow.Author.Needs.{needs}
-use Rattle.volumes.specs.VolumeLaws.{path-none, path-some}
+use Rattle.volumes.proofs.Laws.{path-none, path-some}
 use Rattle.volumes.proofs.path_fits.Statement.{statement}
 use Rattle.volumes.proofs.path_fits.Tie as tie
 

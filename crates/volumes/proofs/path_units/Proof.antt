@@ -1,6 +1,6 @@
 use mathlib.Core.Path.{sym, _∙_}
 use borrow.Author.Needs.{needs}
-use Rattle.volumes.specs.VolumeLaws.{units-hit, units-none}
+use Rattle.volumes.proofs.Laws.{units-hit, units-none}
 use Rattle.volumes.proofs.path_units.Statement.{statement}
 use Rattle.volumes.proofs.path_units.Tie as tie
 

@@ -3,7 +3,7 @@ use Prim.Native.Nat.{ℕ, _+_}
 use native.Mathlib.Omega.{arith}
 use borrow.Author.Needs.{needs}
 use Rattle.little_endian.specs.Number.{le}
-use Rattle.volumes.specs.VolumeLaws.{count-none, count-some}
+use Rattle.volumes.proofs.Laws.{count-none, count-some}
 use Rattle.volumes.proofs.reference_count.Statement.{statement}
 use Rattle.volumes.proofs.reference_count.Tie as tie
 

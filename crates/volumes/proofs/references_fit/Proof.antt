@@ -1,6 +1,6 @@
 use native.Mathlib.Omega.{arith}
 use borrow.Author.Needs.{needs}
-use Rattle.volumes.specs.VolumeLaws.{references-none, references-small, references-past, references-inside}
+use Rattle.volumes.proofs.Laws.{references-none, references-small, references-past, references-inside}
 use Rattle.volumes.proofs.references_fit.Statement.{statement}
 use Rattle.volumes.proofs.references_fit.Tie as tie
 

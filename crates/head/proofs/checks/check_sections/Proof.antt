@@ -1,4 +1,4 @@
-use Rattle.head.specs.Steps.{steps}
+use Rattle.head.proofs.Steps.{steps}
 use Rattle.head.specs.Checks.{sectionPlan}
 use borrow.Author.Needs.{needs}
 use Rattle.head.proofs.checks.check_sections.Statement.{statement}

@@ -1,4 +1,4 @@
-use Rattle.head.specs.Steps.{steps}
+use Rattle.head.proofs.Steps.{steps}
 use Rattle.head.specs.Checks.{sizePlan}
 use lib.ListN.{length-take}
 use native.Mathlib.Omega.{arith}

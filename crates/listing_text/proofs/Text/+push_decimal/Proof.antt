@@ -1,5 +1,5 @@
 use native.Mathlib.Omega.{arith}
-use Rattle.listing_text.specs.Steps.{decimal-one, decimal-then}
+use Rattle.listing_text.proofs.Steps.{decimal-one, decimal-then}
 use Prim.Native.Nat.{ℕ, _<_}
 use borrow.Fn.Kinds.{In}
 use borrow.Fn.PlainCycle.{Measures, is, falls, and}

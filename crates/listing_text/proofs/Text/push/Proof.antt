@@ -1,4 +1,4 @@
-use Rattle.listing_text.specs.Growth.{grown-byte, grown-full}
+use Rattle.listing_text.proofs.Growth.{grown-byte, grown-full}
 use borrow.Author.Needs.{needs}
 use Rattle.listing_text.proofs.Text.push.Statement.{statement}
 use Rattle.listing_text.proofs.Text.push.Tie as tie

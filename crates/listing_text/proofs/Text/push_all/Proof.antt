@@ -1,7 +1,8 @@
 use Prim.Native.Nat.{_-_, _≤_}
 use native.Mathlib.Omega.{arith}
 use lib.ListN.{length, take}
-use Rattle.listing_text.specs.Growth.{Grown, grown-none, grown-next, grown-all}
+use Rattle.listing_text.specs.Private.{Grown}
+use Rattle.listing_text.proofs.Growth.{grown-none, grown-next, grown-all}
 use borrow.Author.Needs.{needs}
 use Rattle.listing_text.proofs.Text.push_all.Statement.{statement}
 use Rattle.listing_text.proofs.Text.push_all.Tie as tie

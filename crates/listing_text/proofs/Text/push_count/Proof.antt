@@ -1,4 +1,4 @@
-use Rattle.listing_text.specs.Lines.{line-of}
+use Rattle.listing_text.proofs.Lines.{line-of}
 use borrow.Author.Needs.{needs}
 use Rattle.listing_text.proofs.Text.push_count.Statement.{statement}
 use Rattle.listing_text.proofs.Text.push_count.Tie as tie

@@ -1,4 +1,4 @@
-use Rattle.listing_text.specs.Lines.{count-lines}
+use Rattle.listing_text.proofs.Lines.{count-lines}
 use borrow.Author.Needs.{needs}
 use Rattle.listing_text.proofs.Text.push_counts.Statement.{statement}
 use Rattle.listing_text.proofs.Text.push_counts.Tie as tie

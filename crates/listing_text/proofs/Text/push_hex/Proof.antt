@@ -2,8 +2,9 @@ use Prim.Native.Nat.{_-_, _≤_}
 use native.Mathlib.Omega.{arith}
 use lib.ListN.{take}
 use Rattle.catalogue.specs.Hex.{hexDigits}
-use Rattle.listing_text.specs.Growth.{Grown, grown-none}
-use Rattle.listing_text.specs.Steps.{hex-next, hex-end}
+use Rattle.listing_text.specs.Private.{Grown}
+use Rattle.listing_text.proofs.Growth.{grown-none}
+use Rattle.listing_text.proofs.Steps.{hex-next, hex-end}
 use borrow.Author.Needs.{needs}
 use Rattle.listing_text.proofs.Text.push_hex.Statement.{statement}
 use Rattle.listing_text.proofs.Text.push_hex.Tie as tie

@@ -1,9 +1,9 @@
 use mathlib.Core.Path.{_∙_, ap}
 use Rattle.listing_text.specs.Listing.{shownUnit, shownName}
-use Rattle.listing_text.specs.Steps.{name-end, name-start, name-next}
+use Rattle.listing_text.proofs.Steps.{name-end, name-start, name-next}
 use Prim.Native.Nat.{_-_, _≤_}
 use native.Mathlib.Omega.{arith}
-use Rattle.listing_text.specs.Growth.{Grown}
+use Rattle.listing_text.specs.Private.{Grown}
 use borrow.Author.Needs.{needs}
 use Rattle.listing_text.proofs.Text.push_name.Statement.{statement}
 use Rattle.listing_text.proofs.Text.push_name.Tie as tie

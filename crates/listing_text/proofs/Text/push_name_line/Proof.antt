@@ -1,4 +1,4 @@
-use Rattle.listing_text.specs.Lines.{line-of}
+use Rattle.listing_text.proofs.Lines.{line-of}
 use borrow.Author.Needs.{needs}
 use Rattle.listing_text.proofs.Text.push_name_line.Statement.{statement}
 use Rattle.listing_text.proofs.Text.push_name_line.Tie as tie

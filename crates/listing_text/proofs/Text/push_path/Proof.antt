@@ -1,4 +1,4 @@
-use Rattle.listing_text.specs.Growth.{grown-then}
+use Rattle.listing_text.proofs.Growth.{grown-then}
 use borrow.Author.Needs.{needs}
 use Rattle.listing_text.proofs.Text.push_path.Statement.{statement}
 use Rattle.listing_text.proofs.Text.push_path.Tie as tie

@@ -1,4 +1,4 @@
-use Rattle.listing_text.specs.Growth.{grown-none}
+use Rattle.listing_text.proofs.Growth.{grown-none}
 use borrow.Author.Needs.{needs}
 use Rattle.listing_text.proofs.Text.push_report.Statement.{statement}
 use Rattle.listing_text.proofs.Text.push_report.Tie as tie

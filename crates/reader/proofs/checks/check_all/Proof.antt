@@ -1,7 +1,7 @@
 use mathlib.Core.Path.{refl}
 use Rattle.head.specs.Checks.{openPlan}
-use Rattle.head.specs.Facts.{open-met}
-use Rattle.head.specs.Steps.{open-then}
+use Rattle.head.proofs.Facts.{open-met}
+use Rattle.head.proofs.Steps.{open-then}
 use Rattle.reader.specs.Checks.{readPlan, restPlan}
 use borrow.Author.Needs.{needs}
 use Rattle.reader.proofs.checks.check_all.Statement.{statement}

@@ -1,4 +1,4 @@
-use Rattle.reader.specs.Stages.{metrics-short, metrics-hit, metrics-miss}
+use Rattle.reader.proofs.Stages.{metrics-short, metrics-hit, metrics-miss}
 use native.Mathlib.Omega.{arith}
 use lib.ListN.{length-take}
 use borrow.Author.Needs.{needs}

@@ -1,4 +1,4 @@
-use Rattle.reader.specs.Stages.{names-short, names-hit, names-miss}
+use Rattle.reader.proofs.Stages.{names-short, names-hit, names-miss}
 use native.Mathlib.Omega.{arith}
 use lib.ListN.{length-take}
 use borrow.Author.Needs.{needs}

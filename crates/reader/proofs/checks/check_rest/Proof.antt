@@ -1,4 +1,4 @@
-use Rattle.reader.specs.Stages.{few-places, few-bytes, room-enough}
+use Rattle.reader.proofs.Stages.{few-places, few-bytes, room-enough}
 use native.Mathlib.Omega.{arith}
 use borrow.Author.Needs.{needs}
 use Rattle.reader.proofs.checks.check_rest.Statement.{statement}

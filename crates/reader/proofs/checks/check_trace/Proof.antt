@@ -1,5 +1,5 @@
 use Rattle.reader.specs.Checks.{recordOf}
-use Rattle.reader.specs.Stages.{trace-short, trace-passed, trace-refused, head-required}
+use Rattle.reader.proofs.Stages.{trace-short, trace-passed, trace-refused, head-required}
 use lib.ListN.{take}
 use mathlib.Core.Path.{ap, _∙_}
 use native.Mathlib.Omega.{arith}

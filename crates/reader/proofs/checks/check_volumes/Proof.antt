@@ -1,4 +1,4 @@
-use Rattle.reader.specs.Stages.{volumes-short, volumes-passed, volumes-refused, volumes-all}
+use Rattle.reader.proofs.Stages.{volumes-short, volumes-passed, volumes-refused, volumes-all}
 use native.Mathlib.Omega.{arith}
 use lib.ListN.{length-take}
 use borrow.Author.Needs.{needs}

@@ -2,7 +2,7 @@ use mathlib.Core.Path.{ap}
 use Prim.Native.Nat.{_*_, _≤_}
 use native.Mathlib.Nat.{mul-le-mul-left}
 use native.Mathlib.Omega.{arith}
-use Rattle.layout.specs.Versions.{layout-sound}
+use Rattle.layout.proofs.Versions.{layout-sound}
 use Rattle.layout.specs.declared.Layout.{Layout}
 use borrow.Author.Needs.{needs}
 use Rattle.reader.proofs.checks.entries_len.Statement.{statement}

@@ -1,4 +1,4 @@
-use Rattle.reader.specs.Stages.{whole-short, whole-long, whole-exact, whole-refused, whole-wanted, reads-same}
+use Rattle.reader.proofs.Stages.{whole-short, whole-long, whole-exact, whole-refused, whole-wanted, reads-same}
 use borrow.Author.Needs.{needs}
 use Rattle.reader.proofs.checks.read_file.Statement.{statement}
 use Rattle.reader.proofs.checks.read_file.Tie as tie

@@ -1,4 +1,4 @@
-use Rattle.reader.specs.Stages.{reads-accepted, reads-refused, reads-wanted}
+use Rattle.reader.proofs.Stages.{reads-accepted, reads-refused, reads-wanted}
 use mathlib.Core.Path.{ap, _∙_}
 use Rattle.trace.specs.Links.{filled}
 use borrow.Author.Needs.{needs}

@@ -4,7 +4,7 @@ use native.Mathlib.Omega.{arith}
 use borrow.Author.Needs.{needs}
 use Rattle.lists.proofs.Answers.{answers}
 use Rattle.volumes.specs.Volumes.{stepSaid}
-use Rattle.volumes.specs.VolumeLaws.{step-short, step-past, step-unended, step-next}
+use Rattle.volumes.proofs.Laws.{step-short, step-past, step-unended, step-next}
 use Rattle.volumes.proofs.Cursor.step.Statement.{statement}
 use Rattle.volumes.proofs.Cursor.step.Tie as tie
 

@@ -1,0 +1,4 @@
+pub mod Hex
+pub mod Line
+pub mod Points
+pub mod RoundTrip

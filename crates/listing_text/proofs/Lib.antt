@@ -1,0 +1,6 @@
+pub mod Bounds
+pub mod Decimal
+pub mod Growth
+pub mod Lines
+pub mod Short
+pub mod Steps

@@ -1,0 +1,105 @@
+-- Every listing has room.
+use mathlib.Core.Path.{_≡_, refl}
+use mathlib.Core.Bool.{Bool, true, false}
+use mathlib.Core.List.{List}
+use Prim.Native.Nat.{ℕ, zero, suc, _*_, _/_, _^_, _≤_, _<_}
+use native.Mathlib.Nat.{pow-suc, div-lt-iff-lt-mul}
+use native.Mathlib.Decide.{decLt}
+use native.Mathlib.Omega.{arith}
+use lib.Dec.{ltb}
+use lib.ListN.{length, length-append}
+use Rattle.lists.proofs.First.{first-at}
+use Rattle.lists.proofs.Table.{length-tabulate}
+use Rattle.lists.specs.declared.Found.{Found}
+use Rattle.lists.specs.declared.Found.the-variants.{At, Nothing}
+use Rattle.catalogue.proofs.Hex.{length-digits}
+use Rattle.incremental.specs.Decision.{accept, refuse}
+use Rattle.incremental.specs.Plan.{Answer, decided, wants, run}
+use Rattle.incremental.specs.declared.Refusal.{Refusal}
+use Rattle.head.specs.Checks.{openPlan}
+use Rattle.head.proofs.Facts.{open-facts}
+use Rattle.head.specs.declared.checks.Opening.{Opening}
+use Rattle.reader.specs.Verdict.{Acceptable}
+use Rattle.reader.specs.Checks.{fileAnswer}
+use Rattle.reader.specs.declared.verdict.Acceptance.{Acceptance}
+use Rattle.query.specs.Queries.{asked}
+use Rattle.path_search.specs.Search.{reportOf, entryNumbers, firstMatch, reported, pathFound}
+use Rattle.path_search.specs.declared.Report.{Report}
+use Rattle.path_search.specs.declared.Report.the-variants as report
+use Rattle.path_search.specs.declared.PathAnswer.the-variants as pathAnswer
+use Rattle.lists.specs.Count.{pick}
+use Rattle.sections.specs.Fields.{storedHash}
+use Rattle.listing_text.specs.Decimal.{decimal}
+use Rattle.listing_text.proofs.Decimal.{decimal-digit, decimal-more}
+use Rattle.listing_text.specs.Listing.{line, too-long, reportWord, pathText, acceptedText, refusedText, answerText, fileLimit, listing, room}
+use Rattle.listing_text.proofs.Bounds.{Bytes, SmallRefusal, SmallFields, Each, low-counts, small-answer}
+
+-- a number below 10 ^ k has at most k digits
+decimal-short : (k n : ℕ) → n < 10 ^ suc k → length (decimal n) ≤ suc k
+decimal-short zero n l = rw (decimal-digit n (omega arith)) (omega arith)
+decimal-short (suc k) n l = go (decLt n 10) (decimal-short k (n / 10))
+  where
+    go : Dec (n < 10) → (n / 10 < 10 ^ suc k → length (decimal (n / 10)) ≤ suc k) → length (decimal n) ≤ suc (suc k)
+    go (yes m) ih = rw (decimal-digit n m) (omega arith)
+    go (no m) ih =
+        let h : n < 10 ^ suc k * 10 = rw (← pow-suc 10 (suc k)) l in
+        rw (decimal-more n (omega arith), length-append) (omega (arith, ih (div-lt-iff-lt-mul (omega arith) .1 h)))
+
+two-digits : (n : ℕ) → n < 100 → length (decimal n) ≤ 2
+two-digits n l = decimal-short 1 n l
+
+ten-digits : (n : ℕ) → n < 2 ^ 32 → length (decimal n) ≤ 10
+ten-digits n l = decimal-short 9 n (omega arith)
+
+report-short : (r : Report) → length (reportWord r) ≤ 6
+report-short report.Silent = omega arith
+report-short report.Vista = omega arith
+report-short report.Hash2008 = omega arith
+report-short report.Both = omega arith
+
+module _ (p : List ℕ) (h : Bytes p) where
+  path-found : (o : Opening) (f : Found) → firstMatch o p ≡ f → run openPlan p ≡ decided (accept o) → length (pathText (reported o p f)) ≤ 16
+  unfolding firstMatch
+  path-found o (At i) e q =
+      let l = first-at _ (o .head .metrics .count) 0 i e .1 in
+      let b = low-counts p o h (open-facts p .holds o q) .metrics in
+      rw length-append (omega (arith, ten-digits i (omega arith), report-short (reportOf (o .version) (entryNumbers o p i) (storedHash p))))
+  path-found o Nothing e q = omega arith
+
+  path-short : length (pathText (pathFound p)) ≤ 16
+  path-short = go (run openPlan p) refl
+    where
+      go : (x : Answer Opening) → run openPlan p ≡ x → length (pathText (asked x pathAnswer.NoPath (λ o. reported o p (firstMatch o p)))) ≤ 16
+      go (decided (accept o)) e = path-found o (firstMatch o p) refl e
+      go (decided (refuse r)) e = omega arith
+      go (wants k) e = omega arith
+
+  accepted-short : (a : Acceptance) → SmallFields a → length (acceptedText a p) ≤ room
+  unfolding acceptedText
+  accepted-short a s =
+      simp (length-append, length-digits, length-tabulate)
+      (omega (
+        arith,
+        two-digits (a .version) (s .version),
+        ten-digits (a .runs) (s .runs),
+        ten-digits (a .metrics) (s .metrics),
+        ten-digits (a .chains) (s .chains),
+        ten-digits (a .volumes) (s .volumes),
+        s .units,
+        path-short,
+      ))
+
+  refused-short : (r : Refusal) → SmallRefusal r → length (refusedText (r .number) (r .index)) ≤ room
+  unfolding refusedText
+  refused-short r s = simp length-append (omega (arith, two-digits (r .number) (s .number), ten-digits (r .index) (s .index)))
+
+  answer-short : (b : Bool) (x : Answer Acceptable) → Each (λ y. SmallFields (y .fields)) x → length (pick b (line too-long) (answerText x p)) ≤ room
+  answer-short true x k = omega arith
+  answer-short false (decided (accept y)) k = accepted-short (y .fields) (k .accepts y refl)
+  answer-short false (decided (refuse r)) k = refused-short r (k .refuses r refl)
+  answer-short false (wants j) k = omega arith
+
+-- EVERY LISTING HAS ROOM
+pub listing-short : (p : List ℕ) (m : ℕ) → Bytes p → length (listing p m) ≤ room
+unfolding listing
+listing-short p m h = answer-short p h (ltb fileLimit (length p)) (fileAnswer p m) (small-answer p m h)

@@ -1,0 +1,152 @@
+-- Laws on the names of metrics entries: what each way through the code decides, and what a sound name is.
+use mathlib.Core.Path.{_≡_, refl, sym, ap, _∙_}
+use mathlib.Core.Bool.{Bool, true, false, not, _&&_, _||_}
+use mathlib.Core.List.{List}
+use mathlib.Core.Logic.{_↔_}
+use Prim.Native.Nat.{ℕ, _+_, _*_, _^_, _-_, _≤_, _<_}
+use native.Mathlib.Nat.{mul-le-mul-left}
+use native.Mathlib.Omega.{arith}
+use lib.Dec.{eqb, ltb}
+use lib.ListN.{length, getD}
+use borrow.Author.Tests.{leb-true, le-leb, ltb-true, ltb-false, eqb-true, eqb-false, eq-eqb, ne-eqb}
+use Rattle.lists.specs.Count.{some}
+use Rattle.lists.proofs.Count.{some-yes, some-no, some-true, some-eight, true-false, some-false}
+use Rattle.lists.specs.First.{first}
+use Rattle.little_endian.specs.Number.{le, zeroUnit}
+use Rattle.layout.specs.Versions.{layoutOf}
+use Rattle.layout.specs.Private.{Sound}
+use Rattle.layout.proofs.Versions.{layout-sound}
+use Rattle.layout.specs.declared.Layout.{Layout}
+use Rattle.layout.specs.declared.Version.{Version}
+use Rattle.names.specs.Names.{fits, sound, firstMisfit, firstUnsound, SoundName}
+use Rattle.names.specs.Private.{zeroIn, soundText}
+
+-- One unit, by its bytes
+pub unit-zero : (s : List ℕ) (at : ℕ) → eqb (getD s at 0 + 256 * getD s (at + 1) 0) 0 ≡ zeroUnit s at
+unfolding le
+unit-zero s at = let e : getD s at 0 + 256 * getD s (at + 1) 0 ≡ le 2 s at = omega arith in ap (λ x. eqb x 0) e
+
+-- A text, by a loop that stops at the first zero unit
+pub text-zero : (s : List ℕ) (at units k : ℕ) → k < units → zeroUnit s (at + 2 * k) ≡ true → false ≡ soundText s at units
+text-zero s at units k l e = rw (some-yes (λ j. zeroUnit s (at + 2 * j)) units k l e)
+
+pub text-end : (s : List ℕ) (at units : ℕ) → ((k : ℕ) → k < units → zeroUnit s (at + 2 * k) ≡ false) → zeroUnit s (at + 2 * units) ≡ soundText s at units
+text-end s at units f = rw (some-no (λ j. zeroUnit s (at + 2 * j)) units f)
+
+-- A text, by a loop that takes eight units at a time
+pub text-start : (s : List ℕ) (at units : ℕ) → soundText s (at + 2 * 0) (units - 0) ≡ soundText s at units
+text-start s at units = let e : at + 2 * 0 ≡ at = omega arith in let f : units - 0 ≡ units = omega arith in rw (e, f)
+
+pub zero-in-eight : (s : List ℕ) (at : ℕ) {a b c d e f g h : Bool}
+    → a ≡ zeroUnit s at
+    → b ≡ zeroUnit s (at + 2)
+    → c ≡ zeroUnit s (at + 4)
+    → d ≡ zeroUnit s (at + 6)
+    → e ≡ zeroUnit s (at + 8)
+    → f ≡ zeroUnit s (at + 10)
+    → g ≡ zeroUnit s (at + 12)
+    → h ≡ zeroUnit s (at + 14)
+    → (((((((a || b) || c) || d) || e) || f) || g) || h) ≡ zeroIn s at 8
+zero-in-eight s at i j k l m n o q =
+    let z : at ≡ at + 2 * 0 = omega arith in
+    rw (i ∙ ap (zeroUnit s) z, j, k, l, m, n, o, q) (some-eight (λ k. zeroUnit s (at + 2 * k)))
+
+pub eight-zero : (s : List ℕ) (at units : ℕ) → 8 ≤ units → zeroIn s at 8 ≡ true → false ≡ soundText s at units
+eight-zero s at units h e = let t = some-true (λ k. zeroUnit s (at + 2 * k)) 8 e in text-zero s at units (t .0) (omega (arith, t .1)) (t .2)
+
+pub eight-clear : (s : List ℕ) (at units : ℕ) → 8 ≤ units → zeroIn s at 8 ≡ false → soundText s (at + 16) (units - 8) ≡ soundText s at units
+eight-clear s at units h e = go (zeroIn s (at + 16) (units - 8)) refl
+  where
+    p : ℕ → Bool
+    p k = zeroUnit s (at + 2 * k)
+
+    clear : zeroIn s (at + 16) (units - 8) ≡ false → (k : ℕ) → k < units → (b : Bool) → ltb k 8 ≡ b → p k ≡ false
+    clear q k l true w = some-false p 8 e k (ltb-true k 8 w)
+    clear q k l false w =
+        let v : at + 2 * k ≡ at + 16 + 2 * (k - 8) = omega (arith, ltb-false k 8 w) in
+        ap (zeroUnit s) v ∙ some-false (λ j. zeroUnit s (at + 16 + 2 * j)) (units - 8) q (k - 8) (omega (arith, ltb-false k 8 w))
+
+    go : (b : Bool) → zeroIn s (at + 16) (units - 8) ≡ b → (not b && zeroUnit s (at + 16 + 2 * (units - 8))) ≡ soundText s at units
+    go true q =
+        let t = some-true (λ j. zeroUnit s (at + 16 + 2 * j)) (units - 8) q in
+        let v : at + 2 * (8 + t .0) ≡ at + 16 + 2 * t .0 = omega arith in
+        text-zero s at units (8 + t .0) (omega (arith, t .1)) (ap (zeroUnit s) v ∙ t .2)
+    go false q =
+        let v : at + 16 + 2 * (units - 8) ≡ at + 2 * units = omega arith in
+        ap (zeroUnit s) v ∙ text-end s at units (λ k l. clear q k l (ltb k 8) refl)
+
+pub eight-again : (s : List ℕ) (at units k : ℕ) → k + 8 ≤ units → zeroIn s (at + 2 * k) 8 ≡ false → soundText s (at + 2 * (k + 8)) (units - (k + 8)) ≡ soundText s (at + 2 * k) (units - k)
+eight-again s at units k h e =
+    let a : at + 2 * (k + 8) ≡ at + 2 * k + 16 = omega arith in
+    let b : units - (k + 8) ≡ units - k - 8 = omega arith in
+    rw (a, b) (eight-clear s (at + 2 * k) (units - k) (omega arith) e)
+
+-- A name
+pub name-past : (s : List ℕ) (at units : ℕ) → fits (length s) at units ≡ false → false ≡ sound s at units
+unfolding sound
+name-past s at units e = rw e
+
+pub name-inside : (s : List ℕ) (at units : ℕ) → fits (length s) at units ≡ true → soundText s at units ≡ sound s at units
+unfolding sound
+name-inside s at units e = rw e
+
+-- a name that fits ends, with its zero unit, within the section
+pub fits-le : (size at units : ℕ) → fits size at units ≡ true → at + 2 * units + 2 ≤ size
+unfolding fits
+fits-le size at units e = leb-true _ _ e
+
+pub le-fits : (size at units : ℕ) → at + 2 * units + 2 ≤ size → fits size at units ≡ true
+unfolding fits
+le-fits size at units h = le-leb _ _ h
+
+-- The fields of an entry start where no sum wraps
+pub layout-of-sound : (v : Version) {l : Layout} → l ≡ layoutOf v → Sound l
+layout-of-sound v e = rw e (layout-sound v)
+
+pub entry-low : (l : Layout) (i : ℕ) → Sound l → i < 2 ^ 32 → i * l .metric ≤ 2 ^ 32 * 32
+entry-low l i s h = omega (arith, mul-le-mul-left i (s .metric))
+
+-- Checks 9 and 10, for code that has the layout at hand: the name of entry i fails a test on its offset and its length
+abbrev pub failsAt : (ℕ → ℕ → Bool) → Layout → List ℕ → ℕ → Bool
+failsAt test l metrics i = not (test (le 4 metrics (i * l .metric + l .name)) (le 4 metrics (i * l .metric + l .units)))
+
+pub fails-at : (test : ℕ → ℕ → Bool) (l : Layout) (metrics : List ℕ) (i : ℕ) {at units : ℕ} {r : Bool} → at ≡ le 4 metrics (i * l .metric + l .name) → units ≡ le 4 metrics (i * l .metric + l .units) → r ≡ test at units → failsAt test l metrics i ≡ not r
+fails-at test l metrics i a u e = rw (← a, ← u, ← e)
+
+pub misfit-of : (v : Version) {l : Layout} (metrics : List ℕ) (entries size : ℕ) → l ≡ layoutOf v → first (failsAt (fits size) l metrics) entries ≡ firstMisfit v metrics entries size
+unfolding firstMisfit
+misfit-of v metrics entries size e = rw e
+
+pub unsound-of : (v : Version) {l : Layout} (metrics : List ℕ) (entries : ℕ) (strings : List ℕ) → l ≡ layoutOf v → first (failsAt (sound strings) l metrics) entries ≡ firstUnsound v metrics entries strings
+unfolding firstUnsound
+unsound-of v metrics entries strings e = rw e
+
+pub sound-fits : (s : List ℕ) (at units : ℕ) → sound s at units ≡ true → fits (length s) at units ≡ true
+sound-fits s at units e = go (fits (length s) at units) refl
+  where
+    go : (b : Bool) → fits (length s) at units ≡ b → b ≡ true
+    go true q = refl
+    go false q = absurd (true-false (sym e ∙ sym (name-past s at units q)))
+
+sound-text : (a b : Bool) → (not a && b) ≡ true → (a ≡ false) × (b ≡ true)
+sound-text true b e = absurd (true-false (sym e))
+sound-text false b e = (refl, e)
+
+sound-is : (s : List ℕ) (at units : ℕ) → sound s at units ≡ true → SoundName s at units
+sound-is s at units e =
+    let f = sound-fits s at units e in
+    let t = sound-text (some (λ k. zeroUnit s (at + 2 * k)) units) (zeroUnit s (at + 2 * units)) (name-inside s at units f ∙ e) in
+    record {
+      inside = fits-le (length s) at units f;
+      text = λ k l. eqb-false _ _ (some-false (λ k. zeroUnit s (at + 2 * k)) units (t .0) k l);
+      end = eqb-true _ _ (t .1);
+    }
+
+is-sound : (s : List ℕ) (at units : ℕ) → SoundName s at units → sound s at units ≡ true
+is-sound s at units n =
+    sym (name-inside s at units (le-fits (length s) at units (n .inside)))
+    ∙ sym (text-end s at units (λ k l. ne-eqb _ _ (n .text k l)))
+    ∙ eq-eqb _ _ (n .end)
+
+pub sound-name : (s : List ℕ) (at units : ℕ) → (sound s at units ≡ true) ↔ SoundName s at units
+sound-name s at units = (sound-is s at units, is-sound s at units)

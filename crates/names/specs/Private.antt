@@ -1,0 +1,14 @@
+-- Laws on the names of metrics entries: what each way through the code decides, and what a sound name is.
+use mathlib.Core.Bool.{Bool, not, _&&_}
+use mathlib.Core.List.{List}
+use Prim.Native.Nat.{ℕ, _+_, _*_}
+use Rattle.lists.specs.Count.{some}
+use Rattle.little_endian.specs.Number.{zeroUnit}
+
+-- a zero unit among so many units from an offset
+abbrev pub zeroIn : List ℕ → ℕ → ℕ → Bool
+zeroIn s at units = some (λ k. zeroUnit s (at + 2 * k)) units
+
+-- the part of `sound` that looks at the text: no zero unit among the units, and one directly after them
+abbrev pub soundText : List ℕ → ℕ → ℕ → Bool
+soundText s at units = not (zeroIn s at units) && zeroUnit s (at + 2 * units)

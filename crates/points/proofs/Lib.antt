@@ -1,0 +1,5 @@
+pub mod EmptyPrograms
+pub mod EveryName
+pub mod Examples
+pub mod Places
+pub mod Points

@@ -1,0 +1,50 @@
+-- The questions on an opening, and on the bytes of the sections that they look at: what the private functions give.
+use mathlib.Core.Bool.{Bool, _&&_}
+use mathlib.Core.List.{List}
+use Prim.Native.Nat.{ℕ, _*_}
+use lib.Dec.{leb, ltb}
+use lib.ListN.{length}
+use Rattle.lists.specs.Count.{pick}
+use Rattle.layout.specs.Versions.{layoutOf}
+use Rattle.layout.specs.declared.Version.{Version}
+use Rattle.sections.specs.Fields.{part}
+use Rattle.sections.specs.declared.Section.{Section}
+use Rattle.head.specs.declared.checks.Opening.{Opening}
+use Rattle.names.specs.Names.{sound, nameAt, nameUnits}
+use Rattle.volumes.specs.Volumes.{volumeChecks, referenceOf, entryAt}
+use Rattle.query.specs.Queries.{entryShown, namePlace, accepts, volumeShown, volumeFacts, referenceShown}
+use Rattle.query.specs.declared.Place.{Place}
+use Rattle.query.specs.declared.PlaceAnswer.{PlaceAnswer}
+use Rattle.query.specs.declared.PlaceAnswer.the-variants as placeAnswer
+use Rattle.query.specs.declared.VolumeAnswer.{VolumeAnswer}
+use Rattle.query.specs.declared.VolumeAnswer.the-variants as volumeAnswer
+use Rattle.query.specs.declared.ReferenceAnswer.{ReferenceAnswer}
+use Rattle.query.specs.declared.ReferenceAnswer.the-variants as referenceAnswer
+
+-- ---- where checks 1 to 6 pass
+abbrev pub entryIn : Opening → List ℕ → ℕ → PlaceAnswer
+entryIn o p i = pick (entryShown o p i) (placeAnswer.Shown (namePlace o p i)) placeAnswer.NotShown
+
+abbrev pub volumeIn : Opening → List ℕ → ℕ → VolumeAnswer
+volumeIn o p i = pick (volumeShown o p i) (volumeAnswer.Shown (volumeFacts o p i)) volumeAnswer.NotShown
+
+abbrev pub referenceIn : Opening → List ℕ → ℕ → ℕ → ReferenceAnswer
+referenceIn o p i k =
+    pick (referenceShown o p i k)
+    (referenceAnswer.Shown (referenceOf (part (o .head .volumes) p) (entryAt (o .version) i) k))
+    referenceAnswer.NotShown
+
+-- ---- the name of an entry that lies in the metrics, as a place of the strings
+unfoldable pub nameSound : Version → List ℕ → List ℕ → ℕ → Bool
+nameSound v metrics strings i = sound strings (nameAt v metrics i) (nameUnits v metrics i)
+
+abbrev pub nameIn : Version → List ℕ → ℕ → Place
+nameIn v metrics i = record { at = nameAt v metrics i; len = 2 * nameUnits v metrics i }
+
+abbrev pub nameShown : Version → List ℕ → List ℕ → ℕ → PlaceAnswer
+nameShown v metrics strings i = pick (nameSound v metrics strings i) (placeAnswer.Shown (nameIn v metrics i)) placeAnswer.NotShown
+
+-- ---- volume i on the bytes of its section
+unfoldable pub sectionShown : Section → Version → List ℕ → ℕ → Bool
+sectionShown s v b i =
+    leb (s .count * layoutOf v .volume) (s .len) && (ltb i (s .count) && (leb (s .len) (length b) && accepts (volumeChecks b v i)))

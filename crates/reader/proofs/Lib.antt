@@ -1,0 +1,5 @@
+pub mod Allowed
+pub mod AllowedLaws
+pub mod Early
+pub mod Stages
+pub mod Values

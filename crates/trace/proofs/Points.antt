@@ -1,0 +1,11 @@
+-- The points of document 01 on links.
+use mathlib.Core.Path.{refl}
+use Rattle.lists.specs.First.{firstFrom}
+use Rattle.lists.specs.Table.{tabulate}
+use Rattle.lists.specs.Count.{some, count}
+use Rattle.trace.specs.Links.{follow, namers, cyclic, chains, predecessor, predecessors, linkChecks}
+use Rattle.trace.specs.Points.{TracePoints}
+
+pub trace-points : TracePoints
+unfolding linkChecks firstFrom some count cyclic namers follow chains predecessors predecessor tabulate
+trace-points = record { one-chain = refl; one-chain-table = refl; own-next = refl; named-twice = refl }

@@ -1,0 +1,96 @@
+-- What the checks that passed say of a list of next indexes.
+use mathlib.Core.Path.{_≡_}
+use mathlib.Core.List.{List}
+use mathlib.Core.Logic.{_⊎_}
+use Prim.Native.Nat.{ℕ, _<_, _≤_, min}
+use lib.ListN.{length, getD, set}
+use Rattle.trace.specs.Links.{end, after, astray, namers, shared, cyclic, chains, predecessors, filled, linksOf, held}
+use lib.Dec.{eqb}
+use Rattle.lists.specs.declared.Found.{Found}
+use Rattle.lists.specs.declared.Found.the-variants.{At, Nothing}
+use Rattle.lists.specs.First.{first}
+use Rattle.lists.specs.Count.{pick}
+use Rattle.incremental.specs.Decision.{Decision, accept, check}
+use Rattle.trace.specs.declared.Links.{Links}
+use Rattle.trace.specs.declared.Pass.{Pass}
+use Rattle.trace.specs.declared.Pass.the-variants.{Astray, Shared, Clear}
+
+-- check 11 passed
+abbrev pub Sound : List ℕ → Type 0
+Sound s = (i : ℕ) → i < length s → (after s i ≡ end) ⊎ (after s i < length s)
+
+-- check 12 passed: no two entries name one entry
+abbrev pub Distinct : List ℕ → Type 0
+Distinct s = (i j : ℕ) → i < length s → j < length s → after s i ≡ after s j → (after s i ≡ end → ⊥) → i ≡ j
+
+-- what checks 11, 12 and 13 look for
+abbrev pub firstAstray : List ℕ → Found
+firstAstray s = first (astray s) (length s)
+
+abbrev pub firstShared : List ℕ → Found
+firstShared s = first (shared s) (length s)
+
+abbrev pub firstCyclic : List ℕ → Found
+firstCyclic s = first (cyclic s) (length s)
+
+-- the checks from 13 on, and from 12 on
+abbrev pub cycleChecks : List ℕ → Decision ℕ
+cycleChecks s = check 13 (firstCyclic s) (accept (chains s))
+
+abbrev pub sharedChecks : List ℕ → Decision ℕ
+sharedChecks s = check 12 (firstShared s) (cycleChecks s)
+
+abbrev pub entryChecks : List ℕ → Decision ℕ
+entryChecks s = check 11 (firstAstray s) (sharedChecks s)
+
+-- what one pass for checks 11 and 12 says: f and g are what they look for, and n is the number of entries that end a chain
+abbrev pub passOf : Found → Found → ℕ → Pass
+passOf (At i) g n = Astray i
+passOf Nothing (At i) n = Shared i
+passOf Nothing Nothing n = Clear n
+
+-- the buffer has a place for each entry, and check 11 has passed
+pub record Ready (s buffer : List ℕ) : Type 0 where
+  pub room : length s ≤ length buffer
+  pub sound : Sound s
+
+-- the buffer has a place for each entry, and every place is filled
+pub record Blank (s buffer : List ℕ) : Type 0 where
+  pub room : length s ≤ length buffer
+  pub clear : buffer ≡ filled (length buffer)
+
+-- the same, and check 11 has passed
+pub record Cleared (s buffer : List ℕ) : Type 0 where
+  pub ready : Ready s buffer
+  pub clear : buffer ≡ filled (length buffer)
+
+-- how many entries have the end as next
+abbrev pub ends : List ℕ → ℕ
+ends s = namers s (length s) end
+
+-- entry i ends a chain, or names j: place j holds i, and `least` becomes j where that is less and place j held an entry before
+pub record Stored (i j least : ℕ) (before : List ℕ) (r : ℕ) (buffer : List ℕ) : Type 0 where
+  pub ends : j ≡ end → (r ≡ least) × (buffer ≡ before)
+  pub names : (j ≡ end → ⊥) → (r ≡ pick (eqb (getD before j 0) end) least (min least j)) × (buffer ≡ set before j i)
+
+-- what the pass for checks 11 and 12 found, and the table of predecessors
+pub record Passed (s : List ℕ) (m : ℕ) (r : Pass) (buffer : List ℕ) : Type 0 where
+  pub found : r ≡ passOf (firstAstray s) (firstShared s) (ends s)
+  pub holds : Sound s → buffer ≡ predecessors s m
+
+-- checks 11 and 12 have passed: n entries end a chain, and the buffer is the table of predecessors
+pub record Clean (s : List ℕ) (n : ℕ) (buffer : List ℕ) : Type 0 where
+  pub room : length s ≤ length buffer
+  pub sound : Sound s
+  pub once : (j : ℕ) → j < length s → namers s (length s) j ≤ 1
+  pub counted : n ≡ ends s
+  pub table : buffer ≡ predecessors s (length buffer)
+
+-- a decision as an answer, and the buffer after it
+pub record Answered (d : Decision ℕ) (s : List ℕ) (m : ℕ) (r : Links) (buffer : List ℕ) : Type 0 where
+  pub answer : linksOf r ≡ d
+  pub holds : buffer ≡ held d s m
+
+-- every next index is above its own; the end is above all
+abbrev pub Forward : List ℕ → Type 0
+Forward s = (i : ℕ) → i < length s → i < after s i

@@ -1,0 +1,2 @@
+pub mod SoundVolume
+pub mod Laws
