@@ -29,13 +29,14 @@ extern "C" {
  *
  * hs_read_prefix looks at the first bytes of a file, as many as there are so far. What it accepts or refuses stands,
  * whatever bytes follow. A request is for the length that the prefix must have before more can be said; it always exceeds
- * the length lent.
+ * the length that it has.
  *
  * hs_read_file looks at a complete file, and never asks for more.
  *
- * predecessors needs one place for each trace entry, else the file is refused with 7; hs_places says how many. After an
- * acceptance place j holds the entry that names j as next, and HS_NONE where none does and behind the last entry. After
- * anything else every place holds HS_NONE. All of it is written in every call, whatever it held.
+ * predecessors has one slot for each trace entry, or more; with fewer the file is refused with 7. places is the number of
+ * slots, and hs_places says how many a file needs. After an acceptance slot j holds the predecessor of entry j, the entry
+ * that names j as next, and HS_NONE where it has none and behind the last entry. After anything else every slot holds
+ * HS_NONE. All of it is written in every call, whatever it held.
  */
 
 /* What both give back. */
@@ -45,7 +46,7 @@ enum hs_verdict {
     HS_WANTED = 2    /* out has HS_BYTES_WANTED; hs_read_prefix only */
 };
 
-/* Places in out. All that the verdict does not fill are 0. */
+/* Where each number stands in out. All that the verdict does not fill are 0. */
 enum hs_reader_out {
     HS_NUMBER = 0,       /* of the refusal, see below */
     HS_INDEX = 1,        /* section, entry or volume at fault, or 0 */
@@ -63,7 +64,7 @@ enum hs_reader_out {
     HS_READER_OUT = 13   /* length of an out that holds them all */
 };
 
-/* In a working place: no entry. */
+/* In a slot of predecessors: no entry. */
 #define HS_NONE 4294967295u
 
 uint32_t hs_read_prefix(const uint8_t *file, size_t length, uint32_t *predecessors, size_t places, uint64_t *out,
@@ -71,17 +72,17 @@ uint32_t hs_read_prefix(const uint8_t *file, size_t length, uint32_t *predecesso
 uint32_t hs_read_file(const uint8_t *file, size_t length, uint32_t *predecessors, size_t places, uint64_t *out,
                       size_t out_length);
 
-/* How many places both need for this file: its trace count. 1 where checks 1 to 6 of the table below pass on these bytes,
- * so from H bytes on, and the number is then at most 1,398,088. Else 0; both then answer the same with any number of
- * places. Of the file only its head is looked at.
+/* How many slots of predecessors both need for this file: its trace count. 1 where checks 1 to 6 of the table below pass on
+ * these bytes, so from H bytes on, and the number is then at most 1,398,088. Else 0; both then answer the same with any
+ * number of slots. Of the file only its head is looked at.
  * out: places, 0 after a no. */
 uint32_t hs_places(const uint8_t *file, size_t length, uint64_t *out, size_t out_length);
 
-/* Refusals, in the order of the checks. A check is decided once the prefix reaches the length in the middle column, and
+/* Refusals, in the order of the checks. A check is decided once the prefix has the required length, the second column, and
  * the first that is not passed gives the answer. S is the declared size, H the end of the head's last field: 148, 156 and
  * 212 for versions 17, 23 and 26. Sections are numbered 1 metrics, 2 trace, 3 strings, 4 volumes.
  *
- *  no.  decided at      refused exactly when                                                 index
+ *  no.  required        refused exactly when                                                 index
  *   1   4               version not 17, 23 or 26                                             0
  *   2   8               signature is not "SCCA"                                              0
  *   3   16              S below H or above 16,777,215                                        0
@@ -89,7 +90,7 @@ uint32_t hs_places(const uint8_t *file, size_t length, uint64_t *out, size_t out
  *   5   H               a section that is not empty starts before H or ends after S          first such section
  *   6   H               two sections share a byte                                            smallest that shares one with
  *                                                                                            a lower section
- *   7   H               fewer places than trace entries                                      0
+ *   7   H               fewer slots than trace entries                                       0
  *   8   H               more volume entries than the volumes section can hold                0
  *   9   metrics end     a name, with its zero unit, runs past the strings section            first such metrics entry
  *  10   metrics and     a name has a zero unit inside, or no zero unit right behind it       first such metrics entry
@@ -103,16 +104,16 @@ uint32_t hs_places(const uint8_t *file, size_t length, uint64_t *out, size_t out
  *  16                   hs_read_file only: the file is shorter than S or than a check needs  0
  *  17                   hs_read_file only: the file is longer than S                         0
  *  18                   hs_catalogue_read only: not a catalogue line
- *  19                   hs_catalogue_write only: fields that form no line, or a place below 25 bytes
+ *  19                   hs_catalogue_write only: fields that form no line, or an output below 25 bytes
  *
  * 14 and 15 are found volume by volume, the first fault of the first volume that has one. The end of an empty section
  * counts as H; strings without metrics entries and a volumes section without volumes are not waited for.
  */
 
-/* ---- Questions about one entry ----
+/* ---- Queries about one entry ----
  *
  * Each gives 1 for a yes and 0 for a no; after a no every number in out is 0. They work on a prefix too, as far as what is
- * asked for has come, and need no working buffer.
+ * asked for has come, and need no predecessors.
  */
 
 /* The bytes of the program name before its first zero unit. No where checks 1 to 4 do not pass on these bytes.
@@ -124,7 +125,7 @@ uint32_t hs_program_name(const uint8_t *file, size_t length, uint64_t *out, size
  * out: offset, length. */
 uint32_t hs_entry_name(const uint8_t *file, size_t length, uint64_t i, uint64_t *out, size_t out_length);
 
-/* Volume i. Yes exactly when checks 1 to 6 and 8 pass, i is below the count, the whole volumes section is lent and volume
+/* Volume i. Yes exactly when checks 1 to 6 and 8 pass, i is below the count, the whole volumes section is there and volume
  * i itself passes 14 and 15. The path is the units before its first zero unit, or all of them.
  * out: creation time (a FILETIME), serial number, file references, directories, path offset, path length. */
 uint32_t hs_volume(const uint8_t *file, size_t length, uint64_t i, uint64_t *out, size_t out_length);

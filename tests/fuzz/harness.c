@@ -4,12 +4,12 @@
  *   0      the call, CALLS and above: all of them
  *   1      bits 0 to 2: file, table and out lie behind or before a page that cannot be touched; 3, 4: pointer of an empty list
  *   2      length of out, 0 to 16
- *   3      places: as the file's trace count says, one fewer, one more, none, or as bytes 4, 5 say
- *   4      places, 2 bytes
+ *   3      slots: as the file's trace count says, one fewer, one more, none, or as bytes 4, 5 say
+ *   4      slots, 2 bytes
  *   6      2 bytes: 0 for the whole file, else a cut behind that many bytes less one
  *   8, 16  i and k; the four fields of a line to be written
  *   24     seed of the noise
- *   28     length of the place for a line, 0 to 39
+ *   28     length of the output for a line, 0 to 39
  */
 #define _GNU_SOURCE
 #include "hivesaddle.h"
@@ -306,7 +306,7 @@ static void one_call(enum call call, const struct input *in, uint64_t i, uint64_
         differ(call, "answer");
     }
     same_list(call, "out", OUT, JUDGE_OUT);
-    same_list(call, "working places", TABLE, JUDGE_TABLE);
+    same_list(call, "predecessors", TABLE, JUDGE_TABLE);
     same_list(call, "line", LINE, JUDGE_LINE);
     if (n && memcmp(lists[FILE_LIST].start, in->bytes, n)) differ(call, "the file was changed");
     if (count_32 && memcmp(lists[NUMBERS].start, in->bytes, 4 * count_32)) differ(call, "the numbers were changed");

@@ -2,14 +2,21 @@
 //! calls nothing of the library.
 
 #[allow(dead_code)]
+#[path = "../../rust/hivesaddle/src/constants.rs"]
+mod constants;
+#[path = "../src/boundary/numbers.rs"]
+mod numbers;
+#[allow(dead_code)]
 #[path = "../src/reference/mod.rs"]
 mod reference;
 
+use constants::*;
+use numbers::numbers_of;
 use reference::catalogue::{self, Fields};
 use reference::head::{section, VOLUMES};
-use reference::readers::{part_reader, whole_reader, Answer, Verdict};
+use reference::readers::{read_file, read_prefix, Answer};
 use reference::search::{find_path, Report};
-use reference::{hashes, questions};
+use reference::{hashes, queries};
 
 unsafe fn list<'a, T>(pointer: *const T, length: usize) -> &'a [T] {
     match length {
@@ -25,31 +32,6 @@ unsafe fn write<T: Copy>(place: *mut T, length: usize, values: &[T]) {
     }
 }
 
-fn numbers_of(verdict: &Verdict) -> (u32, [u64; 13]) {
-    match *verdict {
-        Verdict::Accepted(r) => (
-            0,
-            [
-                0,
-                0,
-                0,
-                r.version,
-                r.declared_size,
-                r.name_units,
-                r.stored_hash,
-                r.run_time,
-                r.run_count,
-                r.metrics_count,
-                r.trace_count,
-                r.volume_count,
-                r.chain_count,
-            ],
-        ),
-        Verdict::Refused(r) => (1, [r.number, r.index, 0, 0, 0, 0, 0, 0, 0, 0, 0, 0, 0]),
-        Verdict::Wanted(bytes) => (2, [0, 0, bytes, 0, 0, 0, 0, 0, 0, 0, 0, 0, 0]),
-    }
-}
-
 unsafe fn give(
     answer: &Answer,
     table: *mut u32,
@@ -57,9 +39,9 @@ unsafe fn give(
     out: *mut u64,
     length: usize,
 ) -> u32 {
-    assert_eq!(answer.buffer.len(), places);
+    assert_eq!(answer.predecessors.len(), places);
     let (code, numbers) = numbers_of(&answer.verdict);
-    write(table, places, &answer.buffer);
+    write(table, places, &answer.predecessors);
     write(out, length, &numbers);
     code
 }
@@ -79,7 +61,7 @@ pub unsafe extern "C" fn judge_read_prefix(
     out: *mut u64,
     out_length: usize,
 ) -> u32 {
-    give(&part_reader(list(file, length), places), table, places, out, out_length)
+    give(&read_prefix(list(file, length), places), table, places, out, out_length)
 }
 
 #[no_mangle]
@@ -91,7 +73,7 @@ pub unsafe extern "C" fn judge_read_file(
     out: *mut u64,
     out_length: usize,
 ) -> u32 {
-    give(&whole_reader(list(file, length), places), table, places, out, out_length)
+    give(&read_file(list(file, length), places), table, places, out, out_length)
 }
 
 #[no_mangle]
@@ -101,7 +83,7 @@ pub unsafe extern "C" fn judge_places(
     out: *mut u64,
     out_length: usize,
 ) -> u32 {
-    let places = questions::places(list(file, length));
+    let places = queries::places(list(file, length));
     tell(places.map(|places| [places]), out, out_length)
 }
 
@@ -112,7 +94,7 @@ pub unsafe extern "C" fn judge_program_name(
     out: *mut u64,
     out_length: usize,
 ) -> u32 {
-    let name = questions::program_name(list(file, length));
+    let name = queries::program_name(list(file, length));
     tell(name.map(|part| [part.offset, part.length]), out, out_length)
 }
 
@@ -124,7 +106,7 @@ pub unsafe extern "C" fn judge_entry_name(
     out: *mut u64,
     out_length: usize,
 ) -> u32 {
-    let name = questions::entry_name(list(file, length), i);
+    let name = queries::entry_name(list(file, length), i);
     tell(name.map(|part| [part.offset, part.length]), out, out_length)
 }
 
@@ -138,7 +120,7 @@ pub unsafe extern "C" fn judge_volume(
     out_length: usize,
 ) -> u32 {
     let file = list(file, length);
-    let numbers = questions::volume(file, i).map(|v| {
+    let numbers = queries::volume(file, i).map(|v| {
         let offset = match v.path_has_a_place {
             true => v.path.offset,
             false => section(file, VOLUMES).start,
@@ -157,7 +139,7 @@ pub unsafe extern "C" fn judge_reference(
     out: *mut u64,
     out_length: usize,
 ) -> u32 {
-    let reference = questions::reference(list(file, length), i, k);
+    let reference = queries::reference(list(file, length), i, k);
     tell(reference.map(|r| [r.entry_index, r.sequence_number]), out, out_length)
 }
 
@@ -170,10 +152,10 @@ pub unsafe extern "C" fn judge_find_path(
 ) -> u32 {
     let numbers = find_path(list(file, length)).map(|found| {
         let report = match found.report {
-            Report::NoneToMake => 0,
-            Report::VistaOnly => 1,
-            Report::Only2008 => 2,
-            Report::Both => 3,
+            Report::NoneToMake => HS_REPORT_NONE,
+            Report::VistaOnly => HS_REPORT_VISTA,
+            Report::Only2008 => HS_REPORT_2008,
+            Report::Both => HS_REPORT_BOTH,
         };
         [found.entry, report]
     });
@@ -182,32 +164,32 @@ pub unsafe extern "C" fn judge_find_path(
 
 #[no_mangle]
 pub unsafe extern "C" fn judge_hash_xp(numbers: *const u32, count: usize) -> u32 {
-    hashes::xp(list(numbers, count))
+    hashes::hash_xp(list(numbers, count))
 }
 
 #[no_mangle]
 pub unsafe extern "C" fn judge_hash_vista(numbers: *const u32, count: usize) -> u32 {
-    hashes::vista(list(numbers, count))
+    hashes::hash_vista(list(numbers, count))
 }
 
 #[no_mangle]
 pub unsafe extern "C" fn judge_hash_2008(numbers: *const u32, count: usize) -> u32 {
-    hashes::of_2008(list(numbers, count))
+    hashes::hash_2008(list(numbers, count))
 }
 
 #[no_mangle]
 pub unsafe extern "C" fn judge_hash_xp_units(text: *const u8, length: usize) -> u32 {
-    hashes::xp(&hashes::units(list(text, length)))
+    hashes::hash_xp(&hashes::units(list(text, length)))
 }
 
 #[no_mangle]
 pub unsafe extern "C" fn judge_hash_vista_units(text: *const u8, length: usize) -> u32 {
-    hashes::vista(&hashes::units(list(text, length)))
+    hashes::hash_vista(&hashes::units(list(text, length)))
 }
 
 #[no_mangle]
 pub unsafe extern "C" fn judge_hash_2008_units(text: *const u8, length: usize) -> u32 {
-    hashes::of_2008(&hashes::units(list(text, length)))
+    hashes::hash_2008(&hashes::units(list(text, length)))
 }
 
 #[no_mangle]

@@ -267,7 +267,7 @@ static int saddle(struct bytes bytes, struct listing *list, uint32_t *predecesso
     return 1;
 }
 
-/* One working place for each trace entry that the file can have. */
+/* One slot for each trace entry that the file can have. */
 static uint32_t *working_places(struct bytes bytes, size_t *count)
 {
     *count = bytes.length / 12 + 1;

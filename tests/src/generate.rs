@@ -12,7 +12,7 @@ use crate::reference::hashes;
 use crate::reference::layout::{Layout, END, LAYOUTS, TRACE_ENTRY};
 use strings::Strings;
 
-/// A file, and the working places lent with it.
+/// A file, and the number of slots to read it with.
 #[derive(Clone, Debug)]
 pub struct Sample {
     pub bytes: Vec<u8>,
@@ -53,7 +53,7 @@ fn few(random: &mut Random, most: usize) -> usize {
     }
 }
 
-/// A file that every check passes, with as many working places as entries.
+/// A file that every check passes, with as many slots as trace entries.
 pub fn sound(random: &mut Random, counts: Counts) -> Sample {
     let layout = random.pick(&LAYOUTS);
     sound_of(random, layout, counts)
@@ -136,9 +136,9 @@ fn stored_hash(random: &mut Random, layout: &Layout, strings: &Strings) -> u32 {
     let text = &strings.bytes[name.offset as usize..][..2 * name.units as usize];
     let numbers = hashes::units(text);
     match layout.version {
-        17 => hashes::xp(&numbers),
-        23 => hashes::vista(&numbers),
-        _ => hashes::of_2008(&numbers),
+        17 => hashes::hash_xp(&numbers),
+        23 => hashes::hash_vista(&numbers),
+        _ => hashes::hash_2008(&numbers),
     }
 }
 

@@ -1,4 +1,4 @@
-//! The whole reader as one would write it by hand to be quick: nothing is
+//! The whole-file reader as one would write it by hand to be quick: nothing is
 //! allocated and no section is looked at more often than the checks need. It
 //! is what the benchmarks hold the library to.
 
@@ -51,8 +51,8 @@ fn refused<T>(number: u32, index: usize) -> Result<T, Refusal> {
 }
 
 /// The bytes that a check has to have.
-fn need(file: &[u8], reach: usize) -> Result<(), Refusal> {
-    match file.len() < reach {
+fn need(file: &[u8], required: usize) -> Result<(), Refusal> {
+    match file.len() < required {
         true => refused(16, 0),
         false => Ok(()),
     }
@@ -208,7 +208,7 @@ fn names(
 }
 
 /// Checks 11 to 13 and the chain count. The table is filled with the end and
-/// has one place for each entry.
+/// has one slot for each entry.
 fn links(trace: &[u8], table: &mut [u32]) -> Result<u32, Refusal> {
     let mut shared = END;
     for (entry, bytes) in trace.chunks_exact(TRACE_ENTRY).enumerate() {
@@ -239,7 +239,7 @@ fn next(trace: &[u8], entry: usize) -> u32 {
 }
 
 /// The chains, and the entries on them. No entry is named twice, so what is
-/// not on a chain is on a ring.
+/// not on a chain is on a cycle.
 fn walk(trace: &[u8], table: &[u32]) -> (u32, usize) {
     let (mut chains, mut visited) = (0, 0);
     for (head, _) in table.iter().enumerate().filter(|(_, &place)| place == END) {
@@ -266,7 +266,7 @@ fn least_on_a_ring(trace: &[u8], table: &mut [u32]) -> usize {
             }
         }
     }
-    table.iter().position(|&place| place != mark).expect("there is a ring")
+    table.iter().position(|&place| place != mark).expect("there is a cycle")
 }
 
 /// Checks 14 and 15.
@@ -337,13 +337,13 @@ mod beside_the_reference {
     use crate::generate::{any, around_links, rich, Counts, Sample};
     use crate::random::Random;
     use crate::reference::layout::LAYOUTS;
-    use crate::reference::readers::{whole_reader, Verdict};
+    use crate::reference::readers::{self, Verdict};
 
     fn same(sample: &Sample) {
-        let answer = whole_reader(&sample.bytes, sample.places);
+        let answer = readers::read_file(&sample.bytes, sample.places);
         let mut buffer = vec![7; sample.places];
         let given = read_file(&sample.bytes, &mut buffer);
-        assert_eq!(answer.buffer, buffer);
+        assert_eq!(answer.predecessors, buffer);
         match (answer.verdict, given) {
             (Verdict::Accepted(record), Ok(given)) => {
                 assert_eq!(record.version, given.version as u64);

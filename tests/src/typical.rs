@@ -96,9 +96,9 @@ fn set_head(file: &mut [u8], layout: &Layout, names: &[String]) {
 fn stored_hash(version: u32, path: &str) -> u32 {
     let numbers = hashes::units(&units(path));
     match version {
-        17 => hashes::xp(&numbers),
-        23 => hashes::vista(&numbers),
-        _ => hashes::of_2008(&numbers),
+        17 => hashes::hash_xp(&numbers),
+        23 => hashes::hash_vista(&numbers),
+        _ => hashes::hash_2008(&numbers),
     }
 }
 
@@ -230,7 +230,7 @@ fn add_directories(section: &mut Vec<u8>, at: usize, volume: usize, count: usize
 #[cfg(test)]
 mod points {
     use super::*;
-    use crate::reference::readers::{whole_reader, Verdict};
+    use crate::reference::readers::{read_file, Verdict};
 
     #[test]
     fn accepted_in_every_version_and_size() {
@@ -238,7 +238,7 @@ mod points {
             for bytes in [1_000, 4_000, 20_000] {
                 let amounts = Amounts::for_bytes(bytes);
                 let file = file(version, &amounts);
-                let verdict = whole_reader(&file, amounts.trace).verdict;
+                let verdict = read_file(&file, amounts.trace).verdict;
                 assert!(matches!(verdict, Verdict::Accepted(_)), "{version} {bytes} {verdict:?}");
             }
         }

@@ -1,12 +1,13 @@
 -- Document 01's "Catalogue line".
 use mathlib.Core.Path.{_≡_}
-use mathlib.Core.Bool.{Bool, false, not, _&&_}
+use mathlib.Core.Bool.{Bool, false, _&&_}
 use mathlib.Core.List.{List, [], _∷_, _++_}
 use Prim.Native.Nat.{ℕ}
 use lib.Dec.{leb, eqb}
 use lib.ListN.{length, getD, drop}
-use Rattle.lists.specs.Count.{pick, some}
-use Rattle.layout.specs.Versions.{versionOf, layoutOf, sizeLimit}
+use Rattle.lists.specs.Count.{pick}
+use Rattle.hex.specs.Hex.{hexAt, hexDigits, areDigits}
+use Rattle.layout.specs.Versions.{versionOf, layoutOf, headEnd, sizeLimit}
 use Rattle.layout.specs.declared.KnownVersion.{KnownVersion}
 use Rattle.layout.specs.declared.KnownVersion.the-variants.{Known, Unknown}
 use Rattle.catalogue.specs.declared.Fields.{Fields}
@@ -14,7 +15,6 @@ use Rattle.catalogue.specs.declared.ReadLine.{ReadLine}
 use Rattle.catalogue.specs.declared.ReadLine.the-variants as readLine
 use Rattle.catalogue.specs.declared.WrittenLine.{WrittenLine}
 use Rattle.catalogue.specs.declared.WrittenLine.the-variants as writtenLine
-use Rattle.catalogue.specs.Hex.{isDigit, hexAt, hexDigits}
 
 -- 24 digits and a line feed: size 6, stored hash 8, run count 8, version 2
 unfoldable pub lineOf : Fields → List ℕ
@@ -26,7 +26,7 @@ fieldsIn s = record { size = hexAt 6 s 0; hash = hexAt 8 s 6; runs = hexAt 8 s 1
 
 -- the size lies between the version's H and 16,777,215
 abbrev pub sizeInRange : KnownVersion → ℕ → Bool
-sizeInRange (Known v) size = leb (layoutOf v .head) size && leb size sizeLimit
+sizeInRange (Known v) size = leb (headEnd (layoutOf v)) size && leb size sizeLimit
 sizeInRange Unknown size = false
 
 -- the version is one of three, and the size lies in its range
@@ -35,28 +35,29 @@ canForm f = sizeInRange (versionOf (f .version)) (f .size)
 
 -- 24 digits and a line feed
 unfoldable pub isFrame : List ℕ → Bool
-isFrame s = eqb (length s) 25 && (not (some (λ k. not (isDigit (getD s k 0))) 24) && eqb (getD s 24 0) 10)
+isFrame s = eqb (length s) 25 && (areDigits s 0 24 && eqb (getD s 24 0) 10)
 
 -- a good line
 unfoldable pub isLine : List ℕ → Bool
 isLine s = isFrame s && canForm (fieldsIn s)
 
 -- what a call answers: 0 or the number of its refusal, and the fields
-pub record Answer : Type 0 where
+pub record LineAnswer : Type 0 where
   pub number : ℕ
   pub fields : Fields
 
-abbrev pub zeros : Fields
-zeros = record { size = 0; hash = 0; runs = 0; version = 0 }
+-- with a refusal every field is zero
+abbrev pub noFields : Fields
+noFields = record { size = 0; hash = 0; runs = 0; version = 0 }
 
 -- reading: the fields of a good line, and refusal 18 with zeros for any other bytes
-unfoldable pub reading : List ℕ → Answer
-reading s = pick (isLine s) (record { number = 0; fields = fieldsIn s }) (record { number = 18; fields = zeros })
+unfoldable pub reading : List ℕ → LineAnswer
+reading s = pick (isLine s) (record { number = 0; fields = fieldsIn s }) (record { number = 18; fields = noFields })
 
 -- what each case of `ReadLine` says
-abbrev pub readAnswer : ReadLine → Answer
+abbrev pub readAnswer : ReadLine → LineAnswer
 readAnswer (readLine.Line f) = record { number = 0; fields = f }
-readAnswer readLine.Refused = record { number = 18; fields = zeros }
+readAnswer readLine.Refused = record { number = 18; fields = noFields }
 
 -- a line can be written: the output has 25 bytes, and the fields can form one
 unfoldable pub canWrite : Fields → ℕ → Bool

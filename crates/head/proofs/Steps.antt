@@ -1,82 +1,96 @@
 -- The steps of these checks, for `search` at a function's returns. `r` is what a call gave; the code has matched on it.
-use mathlib.Core.Path.{_≡_, sym, _∙_}
+use mathlib.Core.Path.{_≡_, refl, sym, ap, _∙_}
 use mathlib.Core.List.{List}
+use mathlib.Core.Option.{Option, some, none}
 use Prim.Native.Nat.{ℕ, _≤_, _<_}
 use lib.ListN.{length, take}
+use Rattle.lists.specs.Answer.{Answers}
 use Rattle.lists.specs.declared.Found.{Found}
 use Rattle.lists.specs.declared.Found.the-variants.{At, Nothing}
-use Rattle.layout.specs.Versions.{versionOf, layoutOf}
+use Rattle.layout.specs.Versions.{versionOf, layoutOf, headEnd, knownSaid}
 use Rattle.layout.specs.declared.Version.{Version}
 use Rattle.layout.specs.declared.Layout.{Layout}
 use Rattle.layout.specs.declared.KnownVersion.{KnownVersion}
 use Rattle.layout.specs.declared.KnownVersion.the-variants.{Known, Unknown}
 use Rattle.incremental.specs.Decision.{accept, refuse, refusal}
-use Rattle.incremental.specs.Plan.{Plan, await, andThen, Answer, decided, wants, run}
-use Rattle.incremental.proofs.Plan.{onward, run-here, run-short, run-then, run-steps}
+use Rattle.incremental.specs.Plan.{Plan, Answer, decided, wants, andThen, given, done, run}
+use Rattle.incremental.specs.declared.Fault.{Fault}
+use Rattle.incremental.specs.declared.Fault.the-variants as fault
 use Rattle.sections.specs.declared.Head.{Head}
+use Rattle.sections.specs.Fields.{sizeFault, headOf, outsideFault, sharedFault}
+use Rattle.incremental.proofs.Plan.{onward, run-steps, reach-on, check-on, check-refused, decide-it, given-some, given-none, then-case}
 use Rattle.head.specs.declared.checks.Start.{Start}
 use Rattle.head.specs.declared.checks.StartAnswer.{StartAnswer}
 use Rattle.head.specs.declared.checks.Opening.{Opening}
 use Rattle.head.specs.declared.checks.OpenAnswer.{OpenAnswer}
-use Rattle.head.specs.Checks.{stop, row, byName, byVersion, signaturePlan, sectionPlan, startOf, openOf}
+use Rattle.head.specs.Checks.{version, units, startPlan, openPlan, startOf, openOf}
+use Rattle.head.specs.Private.{sectionPlan}
 
--- a check finds a fault, or none
-pub stop-hit : {A : Type 0} (n i : ℕ) (f r : Found) (later : Plan A) (p : List ℕ) → r ≡ f → r ≡ At i → decided (refuse (refusal n i)) ≡ run (stop n f later) p
-unfolding run
-stop-hit n i f r later p e q = rw (sym e ∙ q)
+-- 1: the number read is that of a known version, or not
+module _ {B : Type 0} (m n : ℕ) (r : KnownVersion) (g : Version → Plan B) (p : List ℕ) (k : n ≡ m) (e : Answers knownSaid (versionOf n) r) where
+  pub version-known : (v : Version) (x : Answer B) → r ≡ Known v → x ≡ run (g v) p → x ≡ run (andThen (given 1 (version (versionOf m))) g) p
+  version-known v x q h = rw (given-some 1 (version (versionOf m)) g p v (ap version (sym (e .answer ∙ ap versionOf k) ∙ q))) h
 
-pub stop-miss : {A : Type 0} (n : ℕ) (f r : Found) (later : Plan A) (p : List ℕ) (v : Answer A) → r ≡ f → r ≡ Nothing → v ≡ run later p → v ≡ run (stop n f later) p
-stop-miss n f r later p v e q h = rw (sym e ∙ q) h
-
--- a row of the table: `k` is its required length, and `r` the fault that a call found in the bytes up to it
-module _ {A : Type 0} (n k required : ℕ) (fault : List ℕ → Found) (later : Plan A) (p : List ℕ) (e : k ≡ required) where
-  pub row-short : length p < k → wants k ≡ run (row n required fault later) p
-  row-short h = rw (← e) (sym (run-short k (λ b. stop n (fault b) later) p h))
-
-  pub row-hit : (r : Found) (i : ℕ) → k ≤ length p → r ≡ fault (take k p) → r ≡ At i → decided (refuse (refusal n i)) ≡ run (row n required fault later) p
-  row-hit r i h q z = rw (← e, run-here k (λ b. stop n (fault b) later) p h) (stop-hit n i (fault (take k p)) r later p q z)
-
-  pub row-miss : (r : Found) (v : Answer A) → k ≤ length p → r ≡ fault (take k p) → r ≡ Nothing → v ≡ run later p → v ≡ run (row n required fault later) p
-  row-miss r v h q z w = rw (← e, run-here k (λ b. stop n (fault b) later) p h) (stop-miss n (fault (take k p)) r later p v q z w)
+  pub version-unknown : r ≡ Unknown → decided (refuse (refusal 1 0)) ≡ run (andThen (given 1 (version (versionOf m))) g) p
+  version-unknown q = sym (given-none 1 (version (versionOf m)) g p (ap version (sym (e .answer ∙ ap versionOf k) ∙ q)))
 
 -- 4: the name ends, or not
-pub name-hit : (v : Version) (f r : Found) (u : ℕ) (p : List ℕ) → r ≡ f → r ≡ At u → decided (accept (record { version = v; units = u })) ≡ run (byName v f) p
+module _ {B : Type 0} (f r : Found) (g : ℕ → Plan B) (p : List ℕ) (e : r ≡ f) where
+  pub name-ends : (n : ℕ) (x : Answer B) → r ≡ At n → x ≡ run (g n) p → x ≡ run (andThen (given 4 (units f)) g) p
+  name-ends n x q h = rw (given-some 4 (units f) g p n (ap units (sym e ∙ q))) h
+
+  pub name-endless : r ≡ Nothing → decided (refuse (refusal 4 0)) ≡ run (andThen (given 4 (units f)) g) p
+  name-endless q = sym (given-none 4 (units f) g p (ap units (sym e ∙ q)))
+
+-- the layout that a call gave is the version's
+pub size-laid : (v : Version) (l : Layout) (b : List ℕ) (r : Fault) → r ≡ sizeFault l b → l ≡ layoutOf v → r ≡ sizeFault (layoutOf v) b
+size-laid v l b r e q = rw (← q) e
+
+pub start-laid : (v : Version) (l : Layout) (n : ℕ) (p : List ℕ) → l ≡ layoutOf v
+    → _≡_ {A = Answer Start} (decided (accept (record { version = v; layout = l; «name_units» = n })))
+    (run (done (record { version = v; layout = layoutOf v; «name_units» = n })) p)
 unfolding run
-name-hit v f r u p e q = rw (sym e ∙ q)
+start-laid v l n p q = rw q
 
-pub name-miss : (v : Version) (f r : Found) (p : List ℕ) → r ≡ f → r ≡ Nothing → decided (refuse (refusal 4 0)) ≡ run (byName v f) p
-unfolding run
-name-miss v f r p e q = rw (sym e ∙ q)
+-- the answer that a refusing call made
+pub start-refused-is : (r x : StartAnswer) (v : Answer Start) → r ≡ x → startOf x ≡ v → startOf r ≡ v
+start-refused-is r x v e h = rw e h
 
--- 1: the version is known, or not
-pub version-hit : (m n : ℕ) (r : KnownVersion) (v : Version) (p : List ℕ) (x : Answer Start) → n ≡ m → r ≡ versionOf n → r ≡ Known v → x ≡ run (signaturePlan v) p → x ≡ run (byVersion (versionOf m)) p
-version-hit m n r v p x k e q h = rw (← k, sym e ∙ q) h
-
-pub version-miss : (m n : ℕ) (r : KnownVersion) (p : List ℕ) → n ≡ m → r ≡ versionOf n → r ≡ Unknown → decided (refuse (refusal 1 0)) ≡ run (byVersion (versionOf m)) p
-unfolding run
-version-miss m n r p k e q = rw (← k, sym e ∙ q)
-
--- the head is required: `l` is the layout that a call gave
-pub head-short : {A : Type 0} (v : Version) (l : Layout) (next : List ℕ → Plan A) (p : List ℕ) → l ≡ layoutOf v → length p < l .head → wants (l .head) ≡ run (await (layoutOf v .head) next) p
-head-short v l next p e h = rw (← e) (sym (run-short (l .head) next p h))
-
-pub head-here : {A : Type 0} (v : Version) (l : Layout) (next : List ℕ → Plan A) (p : List ℕ) (x : Answer A) → l ≡ layoutOf v → l .head ≤ length p → x ≡ run (next (take (l .head) p)) p → x ≡ run (await (layoutOf v .head) next) p
-head-here v l next p x e h q = rw (← e, run-here (l .head) next p h) q
-
--- the head that a call gave
-pub head-on : (s : Start) (h r : Head) (p : List ℕ) (v : Answer Opening) → r ≡ h → v ≡ run (sectionPlan s r) p → v ≡ run (sectionPlan s h) p
-head-on s h r p v e q = rw (← e) q
-
--- checks that follow others: `x` is the case of `r`
-then-case : {R A B : Type 0} (of : R → Answer A) (t : Plan A) (f : A → Plan B) (p : List ℕ) (r x : R) (v : Answer B) → of r ≡ run t p → r ≡ x → v ≡ onward (of x) (λ a. run (f a) p) → v ≡ run (andThen t f) p
-then-case of t f p r x v e q h = rw (run-then t f p, ← e, q) h
-
--- checks that follow 1 to 4
-pub start-then : {B : Type 0} (t : Plan Start) (f : Start → Plan B) (p : List ℕ) (r x : StartAnswer) (v : Answer B) → startOf r ≡ run t p → r ≡ x → v ≡ onward (startOf x) (λ s. run (f s) p) → v ≡ run (andThen t f) p
+-- checks that follow 1 to 4, and 1 to 6
+pub start-then : {B : Type 0} (t : Plan Start) (f : Start → Plan B) (p : List ℕ) (r x : StartAnswer) (v : Answer B) → startOf r ≡ run t p → r ≡ x
+    → v ≡ onward (startOf x) (λ s. run (f s) p) → v ≡ run (andThen t f) p
 start-then = then-case startOf
 
--- checks that follow 1 to 6
-pub open-then : {B : Type 0} (t : Plan Opening) (f : Opening → Plan B) (p : List ℕ) (r x : OpenAnswer) (v : Answer B) → openOf r ≡ run t p → r ≡ x → v ≡ onward (openOf x) (λ o. run (f o) p) → v ≡ run (andThen t f) p
+pub open-then : {B : Type 0} (t : Plan Opening) (f : Opening → Plan B) (p : List ℕ) (r x : OpenAnswer) (v : Answer B) → openOf r ≡ run t p → r ≡ x
+    → v ≡ onward (openOf x) (λ o. run (f o) p) → v ≡ run (andThen t f) p
 open-then = then-case openOf
 
-pub ruleset steps = (head-on, head-short, head-here, run-steps, stop-hit, stop-miss, name-hit, name-miss, version-hit, version-miss, start-then, open-then)
+pub ruleset steps = (size-laid, start-laid, run-steps, version-known, version-unknown, name-ends, name-endless, start-refused-is, start-then, open-then)
+
+-- checks 1 to 6 are 5 and 6 after 1 to 4
+pub by-sections : (p : List ℕ) (x : Answer Opening) → x ≡ run (andThen startPlan sectionPlan) p → x ≡ run openPlan p
+unfolding openPlan sectionPlan
+by-sections p x e = e
+
+-- 5 and 6 on the head `h` that the first H bytes give, as far as the code has come
+module _ (s : Start) (p : List ℕ) (h : Head) (k : headEnd (s .layout) ≤ length p) (e : h ≡ headOf (s .layout) (take (headEnd (s .layout)) p)) where
+  pub outside-refused : (r : Fault) (i : ℕ) → r ≡ outsideFault (s .layout) h → r ≡ fault.At i → decided (refuse (refusal 5 i)) ≡ run (sectionPlan s) p
+  unfolding sectionPlan
+  outside-refused r i f q = reach-on _ _ p _ k (rw (← e) (check-refused 5 (outsideFault (s .layout) h) _ p i r f q))
+
+  module _ (x : Fault) (inside : x ≡ outsideFault (s .layout) h) (none : x ≡ fault.Nowhere) where
+    pub shared-refused : (r : Fault) (i : ℕ) → r ≡ sharedFault h → r ≡ fault.At i → decided (refuse (refusal 6 i)) ≡ run (sectionPlan s) p
+    unfolding sectionPlan
+    shared-refused r i f q =
+        reach-on _ _ p _ k
+        (rw (← e) (check-on 5 (outsideFault (s .layout) h) _ p x _ inside none (check-refused 6 (sharedFault h) _ p i r f q)))
+
+    pub sections-pass : (r : Fault) → r ≡ sharedFault h → r ≡ fault.Nowhere
+        → _≡_ {A = Answer Opening} (decided (accept (record { version = s .version; layout = s .layout; «name_units» = s .«name_units»; head = h })))
+        (run (sectionPlan s) p)
+    unfolding sectionPlan
+    sections-pass r f q =
+        reach-on _ _ p _ k
+        (rw (← e)
+        (check-on 5 (outsideFault (s .layout) h) _ p x _ inside none
+        (check-on 6 (sharedFault h) _ p r _ f q (decide-it _ _ p refl))))

@@ -1,17 +1,17 @@
--- Checks 1 to 6 of document 01 in their order: number, required length, fault.
-use mathlib.Core.List.{List}
+-- Checks 1 to 6 of document 01's table in their order: required length (document 01: reach), number, fault.
+use mathlib.Core.Option.{Option, some, none}
 use Prim.Native.Nat.{ℕ}
 use Rattle.lists.specs.declared.Found.{Found}
 use Rattle.lists.specs.declared.Found.the-variants.{At, Nothing}
 use Rattle.little_endian.specs.Number.{le}
-use Rattle.layout.specs.Versions.{versionOf, layoutOf}
+use Rattle.layout.specs.Head.{versionAt}
+use Rattle.layout.specs.Versions.{versionOf, layoutOf, headEnd}
 use Rattle.layout.specs.declared.Version.{Version}
 use Rattle.layout.specs.declared.KnownVersion.{KnownVersion}
 use Rattle.layout.specs.declared.KnownVersion.the-variants.{Known, Unknown}
-use Rattle.incremental.specs.Decision.{accept, refuse, refusal}
-use Rattle.incremental.specs.Plan.{Plan, decide, await, andThen, Answer, decided, wants}
-use Rattle.sections.specs.Fields.{signatureFault, sizeFault, nameEnd, headOf, firstOutside, firstShared}
-use Rattle.sections.specs.declared.Head.{Head}
+use Rattle.incremental.specs.Decision.{accept, refuse}
+use Rattle.incremental.specs.Plan.{Plan, Answer, decided, wants, reach, check, given, done, _>>=_, _>>_}
+use Rattle.sections.specs.Fields.{signatureFault, sizeFault, nameEnd, headOf, outsideFault, sharedFault}
 use Rattle.head.specs.declared.checks.Start.{Start}
 use Rattle.head.specs.declared.checks.StartAnswer.{StartAnswer}
 use Rattle.head.specs.declared.checks.StartAnswer.the-variants as startAnswer
@@ -19,51 +19,37 @@ use Rattle.head.specs.declared.checks.Opening.{Opening}
 use Rattle.head.specs.declared.checks.OpenAnswer.{OpenAnswer}
 use Rattle.head.specs.declared.checks.OpenAnswer.the-variants as openAnswer
 
--- check n: a fault that was found is refused with its index, else the later checks follow
-abbrev pub stop : {A : Type 0} → ℕ → Found → Plan A → Plan A
-stop n (At i) later = decide (refuse (refusal n i))
-stop n Nothing later = later
+-- what checks 1 and 4 have to find: a version, the number of name units before the first zero
+abbrev pub version : KnownVersion → Option Version
+version (Known v) = some v
+version Unknown = none
 
--- a row of the table: number, required length (document 01: reach), what is at fault in the bytes up to it; then the later rows
-abbrev pub row : {A : Type 0} → ℕ → ℕ → (List ℕ → Found) → Plan A → Plan A
-row n required fault later = await required (λ b. stop n (fault b) later)
+abbrev pub units : Found → Option ℕ
+units (At n) = some n
+units Nothing = none
 
--- 4, refused where none of the 30 units is zero
-abbrev pub byName : Version → Found → Plan Start
-byName v (At units) = decide (accept (record { version = v; units = units }))
-byName v Nothing = decide (refuse (refusal 4 0))
-
-unfoldable pub namePlan : Version → Plan Start
-namePlan v = await 76 λ b. byName v (nameEnd b)
-
-unfoldable pub sizePlan : Version → Plan Start
-sizePlan v = row 3 16 (sizeFault v) (namePlan v)
-
-unfoldable pub signaturePlan : Version → Plan Start
-signaturePlan v = row 2 8 signatureFault (sizePlan v)
-
--- 1, refused where the version is not 17, 23 or 26
-abbrev pub byVersion : KnownVersion → Plan Start
-byVersion (Known v) = signaturePlan v
-byVersion Unknown = decide (refuse (refusal 1 0))
-
--- CHECKS 1 TO 4; they give the version, and the number of name units before the first zero
+-- CHECKS 1 TO 4
 unfoldable pub startPlan : Plan Start
-startPlan = await 4 λ b. byVersion (versionOf (le 4 b 0))
-
--- 5 and 6 on the sections
-unfoldable pub sectionPlan : Start → Head → Plan Opening
-sectionPlan s h =
-    stop 5 (firstOutside (s .version) h)
-    (stop 6 (firstShared h)
-    (decide (accept (record { version = s .version; units = s .units; head = h }))))
-
-unfoldable pub headPlan : Start → Plan Opening
-headPlan s = await (layoutOf (s .version) .head) λ b. sectionPlan s (headOf (s .version) b)
+startPlan = do
+  b ← reach 4
+  v ← given 1 (version (versionOf (le 4 b versionAt)))
+  b ← reach 8
+  check 2 (signatureFault b)
+  b ← reach 16
+  check 3 (sizeFault (layoutOf v) b)
+  b ← reach 76
+  n ← given 4 (units (nameEnd b))
+  done (record { version = v; layout = layoutOf v; «name_units» = n })
 
 -- CHECKS 1 TO 6; they give the sections too
 unfoldable pub openPlan : Plan Opening
-openPlan = andThen startPlan headPlan
+openPlan = do
+  s ← startPlan
+  b ← reach (headEnd (s .layout))
+  let h = headOf (s .layout) b
+  check 5 (outsideFault (s .layout) h)
+  check 6 (sharedFault h)
+  done (record { version = s .version; layout = s .layout; «name_units» = s .«name_units»; head = h })
 
 -- what each case of the answers says
 abbrev pub startOf : StartAnswer → Answer Start

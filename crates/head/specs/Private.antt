@@ -1,32 +1,48 @@
--- What checks 1 to 6 accept, in both directions, and what follows for the checks above them.
+-- What only private contracts need: checks 5 and 6 after the others, and what is known of bytes that checks 1 to 4, and 1 to 6, accept.
 use mathlib.Core.Path.{_≡_}
 use mathlib.Core.List.{List}
 use Prim.Native.Nat.{ℕ, _≤_}
 use lib.ListN.{length, take}
-use Rattle.lists.specs.declared.Found.the-variants.{At, Nothing}
+use Rattle.lists.specs.declared.Found.the-variants.{At}
 use Rattle.little_endian.specs.Number.{le}
-use Rattle.layout.specs.Versions.{versionOf, layoutOf, sizeLimit}
+use Rattle.layout.specs.Versions.{versionOf, layoutOf, headEnd, sizeLimit}
 use Rattle.layout.specs.declared.KnownVersion.the-variants.{Known}
+use Rattle.incremental.specs.Plan.{Plan, reach, check, done, _>>=_, _>>_}
+use Rattle.incremental.specs.declared.Fault.the-variants.{Nowhere}
 use Rattle.head.specs.declared.checks.Start.{Start}
 use Rattle.head.specs.declared.checks.Opening.{Opening}
-use Rattle.sections.specs.Fields.{signatureFault, declaredSize, nameEnd, headOf, firstOutside, firstShared}
+use Rattle.sections.specs.Fields.{signatureFault, declaredSize, nameEnd, headOf, outsideFault, sharedFault}
+
+-- checks 5 and 6, where 1 to 4 gave `s`
+unfoldable pub sectionPlan : Start → Plan Opening
+sectionPlan s = do
+  b ← reach (headEnd (s .layout))
+  let h = headOf (s .layout) b
+  check 5 (outsideFault (s .layout) h)
+  check 6 (sharedFault h)
+  done (record { version = s .version; layout = s .layout; «name_units» = s .«name_units»; head = h })
+
+-- what checks 1 to 4 gave, of what 1 to 6 gave
+abbrev pub startIn : Opening → Start
+startIn o = record { version = o .version; layout = o .layout; «name_units» = o .«name_units» }
 
 -- WHAT CHECKS 1 TO 4 ACCEPT
 pub record StartFacts (p : List ℕ) (s : Start) : Type 0 where
-  pub least : layoutOf (s .version) .head ≤ declaredSize p
+  pub laid : s .layout ≡ layoutOf (s .version)
+  pub least : headEnd (s .layout) ≤ declaredSize p
   pub most : declaredSize p ≤ sizeLimit
   pub known : versionOf (le 4 p 0) ≡ Known (s .version)
-  pub ended : nameEnd (take 76 p) ≡ At (s .units)
+  pub ended : nameEnd (take 76 p) ≡ At (s .«name_units»)
   pub named : 76 ≤ length p
-  pub signed : signatureFault p ≡ Nothing
+  pub signed : signatureFault p ≡ Nowhere
 
 -- WHAT CHECKS 1 TO 6 ACCEPT
 pub record OpenFacts (p : List ℕ) (o : Opening) : Type 0 where
-  pub start : StartFacts p (record { version = o .version; units = o .units })
-  pub whole : layoutOf (o .version) .head ≤ length p
-  pub fields : o .head ≡ headOf (o .version) (take (layoutOf (o .version) .head) p)
-  pub inside : firstOutside (o .version) (o .head) ≡ Nothing
-  pub apart : firstShared (o .head) ≡ Nothing
+  pub start : StartFacts p (startIn o)
+  pub whole : headEnd (o .layout) ≤ length p
+  pub fields : o .head ≡ headOf (o .layout) (take (headEnd (o .layout)) p)
+  pub inside : outsideFault (o .layout) (o .head) ≡ Nowhere
+  pub apart : sharedFault (o .head) ≡ Nowhere
   pub metrics : o .head .metrics .end ≤ declaredSize p
   pub trace : o .head .trace .end ≤ declaredSize p
   pub strings : o .head .strings .end ≤ declaredSize p

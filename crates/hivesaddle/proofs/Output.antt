@@ -18,7 +18,8 @@ use Rattle.catalogue.specs.Line.{reading, readAnswer, Writing, writtenNumber}
 use Rattle.hivesaddle.specs.Output.{overlay, LineWriting, verdictValues, ReadOut, Answered}
 
 -- a copy that stops at the shorter of the two
-pub overlay-done : (out values now : List ℕ) (i : ℕ) → i ≤ length out → i ≤ length values → (length out ≤ i) ⊎ (length values ≤ i) → now ≡ paste out 0 values i → now ≡ overlay out values
+pub overlay-done : (out values now : List ℕ) (i : ℕ) → i ≤ length out → i ≤ length values → (length out ≤ i) ⊎ (length values ≤ i)
+    → now ≡ paste out 0 values i → now ≡ overlay out values
 overlay-done out values now i a b o e =
     ⊎-elim
     (λ l.
@@ -26,7 +27,8 @@ overlay-done out values now i a b o e =
     e ∙ rw (q, drop-of-length-le out {i = 0 + length out} (omega arith), drop-of-length-le out {i = length values} (omega arith)))
     (λ l.
     let q : i ≡ length values = omega arith in
-    e ∙ rw (q, take-all (length values) values (omega arith), take-all (length out) values (omega arith)) (ap (λ (k : ℕ). values ++ drop k out) (zero-add (length values))))
+    e ∙ rw (q, take-all (length values) values (omega arith), take-all (length out) values (omega arith))
+    (ap (λ (k : ℕ). values ++ drop k out) (zero-add (length values))))
     o
 
 -- what reading a line gives, by the case that was found
@@ -36,7 +38,8 @@ read-is s r t e q = sym e ∙ ap readAnswer q
 pub writing-is : (f : Fields) (before after : List ℕ) (w : WrittenLine) (r : ℕ) → Writing f before w after → writtenNumber w ≡ r → LineWriting f before r after
 writing-is f before after w r h e = record { number = sym e ∙ h .number; output = h .output }
 
-pub read-out : (answer : Answer Acceptable) (m : ℕ) (v : Verdict) (code : ℕ) (buffer out out′ : List ℕ) → Reads answer m v buffer → code ≡ valuesOf v .kind → out′ ≡ overlay out (verdictValues (valuesOf v)) → ReadOut answer m code buffer out out′
+pub read-out : (answer : Answer Acceptable) (m : ℕ) (v : Verdict) (code : ℕ) (buffer out out′ : List ℕ) → Reads answer m v buffer
+    → code ≡ valuesOf v .kind → out′ ≡ overlay out (verdictValues (valuesOf v)) → ReadOut answer m code buffer out out′
 read-out answer m v code buffer out out′ r e q =
     record {
       kind = e ∙ ap (λ (x : Values). x .kind) (r .verdict);

@@ -7,6 +7,8 @@ use Rattle.lists.specs.Answer.{Said}
 use Rattle.lists.specs.Count.{pick}
 use Rattle.incremental.specs.Plan.{Answer}
 use Rattle.reader.specs.Verdict.{Acceptable, Values, answerValues, bufferAfter}
+use Rattle.reader.specs.declared.verdict.Acceptance.{Acceptance}
+use Rattle.reader.specs.Checks.{prefixAnswer, fileAnswer}
 use Rattle.catalogue.specs.declared.Fields.{Fields}
 use Rattle.catalogue.specs.Line.{canWrite, lineOf}
 
@@ -33,16 +35,20 @@ verdictValues v =
     ∷ v .index
     ∷ v .wanted
     ∷ v .fields .version
-    ∷ v .fields .size
-    ∷ v .fields .units
-    ∷ v .fields .hash
-    ∷ v .fields .time
-    ∷ v .fields .runs
-    ∷ v .fields .metrics
-    ∷ v .fields .trace
-    ∷ v .fields .volumes
-    ∷ v .fields .chains
+    ∷ v .fields .«declared_size»
+    ∷ v .fields .«name_units»
+    ∷ v .fields .«stored_hash»
+    ∷ v .fields .«run_time»
+    ∷ v .fields .«run_count»
+    ∷ v .fields .«metrics_count»
+    ∷ v .fields .«trace_count»
+    ∷ v .fields .«volume_count»
+    ∷ v .fields .«chain_count»
     ∷ []
+
+-- the values of a number, an index, the bytes wanted and a record
+abbrev pub valuesWith : ℕ → ℕ → ℕ → Acceptance → List ℕ
+valuesWith number index wanted a = verdictValues (record { kind = 0; number = number; index = index; wanted = wanted; fields = a })
 
 -- what a reader says over the C boundary: 0 accepted, 1 refused, 2 more bytes wanted; the values, and the working buffer afterwards
 pub record ReadOut (answer : Answer Acceptable) (m : ℕ) (code : ℕ) (buffer out out′ : List ℕ) : Type 0 where
@@ -50,7 +56,14 @@ pub record ReadOut (answer : Answer Acceptable) (m : ℕ) (code : ℕ) (buffer o
   pub places : buffer ≡ bufferAfter answer m
   pub values : out′ ≡ overlay out (verdictValues (answerValues answer))
 
--- ---- questions: 1 for yes, 0 for no, and the values, zeros where the answer is no
+-- what the two readers say of bytes `p` and a working buffer
+abbrev pub PrefixOut : List ℕ → List ℕ → ℕ → List ℕ → List ℕ → List ℕ → Type 0
+PrefixOut p before code buffer out out′ = ReadOut (prefixAnswer p (length before)) (length before) code buffer out out′
+
+abbrev pub FileOut : List ℕ → List ℕ → ℕ → List ℕ → List ℕ → List ℕ → Type 0
+FileOut p before code buffer out out′ = ReadOut (fileAnswer p (length before)) (length before) code buffer out out′
+
+-- ---- queries: 1 for yes, 0 for no, and the values, zeros where the answer is no
 pub record Answered (said : Said) (r : ℕ) (out out′ : List ℕ) : Type 0 where
   pub number : r ≡ said .number
   pub output : out′ ≡ overlay out (said .values)

@@ -3,12 +3,11 @@ ghost use mathlib.Core.Path.{_≡_};
 ghost use mathlib.Core.List.{[], _∷_};
 ghost use Rattle.path_hash.specs.Hash.{xp, vista, hash2008, units};
 ghost use Rattle.catalogue.specs.Line.{reading};
-ghost use lib.ListN.{length};
-ghost use Rattle.reader.specs.Verdict.{valuesOf, zeros};
-ghost use Rattle.reader.specs.Checks.{prefixAnswer, fileAnswer};
-ghost use Rattle.query.specs.Queries.{placeSaid, programPlace, entryPlace, volumeAsked, volumeList, volumeValues, volumeSaid, referenceAsked, referenceSaid, placesNeeded, placesSaid};
+ghost use Rattle.reader.specs.Verdict.{valuesOf, noRecord};
+ghost use Rattle.query.specs.Queries.{placeSaid, programPlace, entryPlace, volumeAsked, volumeList, volumeValues, volumeSaid};
+ghost use Rattle.query.specs.Queries.{referenceAsked, referenceSaid, placesNeeded, placesSaid};
 ghost use Rattle.path_search.specs.Search.{pathFound, pathSaid, reportNumber};
-ghost use Rattle.hivesaddle.specs.Output.{Answered, overlay, lineValues, fieldsOf, LineWriting, verdictValues, ReadOut};
+ghost use Rattle.hivesaddle.specs.Output.{Answered, overlay, lineValues, fieldsOf, LineWriting, verdictValues, valuesWith, PrefixOut, FileOut};
 use catalogue::Fields;
 use catalogue::ReadLine;
 use catalogue::WrittenLine;
@@ -28,14 +27,14 @@ use volumes::Reference;
 pub extern "C" fn hs_hash_xp(numbers: &[u32]) -> u32
     ensures { λ r. ⌜ r ≡ xp (now (numbers .entry)) ⌝ }
 {
-    path_hash::xp_hash(numbers)
+    path_hash::hash_xp(numbers)
 }
 
 #[no_mangle]
 pub extern "C" fn hs_hash_vista(numbers: &[u32]) -> u32
     ensures { λ r. ⌜ r ≡ vista (now (numbers .entry)) ⌝ }
 {
-    path_hash::vista_hash(numbers)
+    path_hash::hash_vista(numbers)
 }
 
 #[no_mangle]
@@ -49,14 +48,14 @@ pub extern "C" fn hs_hash_2008(numbers: &[u32]) -> u32
 pub extern "C" fn hs_hash_xp_units(text: &[u8]) -> u32
     ensures { λ r. ⌜ r ≡ xp (units (now (text .entry))) ⌝ }
 {
-    path_hash::xp_hash_units(text)
+    path_hash::hash_xp_units(text)
 }
 
 #[no_mangle]
 pub extern "C" fn hs_hash_vista_units(text: &[u8]) -> u32
     ensures { λ r. ⌜ r ≡ vista (units (now (text .entry))) ⌝ }
 {
-    path_hash::vista_hash_units(text)
+    path_hash::hash_vista_units(text)
 }
 
 #[no_mangle]
@@ -140,41 +139,41 @@ pub extern "C" fn hs_catalogue_write(
 }
 
 fn put_values(out: &mut [u64], number: u32, index: usize, wanted: usize, a: Acceptance)
-    ensures { λ _. ⌜ now (out .exit) ≡ overlay (now (out .entry)) (verdictValues (record { kind = 0; number = number; index = index; wanted = wanted; fields = a })) ⌝ }
+    ensures { λ _. ⌜ now (out .exit) ≡ overlay (now (out .entry)) (valuesWith number index wanted a) ⌝ }
 {
     let values = [
         number as u64,
         index as u64,
         wanted as u64,
         a.version as u64,
-        a.size as u64,
-        a.units as u64,
-        a.hash as u64,
-        a.time,
-        a.runs as u64,
-        a.metrics as u64,
-        a.trace as u64,
-        a.volumes as u64,
-        a.chains as u64,
+        a.declared_size as u64,
+        a.name_units as u64,
+        a.stored_hash as u64,
+        a.run_time,
+        a.run_count as u64,
+        a.metrics_count as u64,
+        a.trace_count as u64,
+        a.volume_count as u64,
+        a.chain_count as u64,
     ];
     put(out, &values);
 }
 
 // The record of an answer that is no acceptance.
 fn no_record() -> Acceptance
-    ensures { λ r. ⌜ r ≡ zeros ⌝ }
+    ensures { λ r. ⌜ r ≡ noRecord ⌝ }
 {
     Acceptance {
         version: 0,
-        size: 0,
-        units: 0,
-        hash: 0,
-        time: 0,
-        runs: 0,
-        metrics: 0,
-        trace: 0,
-        volumes: 0,
-        chains: 0,
+        declared_size: 0,
+        name_units: 0,
+        stored_hash: 0,
+        run_time: 0,
+        run_count: 0,
+        metrics_count: 0,
+        trace_count: 0,
+        volume_count: 0,
+        chain_count: 0,
     }
 }
 
@@ -201,7 +200,7 @@ fn put_verdict(v: Verdict, out: &mut [u64]) -> u32
 // The verdict on a prefix: 0 accepted, 1 refused, 2 more bytes wanted.
 #[no_mangle]
 pub extern "C" fn hs_read_prefix(file: &[u8], predecessors: &mut [u32], out: &mut [u64]) -> u32
-    ensures { λ r. ⌜ ReadOut (prefixAnswer (now (file .entry)) (length (now (predecessors .entry)))) (length (now (predecessors .entry))) r (now (predecessors .exit)) (now (out .entry)) (now (out .exit)) ⌝ }
+    ensures { λ r. ⌜ PrefixOut (now (file .entry)) (now (predecessors .entry)) r (now (predecessors .exit)) (now (out .entry)) (now (out .exit)) ⌝ }
 {
     let v = reader::read_prefix(file, predecessors);
     put_verdict(v, out)
@@ -210,7 +209,7 @@ pub extern "C" fn hs_read_prefix(file: &[u8], predecessors: &mut [u32], out: &mu
 // The verdict on a whole file.
 #[no_mangle]
 pub extern "C" fn hs_read_file(file: &[u8], predecessors: &mut [u32], out: &mut [u64]) -> u32
-    ensures { λ r. ⌜ ReadOut (fileAnswer (now (file .entry)) (length (now (predecessors .entry)))) (length (now (predecessors .entry))) r (now (predecessors .exit)) (now (out .entry)) (now (out .exit)) ⌝ }
+    ensures { λ r. ⌜ FileOut (now (file .entry)) (now (predecessors .entry)) r (now (predecessors .exit)) (now (out .entry)) (now (out .exit)) ⌝ }
 {
     let v = reader::read_file(file, predecessors);
     put_verdict(v, out)

@@ -2,6 +2,7 @@
 -- early stands, whatever its checks are.
 use mathlib.Core.Path.{_≡_, refl, ap, sym, _∙_}
 use mathlib.Core.List.{List}
+use mathlib.Core.Option.{Option, some, none}
 use mathlib.Core.Bool.{Bool, true, false}
 use Prim.Native.Nat.{ℕ, _<_, _≤_, min}
 use native.Mathlib.Omega.{arith}
@@ -11,9 +12,11 @@ use lib.ListN.{length, take, length-take}
 use lib.Seq.{take-take}
 use borrow.Author.Tests.{leb-true, leb-false, le-leb, lt-leb}
 use Rattle.lists.specs.Count.{pick}
-use Rattle.incremental.specs.Decision.{Decision, accept, refuse}
+use Rattle.incremental.specs.Decision.{Decision, accept, refuse, refusal}
 use Rattle.incremental.specs.declared.Refusal.{Refusal}
-use Rattle.incremental.specs.Plan.{Plan, decide, await, Answer, decided, wants, run, andThen, Stands}
+use Rattle.incremental.specs.declared.Fault.{Fault}
+use Rattle.incremental.specs.declared.Fault.the-variants.{At, Nowhere}
+use Rattle.incremental.specs.Plan.{Plan, decide, await, Answer, decided, wants, run, andThen, reach, check, given, Stands}
 
 -- the same of answers
 abbrev pub onward : {A B : Type 0} → Answer A → (A → Answer B) → Answer B
@@ -41,7 +44,8 @@ run-then (decide (accept a)) f p = refl
 run-then (decide (refuse r)) f p = refl
 run-then (await k next) f p = go (leb k (length p)) (run-then (next (take k p)) f p)
   where
-    go : (b : Bool) → run (andThen (next (take k p)) f) p ≡ onward (run (next (take k p)) p) (λ a. run (f a) p) → pick b (run (andThen (next (take k p)) f) p) (wants k) ≡ onward (pick b (run (next (take k p)) p) (wants k)) (λ a. run (f a) p)
+    go : (b : Bool) → run (andThen (next (take k p)) f) p ≡ onward (run (next (take k p)) p) (λ a. run (f a) p)
+        → pick b (run (andThen (next (take k p)) f) p) (wants k) ≡ onward (pick b (run (next (take k p)) p) (wants k)) (λ a. run (f a) p)
     go true ih = ih
     go false ih = refl
 
@@ -78,7 +82,8 @@ stands (decide d) p q b =
     record { kept = λ c e. e; longer = wants-more (decide d) p; again = λ k e f. wants-more (decide d) q k f; still = λ k e l. e }
 stands (await j next) p q b = go (leb j (length p)) refl (stands (next (take j p)) p q b)
   where
-    go : (t : Bool) → leb j (length p) ≡ t → Stands p q (run (next (take j p)) p) (run (next (take j p)) q) → Stands p q (run (await j next) p) (run (await j next) q)
+    go : (t : Bool) → leb j (length p) ≡ t → Stands p q (run (next (take j p)) p) (run (next (take j p)) q)
+        → Stands p q (run (await j next) p) (run (await j next) q)
     go true e ih =
         let h : j ≤ length p = leb-true _ _ e in
         rw (run-here j next p h, run-here j next q (le-trans h (b .shorter)), ← b .same j h) ih
@@ -101,10 +106,12 @@ pub decided-decide : {A : Type 0} (d : Decision A) (p : List ℕ) → Decided (r
 unfolding run
 decided-decide d p = record { never = λ k e. let z : _≡_ {A = ℕ} 0 1 = cc in omega arith }
 
-pub decided-await : {A : Type 0} (j : ℕ) (next : List ℕ → Plan A) (p : List ℕ) → j ≤ length p → Decided (run (next (take j p)) p) → Decided (run (await j next) p)
+pub decided-await : {A : Type 0} (j : ℕ) (next : List ℕ → Plan A) (p : List ℕ) → j ≤ length p → Decided (run (next (take j p)) p)
+    → Decided (run (await j next) p)
 decided-await j next p h d = rw (run-here j next p h) d
 
-pub decided-then : {A B : Type 0} (t : Plan A) (f : A → Plan B) (p : List ℕ) → Decided (run t p) → ((a : A) → run t p ≡ decided (accept a) → Decided (run (f a) p)) → Decided (run (andThen t f) p)
+pub decided-then : {A B : Type 0} (t : Plan A) (f : A → Plan B) (p : List ℕ) → Decided (run t p)
+    → ((a : A) → run t p ≡ decided (accept a) → Decided (run (f a) p)) → Decided (run (andThen t f) p)
 decided-then {A = A} t f p d h = rw (run-then t f p) (go (run t p) d h)
   where
     go : (x : Answer A) → Decided x → ((a : A) → x ≡ decided (accept a) → Decided (run (f a) p)) → Decided (onward x (λ a. run (f a) p))
@@ -124,14 +131,16 @@ pub holds-refuse : {A : Type 0} (P : A → Type 0) (r : Refusal) (p : List ℕ) 
 unfolding run
 holds-refuse P r p = record { holds = λ b e. let z : _≡_ {A = ℕ} 0 1 = cc in absurd (omega arith) }
 
-pub holds-await : {A : Type 0} (P : A → Type 0) (k : ℕ) (next : List ℕ → Plan A) (p : List ℕ) → (k ≤ length p → Holds P (run (next (take k p)) p)) → Holds P (run (await k next) p)
+pub holds-await : {A : Type 0} (P : A → Type 0) (k : ℕ) (next : List ℕ → Plan A) (p : List ℕ) → (k ≤ length p → Holds P (run (next (take k p)) p))
+    → Holds P (run (await k next) p)
 holds-await P k next p h = go (leb k (length p)) refl
   where
     go : (b : Bool) → leb k (length p) ≡ b → Holds P (run (await k next) p)
     go true e = rw (run-here k next p (leb-true _ _ e)) (h (leb-true _ _ e))
     go false e = rw (run-short k next p (leb-false _ _ e)) (record { holds = λ b q. let z : _≡_ {A = ℕ} 0 1 = cc in absurd (omega arith) })
 
-pub holds-then : {A B : Type 0} (P : B → Type 0) (t : Plan A) (f : A → Plan B) (p : List ℕ) → ((a : A) → run t p ≡ decided (accept a) → Holds P (run (f a) p)) → Holds P (run (andThen t f) p)
+pub holds-then : {A B : Type 0} (P : B → Type 0) (t : Plan A) (f : A → Plan B) (p : List ℕ)
+    → ((a : A) → run t p ≡ decided (accept a) → Holds P (run (f a) p)) → Holds P (run (andThen t f) p)
 holds-then {A = A} P t f p h = rw (run-then t f p) (go (run t p) h)
   where
     go : (x : Answer A) → ((a : A) → x ≡ decided (accept a) → Holds P (run (f a) p)) → Holds P (onward x (λ a. run (f a) p))
@@ -139,15 +148,112 @@ holds-then {A = A} P t f p h = rw (run-then t f p) (go (run t p) h)
     go (decided (refuse r)) h = record { holds = λ b q. let z : _≡_ {A = ℕ} 0 1 = cc in absurd (omega arith) }
     go (wants j) h = record { holds = λ b q. let z : _≡_ {A = ℕ} 0 1 = cc in absurd (omega arith) }
 
--- The steps of a run, for `search` at a function's returns: what the code has found picks the case
-pub await-short : {A : Type 0} (k : ℕ) (next : List ℕ → Plan A) (p : List ℕ) → length p < k → wants k ≡ run (await k next) p
-await-short k next p h = sym (run-short k next p h)
+-- plans one after another may be bracketed either way
+pub run-assoc : {A B C : Type 0} (t : Plan A) (f : A → Plan B) (g : B → Plan C) (p : List ℕ)
+    → run (andThen (andThen t f) g) p ≡ run (andThen t (λ a. andThen (f a) g)) p
+unfolding run andThen
+run-assoc (decide (accept a)) f g p = refl
+run-assoc (decide (refuse r)) f g p = refl
+run-assoc (await k next) f g p = ap (λ x. pick (leb k (length p)) x (wants k)) (run-assoc (next (take k p)) f g p)
 
-pub await-here : {A : Type 0} (k : ℕ) (next : List ℕ → Plan A) (p : List ℕ) (v : Answer A) → k ≤ length p → v ≡ run (next (take k p)) p → v ≡ run (await k next) p
-await-here k next p v h e = rw (run-here k next p h) e
+-- later plans that answer alike
+pub run-same : {A B : Type 0} (t : Plan A) (f g : A → Plan B) (p : List ℕ) → ((a : A) → run (f a) p ≡ run (g a) p)
+    → run (andThen t f) p ≡ run (andThen t g) p
+unfolding run andThen
+run-same (decide (accept a)) f g p h = h a
+run-same (decide (refuse r)) f g p h = refl
+run-same (await k next) f g p h = ap (λ x. pick (leb k (length p)) x (wants k)) (run-same (next (take k p)) f g p h)
 
+-- ---- the lines of a plan: what is reached, and what is checked there
+
+module _ {B : Type 0} (k : ℕ) (f : List ℕ → Plan B) (p : List ℕ) where
+  pub reach-here : k ≤ length p → run (andThen (reach k) f) p ≡ run (f (take k p)) p
+  unfolding reach andThen
+  reach-here h = run-here k f p h
+
+  pub reach-short : length p < k → run (andThen (reach k) f) p ≡ wants k
+  unfolding reach andThen
+  reach-short h = run-short k f p h
+
+  pub holds-reach : (P : B → Type 0) → (k ≤ length p → Holds P (run (f (take k p)) p)) → Holds P (run (andThen (reach k) f) p)
+  unfolding reach andThen
+  holds-reach P h = holds-await P k f p h
+
+  pub decided-reach : k ≤ length p → Decided (run (f (take k p)) p) → Decided (run (andThen (reach k) f) p)
+  decided-reach h d = rw (reach-here h) d
+
+  -- for `search` at a function's returns
+  pub reach-wants : length p < k → wants k ≡ run (andThen (reach k) f) p
+  reach-wants h = sym (reach-short h)
+
+  pub reach-on : (v : Answer B) → k ≤ length p → v ≡ run (f (take k p)) p → v ≡ run (andThen (reach k) f) p
+  reach-on v h e = rw (reach-here h) e
+
+module _ {B : Type 0} (n : ℕ) (f : Fault) (g : Unit → Plan B) (p : List ℕ) where
+  pub check-fault : (i : ℕ) → f ≡ At i → run (andThen (check n f) g) p ≡ decided (refuse (refusal n i))
+  unfolding check andThen run
+  check-fault i e = rw e
+
+  pub check-passed : f ≡ Nowhere → run (andThen (check n f) g) p ≡ run (g tt) p
+  unfolding check andThen run
+  check-passed e = rw e
+
+  -- for `search` at a function's returns: `r` is the fault that a call gave, on which the code has matched
+  pub check-refused : (i : ℕ) (r : Fault) → r ≡ f → r ≡ At i → decided (refuse (refusal n i)) ≡ run (andThen (check n f) g) p
+  check-refused i r e q = sym (check-fault i (sym e ∙ q))
+
+  pub check-on : (r : Fault) (v : Answer B) → r ≡ f → r ≡ Nowhere → v ≡ run (g tt) p → v ≡ run (andThen (check n f) g) p
+  check-on r v e q h = rw (check-passed (sym e ∙ q)) h
+
+pub holds-check : {B : Type 0} (P : B → Type 0) (n : ℕ) (f : Fault) (g : Unit → Plan B) (p : List ℕ)
+    → (f ≡ Nowhere → Holds P (run (g tt) p)) → Holds P (run (andThen (check n f) g) p)
+unfolding check andThen
+holds-check P n (At i) g p h = holds-refuse P (refusal n i) p
+holds-check P n Nowhere g p h = h refl
+
+pub decided-check : {B : Type 0} (n : ℕ) (f : Fault) (g : Unit → Plan B) (p : List ℕ)
+    → (f ≡ Nowhere → Decided (run (g tt) p)) → Decided (run (andThen (check n f) g) p)
+unfolding check andThen
+decided-check n (At i) g p h = decided-decide (refuse (refusal n i)) p
+decided-check n Nowhere g p h = h refl
+
+-- what has to be there is, or is not
+module _ {A B : Type 0} (n : ℕ) (o : Option A) (g : A → Plan B) (p : List ℕ) where
+  pub given-some : (a : A) → o ≡ some a → run (andThen (given n o) g) p ≡ run (g a) p
+  unfolding given andThen run
+  given-some a e = rw e
+
+  pub given-none : o ≡ none → run (andThen (given n o) g) p ≡ decided (refuse (refusal n 0))
+  unfolding given andThen run
+  given-none e = rw e
+
+  -- for `search` at a function's returns
+  pub given-refused : o ≡ none → decided (refuse (refusal n 0)) ≡ run (andThen (given n o) g) p
+  given-refused e = sym (given-none e)
+
+  pub given-on : (a : A) (v : Answer B) → o ≡ some a → v ≡ run (g a) p → v ≡ run (andThen (given n o) g) p
+  given-on a v e h = rw (given-some a e) h
+
+pub holds-given : {A B : Type 0} (P : B → Type 0) (n : ℕ) (o : Option A) (g : A → Plan B) (p : List ℕ)
+    → ((a : A) → o ≡ some a → Holds P (run (g a) p)) → Holds P (run (andThen (given n o) g) p)
+unfolding given andThen
+holds-given P n (some a) g p h = h a refl
+holds-given P n none g p h = holds-refuse P (refusal n 0) p
+
+pub decided-given : {A B : Type 0} (n : ℕ) (o : Option A) (g : A → Plan B) (p : List ℕ)
+    → ((a : A) → o ≡ some a → Decided (run (g a) p)) → Decided (run (andThen (given n o) g) p)
+unfolding given andThen
+decided-given n (some a) g p h = h a refl
+decided-given n none g p h = decided-decide (refuse (refusal n 0)) p
+
+-- a decision, as the last line
 pub decide-it : {A : Type 0} (d e : Decision A) (p : List ℕ) → d ≡ e → decided d ≡ run (decide e) p
 unfolding run
 decide-it d e p q = ap decided q
 
-pub ruleset run-steps = (await-short, await-here, decide-it)
+pub ruleset run-steps = (reach-wants, reach-on, check-refused, check-on, decide-it)
+
+-- plans that follow others: `r` is what a call for the first gave, and `x` its case
+pub then-case : {R A B : Type 0} (of : R → Answer A) (t : Plan A) (f : A → Plan B) (p : List ℕ) (r x : R) (v : Answer B)
+    → of r ≡ run t p → r ≡ x → v ≡ onward (of x) (λ a. run (f a) p) → v ≡ run (andThen t f) p
+then-case of t f p r x v e q h = rw (run-then t f p, ← e, q) h

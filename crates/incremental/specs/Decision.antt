@@ -1,10 +1,23 @@
--- What checks decide: an acceptance with what they found, or a refusal.
+-- What checks find and decide: a fault with its index, an acceptance or a refusal (document 01, "Refusal numbers and the order of checks").
+use mathlib.Core.Bool.{Bool}
 use Prim.Native.Nat.{ℕ}
+use Rattle.lists.specs.Count.{pick}
 use Rattle.lists.specs.declared.Found.{Found}
-use Rattle.lists.specs.declared.Found.the-variants.{At, Nothing}
+use Rattle.lists.specs.declared.Found.the-variants as found
+use Rattle.incremental.specs.declared.Fault.{Fault}
+use Rattle.incremental.specs.declared.Fault.the-variants.{At, Nowhere}
 use Rattle.incremental.specs.declared.Refusal.{Refusal}
 use Rattle.incremental.specs.declared.Checked.{Checked}
 use Rattle.incremental.specs.declared.Checked.the-variants.{Passed, Refused}
+
+-- a fault at an index, where the test holds
+abbrev pub faultAt : ℕ → Bool → Fault
+faultAt i test = pick test (At i) Nowhere
+
+-- the fault that a search found
+abbrev pub faultOf : Found → Fault
+faultOf (found.At i) = At i
+faultOf found.Nothing = Nowhere
 
 pub data Decision (A : Type 0) : Type 0 where
   accept : A → Decision A
@@ -14,10 +27,20 @@ pub data Decision (A : Type 0) : Type 0 where
 abbrev pub refusal : ℕ → ℕ → Refusal
 refusal n i = record { number = n; index = i }
 
--- check n: a fault that was found is refused with its index, else the later checks decide
-abbrev pub check : {A : Type 0} → ℕ → Found → Decision A → Decision A
-check n (At i) later = refuse (refusal n i)
-check n Nothing later = later
+-- CHECK n: a fault is refused with its index, and else nothing stands in the way
+abbrev pub check : ℕ → Fault → Decision Unit
+check n (At i) = refuse (refusal n i)
+check n Nowhere = accept tt
+
+-- one decision after another: the first that refuses answers
+infixl 10 _>>=_
+abbrev pub _>>=_ : {A B : Type 0} → Decision A → (A → Decision B) → Decision B
+_>>=_ (accept a) f = f a
+_>>=_ (refuse r) f = refuse r
+
+infixl 10 _>>_
+abbrev pub _>>_ : {A : Type 0} → Decision Unit → Decision A → Decision A
+_>>_ d later = d >>= λ _. later
 
 -- what each case of `Checked` says
 abbrev pub checkedOf : Checked → Decision Unit

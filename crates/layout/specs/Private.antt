@@ -1,17 +1,18 @@
--- Document 01's table of versions.
+-- What only private contracts need: facts that hold of every version's constants.
 use Prim.Native.Nat.{_+_, _≤_}
 use Rattle.layout.specs.declared.Layout.{Layout}
+use Rattle.layout.specs.Versions.{runTimeAt, runCountAt, headEnd, metricsEntry, nameOffsetAt, nameLengthAt, volumeEntry, traceEntry}
 
--- what holds of the constants of every version
-pub record Sound (l : Layout) : Type 0 where
-  pub fixed : 120 ≤ l .head
-  pub small : l .head ≤ 212
-  pub time : l .time + 8 ≤ l .head
-  pub runs : l .runs + 4 ≤ l .head
-  pub metric : l .metric ≤ 32
-  pub name : l .name + 4 ≤ l .metric
-  pub units : l .units + 4 ≤ l .metric
-  pub volume : l .volume ≤ 104
-  pub entry : 36 ≤ l .volume
-  pub link : l .link ≤ 12
-  pub next : 4 ≤ l .link
+pub record SoundLayout (l : Layout) : Type 0 where
+  -- the head's fields that every version has end by H
+  pub fixed : 120 ≤ headEnd l
+  pub small : headEnd l ≤ 212
+  pub run-time : runTimeAt l + 8 ≤ headEnd l
+  pub run-count : runCountAt l + 4 ≤ headEnd l
+  pub metrics-entry : metricsEntry l ≤ 32
+  pub name-offset : nameOffsetAt l + 4 ≤ metricsEntry l
+  pub name-length : nameLengthAt l + 4 ≤ metricsEntry l
+  pub volume-entry : volumeEntry l ≤ 104
+  pub volume-fields : 36 ≤ volumeEntry l
+  pub trace-entry : traceEntry l ≤ 12
+  pub next : 4 ≤ traceEntry l

@@ -1,4 +1,4 @@
--- Document 01's table of versions.
+-- Document 01's table of versions: every version has its own constants, kept together.
 use mathlib.Core.List.{[], _∷_}
 use Prim.Native.Nat.{ℕ}
 use lib.Dec.{eqb}
@@ -12,17 +12,51 @@ use Rattle.layout.specs.declared.KnownVersion.the-variants.{Known, Unkno
 
 -- the greatest declared size
 abbrev pub sizeLimit : ℕ
-sizeLimit = 16777215
+sizeLimit = 16_777_215
 
 -- one row: last run time | run count | H | metrics entry | name offset, length in it | volume entry | trace entry
 abbrev pub row : ℕ → ℕ → ℕ → ℕ → ℕ → ℕ → ℕ → ℕ → Layout
-row time runs head metric name units volume link =
-    record { time = time; runs = runs; head = head; metric = metric; name = name; units = units; volume = volume; link = link }
+row time runs head metrics offset length volume trace =
+    record {
+      «run_time_at» = time;
+      «run_count_at» = runs;
+      «head_end» = head;
+      «metrics_entry» = metrics;
+      «name_offset_at» = offset;
+      «name_length_at» = length;
+      «volume_entry» = volume;
+      «trace_entry» = trace;
+    }
 
 abbrev pub layoutOf : Version → Layout
 layoutOf V17 = row 120 144 148 20 8 12 40 12
 layoutOf V23 = row 128 152 156 32 12 16 104 12
 layoutOf V26 = row 128 208 212 32 12 16 104 12
+
+-- the columns by name; H is the end of the last field read
+abbrev pub runTimeAt : Layout → ℕ
+runTimeAt l = l .«run_time_at»
+
+abbrev pub runCountAt : Layout → ℕ
+runCountAt l = l .«run_count_at»
+
+abbrev pub headEnd : Layout → ℕ
+headEnd l = l .«head_end»
+
+abbrev pub metricsEntry : Layout → ℕ
+metricsEntry l = l .«metrics_entry»
+
+abbrev pub nameOffsetAt : Layout → ℕ
+nameOffsetAt l = l .«name_offset_at»
+
+abbrev pub nameLengthAt : Layout → ℕ
+nameLengthAt l = l .«name_length_at»
+
+abbrev pub volumeEntry : Layout → ℕ
+volumeEntry l = l .«volume_entry»
+
+abbrev pub traceEntry : Layout → ℕ
+traceEntry l = l .«trace_entry»
 
 -- the number that the file has for a version
 abbrev pub versionNumber : Version → ℕ

@@ -1,10 +1,45 @@
-// The constants of each format version, kept together.
+// Where a file keeps its fields: the head's, which every version has, and the constants of each version, kept together.
 ghost use mathlib.Core.Path.{_≡_};
 ghost use Rattle.lists.specs.Answer.{Answers};
 ghost use Rattle.layout.specs.Versions.{layoutOf, versionNumber, versionOf, knownSaid};
 
+// Offsets in the head.
+pub const VERSION_AT: usize = 0;
+
+pub const SIGNATURE_AT: usize = 4;
+
+pub const DECLARED_SIZE_AT: usize = 12;
+
+pub const PROGRAM_NAME_AT: usize = 16;
+
+pub const STORED_HASH_AT: usize = 76;
+
+pub const METRICS_OFFSET_AT: usize = 84;
+
+pub const METRICS_COUNT_AT: usize = 88;
+
+pub const TRACE_OFFSET_AT: usize = 92;
+
+pub const TRACE_COUNT_AT: usize = 96;
+
+pub const STRINGS_OFFSET_AT: usize = 100;
+
+pub const STRINGS_SIZE_AT: usize = 104;
+
+pub const VOLUMES_OFFSET_AT: usize = 108;
+
+pub const VOLUMES_COUNT_AT: usize = 112;
+
+pub const VOLUMES_SIZE_AT: usize = 116;
+
+// The units of the program name, its zero unit among them.
+pub const PROGRAM_NAME_UNITS: u32 = 30;
+
+// 53 43 43 41 as a number.
+pub const SIGNATURE: u32 = 0x41434353;
+
 // The greatest declared size.
-pub const SIZE_LIMIT: u32 = 16777215;
+pub const SIZE_LIMIT: u32 = 16_777_215;
 
 pub enum Version {
     V17,
@@ -18,55 +53,53 @@ pub enum KnownVersion {
     Unknown,
 }
 
-// Where a version keeps its fields, and how long its entries are, in bytes.
+// Where a version keeps its fields, and how long its entries are, in bytes. Each is a small number, so that no product of one with a
+// 32-bit count wraps.
 pub struct Layout {
-    // The offsets of the last run time and of the run count.
-    pub time: usize,
-    pub runs: usize,
+    pub run_time_at: u16,
+    pub run_count_at: u16,
     // Document 01: H, the end of the last field read.
-    pub head: usize,
-    // The size of a metrics entry, and in it the offsets of the name's offset and of its length.
-    pub metric: usize,
-    pub name: usize,
-    pub units: usize,
-    // The size of a volume entry.
-    pub volume: usize,
-    // The size of a trace entry.
-    pub link: usize,
+    pub head_end: u16,
+    // The size of a metrics entry, and in it the places of the name's offset and of its length.
+    pub metrics_entry: u16,
+    pub name_offset_at: u16,
+    pub name_length_at: u16,
+    pub volume_entry: u16,
+    pub trace_entry: u16,
 }
 
 impl Layout {
     pub const V17: Layout = Layout {
-        time: 120,
-        runs: 144,
-        head: 148,
-        metric: 20,
-        name: 8,
-        units: 12,
-        volume: 40,
-        link: 12,
+        run_time_at: 120,
+        run_count_at: 144,
+        head_end: 148,
+        metrics_entry: 20,
+        name_offset_at: 8,
+        name_length_at: 12,
+        volume_entry: 40,
+        trace_entry: 12,
     };
 
     pub const V23: Layout = Layout {
-        time: 128,
-        runs: 152,
-        head: 156,
-        metric: 32,
-        name: 12,
-        units: 16,
-        volume: 104,
-        link: 12,
+        run_time_at: 128,
+        run_count_at: 152,
+        head_end: 156,
+        metrics_entry: 32,
+        name_offset_at: 12,
+        name_length_at: 16,
+        volume_entry: 104,
+        trace_entry: 12,
     };
 
     pub const V26: Layout = Layout {
-        time: 128,
-        runs: 208,
-        head: 212,
-        metric: 32,
-        name: 12,
-        units: 16,
-        volume: 104,
-        link: 12,
+        run_time_at: 128,
+        run_count_at: 208,
+        head_end: 212,
+        metrics_entry: 32,
+        name_offset_at: 12,
+        name_length_at: 16,
+        volume_entry: 104,
+        trace_entry: 12,
     };
 
     pub fn of(version: Version) -> Layout

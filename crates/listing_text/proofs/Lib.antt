@@ -1,6 +1,3 @@
 pub mod Bounds
-pub mod Decimal
-pub mod Growth
 pub mod Lines
 pub mod Short
-pub mod Steps

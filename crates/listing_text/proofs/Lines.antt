@@ -1,123 +1,157 @@
 -- The lines of a listing, joined, and the answers that they list.
 use mathlib.Core.Path.{_≡_, refl, sym, ap, _∙_}
 use mathlib.Core.List.{List, [], _∷_, _++_, append-assoc}
-use Prim.Native.Nat.{ℕ, _≤_, _<_}
+use Prim.Native.Nat.{ℕ, zero, suc, _+_, _*_, _≤_, _<_}
+use native.Mathlib.Nat.{sub-zero}
+use native.Mathlib.Numerals.{add-one}
 use native.Mathlib.Omega.{arith}
 use borrow.Author.Tests.{lt-ltb, le-ltb}
 use lib.ListN.{length, take}
-use lib.Seq.{take-all}
+use lib.Dec.{ltb}
+use Rattle.lists.specs.Count.{pick}
+use Rattle.lists.specs.Table.{tabulate}
+use Rattle.little_endian.specs.Number.{le}
 use Rattle.trace.specs.Links.{filled}
 use Rattle.incremental.specs.Decision.{accept, refuse}
 use Rattle.incremental.specs.Plan.{Answer, decided, wants}
 use Rattle.incremental.specs.declared.Refusal.{Refusal}
-use Rattle.catalogue.specs.Hex.{hexDigits}
-use Rattle.reader.specs.Verdict.{Acceptable, Values, Reads, answerValues, acceptedValues, refusedValues, wantedValues, valuesOf}
+use Rattle.hex.specs.Hex.{hexDigits}
+use Rattle.reader.specs.Verdict.{Acceptable, Values, Reads, answerValues, acceptedValues, refusedValues, wantedValues, valuesOf, bufferAfter}
 use Rattle.reader.specs.Checks.{fileAnswer}
 use Rattle.reader.specs.declared.verdict.Acceptance.{Acceptance}
 use Rattle.reader.specs.declared.verdict.Verdict.{Verdict}
 use Rattle.reader.specs.declared.verdict.Verdict.the-variants.{Accepted, Refused, Wanted}
 use Rattle.path_search.specs.Search.{pathFound}
 use Rattle.path_search.specs.declared.PathAnswer.{PathAnswer}
-use Rattle.listing_text.specs.Decimal.{decimal}
-use Rattle.listing_text.specs.Listing.{line, version·word, name·word, hash·word, runs·word, files·word, chains·word, volumes·word, path·word, refused·word, too-long, shownName, pathText, acceptedText, refusedText, answerText, fileLimit, listing, room, textOf, Listed}
+use Rattle.text.specs.Decimal.{decimal}
+use Rattle.text.specs.Put.{Put}
+use Rattle.text.proofs.Growth.{put-none, put-then, put-whole}
+use Rattle.listing_text.specs.Listing.{line, version·word, name·word, hash·word, runs·word, files·word, chains·word, volumes·word}
+use Rattle.listing_text.specs.Listing.{path·word, refused·word, too-long, shownUnit, shownName, pathText, acceptedText, refusedText}
+use Rattle.listing_text.specs.Listing.{answerText, fileLimit, listing, room, Listed}
+use Rattle.listing_text.specs.Private.{countLines}
 use Rattle.listing_text.proofs.Bounds.{Bytes}
 use Rattle.listing_text.proofs.Short.{listing-short}
-use Rattle.listing_text.specs.Private.{Grown, Shows, countLines}
-use Rattle.listing_text.proofs.Growth.{grown-then, shows}
-use Rattle.listing_text.specs.declared.Text.{Text}
+
+-- ---- the units of the name
+-- the last entry of a list that is given by its entries
+tabulate-last : (n : ℕ) (f : ℕ → ℕ) → tabulate (suc n) f ≡ tabulate n f ++ (f n ∷ [])
+unfolding tabulate
+tabulate-last zero f = refl
+tabulate-last (suc n) f = ap (λ (l : List ℕ). f 0 ∷ l) (tabulate-last n (λ k. f (suc k)))
+
+pub name-start : (o : List ℕ) (at : ℕ) (p : List ℕ) → Put o at (shownName p 0) at o
+unfolding tabulate
+name-start o at p = put-none o at
+
+pub name-next : {o : List ℕ} {at : ℕ} (p : List ℕ) (k : ℕ) {r : ℕ} {m : List ℕ} {b q : ℕ} {n : List ℕ} → b ≡ shownUnit (le 2 p (16 + 2 * k))
+    → Put o at (shownName p k) r m → Put m r (b ∷ []) q n → Put o at (shownName p (k + 1)) q n
+name-next p k e g h = rw (add-one, tabulate-last, ← e) (put-then g h)
+
+pub name-end : {o : List ℕ} {at : ℕ} (p : List ℕ) {k units r : ℕ} {n : List ℕ} → k ≤ units → units ≤ k
+    → Put o at (shownName p k) r n → Put o at (shownName p units) r n
+name-end p {k} {units} l m g =
+    let e : k ≡ units = omega arith in
+    rw (← e) g
+
+-- ---- the lines
 
 -- a word, what it says, and the line feed
-pub line-of : (t u v r : Text) (word s : List ℕ) → Grown t word u → Grown u s v → Grown v (10 ∷ []) r → Grown t (line (word ++ s)) r
-line-of t u v r word s g h k = grown-then t v r _ _ (grown-then t u v _ _ g h) k
+pub line-of : {o : List ℕ} {at : ℕ} {word : List ℕ} {r : ℕ} {p s : List ℕ} {q : ℕ} {n : List ℕ} {e : ℕ} {m : List ℕ}
+    → Put o at word r p → Put p r s q n → Put n q (10 ∷ []) e m → Put o at (line (word ++ s)) e m
+line-of g h k = put-then (put-then g h) k
 
-pub count-lines : (t u v w r : Text) (a : Acceptance) → Grown t (line (runs·word ++ decimal (a .runs))) u
-    → Grown u (line (files·word ++ decimal (a .metrics))) v
-    → Grown v (line (chains·word ++ decimal (a .chains))) w
-    → Grown w (line (volumes·word ++ decimal (a .volumes))) r
-    → Grown t (countLines a) r
+pub count-lines : {o : List ℕ} {at r : ℕ} {p : List ℕ} {q : ℕ} {n : List ℕ} {e : ℕ} {m : List ℕ} {z : ℕ} {t : List ℕ} (a : Acceptance)
+    → Put o at (line (runs·word ++ decimal (a .«run_count»))) r p
+    → Put p r (line (files·word ++ decimal (a .«metrics_count»))) q n
+    → Put n q (line (chains·word ++ decimal (a .«chain_count»))) e m
+    → Put m e (line (volumes·word ++ decimal (a .«volume_count»))) z t
+    → Put o at (countLines a) z t
 unfolding countLines
-count-lines t u v w r a f g h k = grown-then t u r _ _ f (grown-then u v r _ _ g (grown-then v w r _ _ h k))
+count-lines a f g h k = put-then f (put-then g (put-then h k))
 
--- the eight lines: four before the counts and one after them
+-- the eight lines: three before the counts and one after them
 regroup : (a b c d e : List ℕ) → (a ++ (b ++ (c ++ d))) ++ e ≡ a ++ (b ++ (c ++ (d ++ e)))
 regroup a b c d e = simp append-assoc
 
-pub accepted-lines : (t u v w x r : Text) (a : Acceptance) (p : List ℕ) (found : PathAnswer) → textOf t ≡ []
-    → Grown t (line (version·word ++ decimal (a .version))) u
-    → Grown u (line (name·word ++ shownName p (a .units))) v
-    → Grown v (line (hash·word ++ hexDigits 8 (a .hash))) w
-    → Grown w (countLines a) x
-    → found ≡ pathFound p
-    → Grown x (line (path·word ++ pathText found)) r
-    → Shows (acceptedText a p) r
+pub accepted-lines : {o : List ℕ} {r : ℕ} {p : List ℕ} {q : ℕ} {n : List ℕ} {e : ℕ} {m : List ℕ} {y : ℕ} {u : List ℕ} {z : ℕ} {t : List ℕ}
+    (a : Acceptance) (file : List ℕ) {found : PathAnswer}
+    → Put o 0 (line (version·word ++ decimal (a .version))) r p
+    → Put p r (line (name·word ++ shownName file (a .«name_units»))) q n
+    → Put n q (line (hash·word ++ hexDigits 8 (a .«stored_hash»))) e m
+    → Put m e (countLines a) y u
+    → found ≡ pathFound file
+    → Put u y (line (path·word ++ pathText found)) z t
+    → Put o 0 (acceptedText a file) z t
 unfolding acceptedText countLines
-accepted-lines t u v w x r a p found e f g h k q l =
-    let n : Grown w (countLines a ++ line (path·word ++ pathText found)) r = grown-then w x r _ _ k l in
-    let m = rw (q, regroup (line (runs·word ++ decimal (a .runs))) _ _ _ _) at n in
-    shows t r _ e (grown-then t u r _ _ f (grown-then u v r _ _ g (grown-then v w r _ _ h m)))
+accepted-lines a file f g h k e l =
+    let m = rw (e, regroup (line (runs·word ++ decimal (a .«run_count»))) _ _ _ _) at (put-then k l) in
+    put-then f (put-then g (put-then h m))
 
 -- `refused`, number, blank, index
-pub refused-line : (t u v w x r : Text) (number index : ℕ) → textOf t ≡ []
-    → Grown t refused·word u
-    → Grown u (decimal number) v
-    → Grown v (32 ∷ []) w
-    → Grown w (decimal index) x
-    → Grown x (10 ∷ []) r
-    → Shows (refusedText number index) r
+pub refused-line : {o : List ℕ} {r : ℕ} {p : List ℕ} {q : ℕ} {n : List ℕ} {e : ℕ} {m : List ℕ} {y : ℕ} {u : List ℕ} {z : ℕ} {t : List ℕ}
+    (number index : ℕ)
+    → Put o 0 refused·word r p
+    → Put p r (decimal number) q n
+    → Put n q (32 ∷ []) e m
+    → Put m e (decimal index) y u
+    → Put u y (10 ∷ []) z t
+    → Put o 0 (refusedText number index) z t
 unfolding refusedText
-refused-line t u v w x r number index e f g h k l =
-    shows t r _ e (line-of t u x r _ _ f (grown-then u v x _ _ g (grown-then v w x _ _ h k)) l)
-
-pub too-long-line : (t u r : Text) → textOf t ≡ [] → Grown t too-long u → Grown u (10 ∷ []) r → Shows (line too-long) r
-too-long-line t u r e f g = shows t r _ e (grown-then t u r _ _ f g)
+refused-line number index f g h k l = line-of f (put-then g (put-then h k)) l
 
 -- ---- which listing it is
 module _ (p buffer : List ℕ) (h : Bytes p) where
-  -- a text that is the listing as far as there is room is the whole of it
-  whole-text : (t : Text) → textOf t ≡ take room (listing p (length buffer)) → textOf t ≡ listing p (length buffer)
-  whole-text t e = e ∙ take-all room (listing p (length buffer)) (listing-short p (length buffer) h)
+  -- where there is room for every listing, all of it stands in the output
+  whole-text : (o : List ℕ) (r : ℕ) (n : List ℕ) → Put o 0 (listing p (length buffer)) r n → room ≤ length o → take r n ≡ listing p (length buffer)
+  whole-text o r n t l =
+      ap (λ (k : ℕ). take k n) (sym (sub-zero r))
+      ∙ put-whole o 0 (listing p (length buffer)) r n t (omega arith) (omega (arith, listing-short p (length buffer) h))
 
-  pub listed-too-long : (t : Text) (after : List ℕ)
-      → fileLimit < length p
-      → after ≡ filled (length buffer)
-      → Shows (line too-long) t
-      → Listed p buffer t after
+  listed-text : (o : List ℕ) (r : ℕ) (after n : List ℕ) → Put o 0 (listing p (length buffer)) r n
+      → after ≡ pick (ltb fileLimit (length p)) (filled (length buffer)) (bufferAfter (fileAnswer p (length buffer)) (length buffer))
+      → Listed p buffer o r after n
+  listed-text o r after n t e = record { text = t; whole = whole-text o r n t; places = e }
+
+  pub listed-too-long : (o : List ℕ) (r : ℕ) (after n : List ℕ) → fileLimit < length p → after ≡ filled (length buffer)
+      → Put o 0 (line too-long) r n
+      → Listed p buffer o r after n
   unfolding listing
-  listed-too-long t after l e s =
-      record { sound = s .sound; text = whole-text t (rw (lt-ltb fileLimit (length p) l) (s .text)); places = rw (lt-ltb fileLimit (length p) l) e }
+  listed-too-long o r after n l e t =
+      let b = lt-ltb fileLimit (length p) l in
+      listed-text o r after n (rw b t) (rw b e)
 
-  module _ (l : length p ≤ fileLimit) (v : Verdict) (after : List ℕ) (r : Reads (fileAnswer p (length buffer)) (length buffer) v after) where
-    listed : (t : Text) → Shows (answerText (fileAnswer p (length buffer)) p) t → Listed p buffer t after
+  module _ (l : length p ≤ fileLimit) (v : Verdict) (after : List ℕ) (z : Reads (fileAnswer p (length buffer)) (length buffer) v after) where
+    listed : (o : List ℕ) (r : ℕ) (n : List ℕ) → Put o 0 (answerText (fileAnswer p (length buffer)) p) r n → Listed p buffer o r after n
     unfolding listing
-    listed t s = record { sound = s .sound; text = whole-text t (rw (le-ltb fileLimit (length p) l) (s .text)); places = rw (le-ltb fileLimit (length p) l) (r .buffer) }
+    listed o r n t =
+        let b = le-ltb fileLimit (length p) l in
+        listed-text o r after n (rw b t) (rw b (z .buffer))
 
     -- what the answer is by the verdict's values
     accepted-answer : (a : Acceptance) (x : Answer Acceptable) → acceptedValues a ≡ answerValues x → answerText x p ≡ acceptedText a p
     accepted-answer a (decided (accept y)) e = ap (λ (b : Acceptance). acceptedText b p) (sym (ap (λ (w : Values). w .fields) e))
-    accepted-answer a (decided (refuse q)) e = let z : _≡_ {A = ℕ} 0 1 = ap (λ (w : Values). w .kind) e in absurd (omega arith)
-    accepted-answer a (wants k) e = let z : _≡_ {A = ℕ} 0 2 = ap (λ (w : Values). w .kind) e in absurd (omega arith)
+    accepted-answer a (decided (refuse q)) e = let c : _≡_ {A = ℕ} 0 1 = ap (λ (w : Values). w .kind) e in absurd (omega arith)
+    accepted-answer a (wants k) e = let c : _≡_ {A = ℕ} 0 2 = ap (λ (w : Values). w .kind) e in absurd (omega arith)
 
-    refused-answer : (f : Refusal) (x : Answer Acceptable) → refusedValues (f .number) (f .index) ≡ answerValues x → answerText x p ≡ refusedText (f .number) (f .index)
-    refused-answer f (decided (accept y)) e = let z : _≡_ {A = ℕ} 1 0 = ap (λ (w : Values). w .kind) e in absurd (omega arith)
+    refused-answer : (f : Refusal) (x : Answer Acceptable) → refusedValues (f .number) (f .index) ≡ answerValues x
+        → answerText x p ≡ refusedText (f .number) (f .index)
+    refused-answer f (decided (accept y)) e = let c : _≡_ {A = ℕ} 1 0 = ap (λ (w : Values). w .kind) e in absurd (omega arith)
     refused-answer f (decided (refuse q)) e = rw (ap (λ (w : Values). w .number) e, ap (λ (w : Values). w .index) e)
-    refused-answer f (wants k) e = let z : _≡_ {A = ℕ} 1 2 = ap (λ (w : Values). w .kind) e in absurd (omega arith)
+    refused-answer f (wants k) e = let c : _≡_ {A = ℕ} 1 2 = ap (λ (w : Values). w .kind) e in absurd (omega arith)
 
     wanted-answer : (j : ℕ) (x : Answer Acceptable) → wantedValues j ≡ answerValues x → answerText x p ≡ []
-    wanted-answer j (decided (accept y)) e = let z : _≡_ {A = ℕ} 2 0 = ap (λ (w : Values). w .kind) e in absurd (omega arith)
-    wanted-answer j (decided (refuse q)) e = let z : _≡_ {A = ℕ} 2 1 = ap (λ (w : Values). w .kind) e in absurd (omega arith)
+    wanted-answer j (decided (accept y)) e = let c : _≡_ {A = ℕ} 2 0 = ap (λ (w : Values). w .kind) e in absurd (omega arith)
+    wanted-answer j (decided (refuse q)) e = let c : _≡_ {A = ℕ} 2 1 = ap (λ (w : Values). w .kind) e in absurd (omega arith)
     wanted-answer j (wants k) e = refl
 
-    pub listed-accepted : (t : Text) (a : Acceptance) → v ≡ Accepted a → Shows (acceptedText a p) t → Listed p buffer t after
-    listed-accepted t a q s =
-        let e = accepted-answer a (fileAnswer p (length buffer)) (ap valuesOf (sym q) ∙ r .verdict) in
-        listed t (rw e s)
+    pub listed-accepted : (o : List ℕ) (r : ℕ) (n : List ℕ) (a : Acceptance) → v ≡ Accepted a → Put o 0 (acceptedText a p) r n → Listed p buffer o r after n
+    listed-accepted o r n a q t = listed o r n (rw (accepted-answer a (fileAnswer p (length buffer)) (ap valuesOf (sym q) ∙ z .verdict)) t)
 
-    pub listed-refused : (t : Text) (f : Refusal) → v ≡ Refused f → Shows (refusedText (f .number) (f .index)) t → Listed p buffer t after
-    listed-refused t f q s =
-        let e = refused-answer f (fileAnswer p (length buffer)) (ap valuesOf (sym q) ∙ r .verdict) in
-        listed t (rw e s)
+    pub listed-refused : (o : List ℕ) (r : ℕ) (n : List ℕ) (f : Refusal) → v ≡ Refused f → Put o 0 (refusedText (f .number) (f .index)) r n
+        → Listed p buffer o r after n
+    listed-refused o r n f q t = listed o r n (rw (refused-answer f (fileAnswer p (length buffer)) (ap valuesOf (sym q) ∙ z .verdict)) t)
 
-    pub listed-wanted : (t : Text) (j : ℕ) → v ≡ Wanted j → Shows [] t → Listed p buffer t after
-    listed-wanted t j q s =
-        let e = wanted-answer j (fileAnswer p (length buffer)) (ap valuesOf (sym q) ∙ r .verdict) in
-        listed t (rw e s)
+    pub listed-wanted : (o : List ℕ) (j : ℕ) → v ≡ Wanted j → Listed p buffer o 0 after o
+    listed-wanted o j q =
+        listed o 0 o (rw (wanted-answer j (fileAnswer p (length buffer)) (ap valuesOf (sym q) ∙ z .verdict)) (put-none o 0))

@@ -2,9 +2,7 @@
 use mathlib.Core.Path.{_≡_, refl}
 use mathlib.Core.Bool.{Bool, true, false}
 use mathlib.Core.List.{List}
-use Prim.Native.Nat.{ℕ, zero, suc, _*_, _/_, _^_, _≤_, _<_}
-use native.Mathlib.Nat.{pow-suc, div-lt-iff-lt-mul}
-use native.Mathlib.Decide.{decLt}
+use Prim.Native.Nat.{ℕ, _^_, _≤_, _<_}
 use native.Mathlib.Omega.{arith}
 use lib.Dec.{ltb}
 use lib.ListN.{length, length-append}
@@ -12,7 +10,7 @@ use Rattle.lists.proofs.First.{first-at}
 use Rattle.lists.proofs.Table.{length-tabulate}
 use Rattle.lists.specs.declared.Found.{Found}
 use Rattle.lists.specs.declared.Found.the-variants.{At, Nothing}
-use Rattle.catalogue.proofs.Hex.{length-digits}
+use Rattle.hex.proofs.Hex.{length-digits}
 use Rattle.incremental.specs.Decision.{accept, refuse}
 use Rattle.incremental.specs.Plan.{Answer, decided, wants, run}
 use Rattle.incremental.specs.declared.Refusal.{Refusal}
@@ -29,21 +27,11 @@ use Rattle.path_search.specs.declared.Report.the-variants as report
 use Rattle.path_search.specs.declared.PathAnswer.the-variants as pathAnswer
 use Rattle.lists.specs.Count.{pick}
 use Rattle.sections.specs.Fields.{storedHash}
-use Rattle.listing_text.specs.Decimal.{decimal}
-use Rattle.listing_text.proofs.Decimal.{decimal-digit, decimal-more}
-use Rattle.listing_text.specs.Listing.{line, too-long, reportWord, pathText, acceptedText, refusedText, answerText, fileLimit, listing, room}
+use Rattle.text.specs.Decimal.{decimal}
+use Rattle.text.proofs.Decimal.{decimal-short}
+use Rattle.listing_text.specs.Listing.{line, too-long, reportWord, pathText, acceptedText, refusedText, answerText}
+use Rattle.listing_text.specs.Listing.{fileLimit, listing, room}
 use Rattle.listing_text.proofs.Bounds.{Bytes, SmallRefusal, SmallFields, Each, low-counts, small-answer}
-
--- a number below 10 ^ k has at most k digits
-decimal-short : (k n : ℕ) → n < 10 ^ suc k → length (decimal n) ≤ suc k
-decimal-short zero n l = rw (decimal-digit n (omega arith)) (omega arith)
-decimal-short (suc k) n l = go (decLt n 10) (decimal-short k (n / 10))
-  where
-    go : Dec (n < 10) → (n / 10 < 10 ^ suc k → length (decimal (n / 10)) ≤ suc k) → length (decimal n) ≤ suc (suc k)
-    go (yes m) ih = rw (decimal-digit n m) (omega arith)
-    go (no m) ih =
-        let h : n < 10 ^ suc k * 10 = rw (← pow-suc 10 (suc k)) l in
-        rw (decimal-more n (omega arith), length-append) (omega (arith, ih (div-lt-iff-lt-mul (omega arith) .1 h)))
 
 two-digits : (n : ℕ) → n < 100 → length (decimal n) ≤ 2
 two-digits n l = decimal-short 1 n l
@@ -81,10 +69,10 @@ module _ (p : List ℕ) (h : Bytes p) where
       (omega (
         arith,
         two-digits (a .version) (s .version),
-        ten-digits (a .runs) (s .runs),
-        ten-digits (a .metrics) (s .metrics),
-        ten-digits (a .chains) (s .chains),
-        ten-digits (a .volumes) (s .volumes),
+        ten-digits (a .«run_count») (s .runs),
+        ten-digits (a .«metrics_count») (s .metrics),
+        ten-digits (a .«chain_count») (s .chains),
+        ten-digits (a .«volume_count») (s .volumes),
         s .units,
         path-short,
       ))

@@ -1,24 +1,20 @@
-// What the listing program writes.
+// What the listing program writes, into a borrowed output.
 ghost use mathlib.Core.Path.{_≡_};
-ghost use mathlib.Core.List.{[], _∷_, _++_};
-ghost use Prim.Native.Nat.{_<_, _≤_};
-ghost use Rattle.catalogue.specs.Hex.{hexDigits};
-ghost use Rattle.listing_text.specs.Decimal.{decimal};
-ghost use Rattle.listing_text.specs.Listing.{textOf, Sound, line, name·word, hash·word, path·word, too-long, shownUnit, shownName, reportWord, pathText, acceptedText, refusedText, Listed};
-ghost use Rattle.listing_text.specs.Private.{Grown, Shows, countLines};
+ghost use mathlib.Core.List.{_++_};
+ghost use Prim.Native.Nat.{_≤_};
+ghost use Rattle.hex.specs.Hex.{hexDigits};
+ghost use Rattle.text.specs.Decimal.{decimal};
+ghost use Rattle.text.specs.Put.{Put};
+ghost use Rattle.listing_text.specs.Listing.{line, name·word, hash·word, path·word, too-long, shownUnit, shownName, reportWord, pathText};
+ghost use Rattle.listing_text.specs.Listing.{acceptedText, refusedText, Listed};
+ghost use Rattle.listing_text.specs.Private.{countLines};
 use path_search::PathAnswer;
 use path_search::Report;
 use reader::Acceptance;
 use reader::Verdict;
 
 // The longest file that is read.
-const FILE_LIMIT: usize = 49151;
-
-// A text of up to 256 bytes. The longest listing has fewer.
-pub struct Text {
-    pub bytes: [u8; 256],
-    pub len: usize,
-}
+const FILE_LIMIT: usize = 49_151;
 
 // A name unit as it is shown.
 fn shown_unit(u: u16) -> u8
@@ -33,197 +29,131 @@ fn shown_unit(u: u16) -> u8
     u as u8
 }
 
-impl Text {
-    fn empty() -> Text
-        ensures { λ r. ⌜ Sound r ⌝ }
-        ensures { λ r. ⌜ textOf r ≡ [] ⌝ }
-    {
-        Text {
-            bytes: [0u8; 256],
-            len: 0,
+// The units of the program name.
+fn put_name(out: &mut [u8], at: usize, file: &[u8], units: usize) -> usize
+    requires { ⌜ units ≤ 30 ⌝ }
+    ensures { λ r. ⌜ Put (now (out .entry)) at (shownName (now (file .entry)) units) r (now (out .exit)) ⌝ }
+{
+    let mut end = at;
+    let mut k = 0;
+    while k < units {
+        let u = little_endian::u16_at(file, layout::PROGRAM_NAME_AT + 2 * k);
+        end = text::put(out, end, shown_unit(u));
+        k += 1;
+    }
+    end
+}
+
+// A line of a word and a number.
+fn put_count(out: &mut [u8], at: usize, word: &[u8], n: u64) -> usize
+    ensures { λ r. ⌜ Put (now (out .entry)) at (line (now (word .entry) ++ decimal n)) r (now (out .exit)) ⌝ }
+{
+    let a = text::put_all(out, at, word);
+    let b = text::put_decimal(out, a, n);
+    text::put(out, b, 10)
+}
+
+fn put_name_line(out: &mut [u8], at: usize, file: &[u8], units: usize) -> usize
+    requires { ⌜ units ≤ 30 ⌝ }
+    ensures { λ r. ⌜ Put (now (out .entry)) at (line (name·word ++ shownName (now (file .entry)) units)) r (now (out .exit)) ⌝ }
+{
+    let a = text::put_all(out, at, b"name ");
+    let b = put_name(out, a, file, units);
+    text::put(out, b, 10)
+}
+
+fn put_hash_line(out: &mut [u8], at: usize, hash: u32) -> usize
+    ensures { λ r. ⌜ Put (now (out .entry)) at (line (hash·word ++ hexDigits 8 hash)) r (now (out .exit)) ⌝ }
+{
+    let a = text::put_all(out, at, b"hash ");
+    let b = text::put_hex(out, a, 8, hash as u64);
+    text::put(out, b, 10)
+}
+
+// For version 23, which of the two hashes matches.
+fn put_report(out: &mut [u8], at: usize, report: Report) -> usize
+    ensures { λ r. ⌜ Put (now (out .entry)) at (reportWord report) r (now (out .exit)) ⌝ }
+{
+    match report {
+        Report::Silent => at,
+        Report::Vista => text::put_all(out, at, b" vista"),
+        Report::Hash2008 => text::put_all(out, at, b" 2008"),
+        Report::Both => text::put_all(out, at, b" both"),
+    }
+}
+
+fn put_path(out: &mut [u8], at: usize, found: PathAnswer) -> usize
+    ensures { λ r. ⌜ Put (now (out .entry)) at (pathText found) r (now (out .exit)) ⌝ }
+{
+    match found {
+        PathAnswer::Entry { index, report } => {
+            let end = text::put_decimal(out, at, index as u64);
+            put_report(out, end, report)
         }
+        PathAnswer::NoPath => text::put_all(out, at, b"none"),
     }
+}
 
-    // One byte more. A full text stays as it is.
-    fn push(self, b: u8) -> Text
-        requires { ⌜ Sound self ⌝ }
-        ensures { λ r. ⌜ Grown self (b ∷ []) r ⌝ }
-    {
-        let at = self.len;
-        if 256 <= at {
-            return self;
-        }
-        let mut bytes = self.bytes;
-        bytes[at] = b;
-        Text {
-            bytes: bytes,
-            len: at + 1,
-        }
-    }
+fn put_path_line(out: &mut [u8], at: usize, found: PathAnswer) -> usize
+    ensures { λ r. ⌜ Put (now (out .entry)) at (line (path·word ++ pathText found)) r (now (out .exit)) ⌝ }
+{
+    let a = text::put_all(out, at, b"path ");
+    let b = put_path(out, a, found);
+    text::put(out, b, 10)
+}
 
-    fn push_all(self, s: &[u8]) -> Text
-        requires { ⌜ Sound self ⌝ }
-        ensures { λ r. ⌜ Grown self (now (s .entry)) r ⌝ }
-    {
-        let mut text = self;
-        let mut i = 0;
-        while i < s.len() {
-            text = text.push(s[i]);
-            i += 1;
-        }
-        text
-    }
-
-    fn push_decimal(self, n: u64) -> Text
-        requires { ⌜ Sound self ⌝ }
-        ensures { λ r. ⌜ Grown self (decimal n) r ⌝ }
-    {
-        let digit = 48 + (n % 10) as u8;
-        if n < 10 {
-            return self.push(digit);
-        }
-        self.push_decimal(n / 10).push(digit)
-    }
-
-    // The lowest digits of a number, the most significant first.
-    fn push_hex(self, width: usize, x: u32) -> Text
-        requires { ⌜ Sound self ⌝ }
-        ensures { λ r. ⌜ Grown self (hexDigits width x) r ⌝ }
-    {
-        let mut text = self;
-        let mut k = 0;
-        while k < width {
-            text = text.push(catalogue::hex_digit(x, width - 1 - k));
-            k += 1;
-        }
-        text
-    }
-
-    // The units of the program name.
-    fn push_name(self, file: &[u8], units: usize) -> Text
-        requires { ⌜ Sound self ⌝ }
-        requires { ⌜ units ≤ 30 ⌝ }
-        ensures { λ r. ⌜ Grown self (shownName (now (file .entry)) units) r ⌝ }
-    {
-        let mut text = self;
-        let mut k = 0;
-        while k < units {
-            let u = little_endian::u16_at(file, 16 + 2 * k);
-            text = text.push(shown_unit(u));
-            k += 1;
-        }
-        text
-    }
-
-    // A line of a word and a number.
-    fn push_count(self, word: &[u8], n: u64) -> Text
-        requires { ⌜ Sound self ⌝ }
-        ensures { λ r. ⌜ Grown self (line (now (word .entry) ++ decimal n)) r ⌝ }
-    {
-        self.push_all(word).push_decimal(n).push(10)
-    }
-
-    fn push_name_line(self, file: &[u8], units: usize) -> Text
-        requires { ⌜ Sound self ⌝ }
-        requires { ⌜ units ≤ 30 ⌝ }
-        ensures { λ r. ⌜ Grown self (line (name·word ++ shownName (now (file .entry)) units)) r ⌝ }
-    {
-        self.push_all(b"name ").push_name(file, units).push(10)
-    }
-
-    fn push_hash_line(self, hash: u32) -> Text
-        requires { ⌜ Sound self ⌝ }
-        ensures { λ r. ⌜ Grown self (line (hash·word ++ hexDigits 8 hash)) r ⌝ }
-    {
-        self.push_all(b"hash ").push_hex(8, hash).push(10)
-    }
-
-    // For version 23, which of the two hashes matches.
-    fn push_report(self, report: Report) -> Text
-        requires { ⌜ Sound self ⌝ }
-        ensures { λ r. ⌜ Grown self (reportWord report) r ⌝ }
-    {
-        match report {
-            Report::Silent => self,
-            Report::Vista => self.push_all(b" vista"),
-            Report::Hash2008 => self.push_all(b" 2008"),
-            Report::Both => self.push_all(b" both"),
-        }
-    }
-
-    fn push_path(self, found: PathAnswer) -> Text
-        requires { ⌜ Sound self ⌝ }
-        ensures { λ r. ⌜ Grown self (pathText found) r ⌝ }
-    {
-        match found {
-            PathAnswer::Entry { index, report } => {
-                self.push_decimal(index as u64).push_report(report)
-            }
-            PathAnswer::NoPath => self.push_all(b"none"),
-        }
-    }
-
-    fn push_path_line(self, found: PathAnswer) -> Text
-        requires { ⌜ Sound self ⌝ }
-        ensures { λ r. ⌜ Grown self (line (path·word ++ pathText found)) r ⌝ }
-    {
-        self.push_all(b"path ").push_path(found).push(10)
-    }
-
-    // The four counts.
-    fn push_counts(self, a: Acceptance) -> Text
-        requires { ⌜ Sound self ⌝ }
-        ensures { λ r. ⌜ Grown self (countLines a) r ⌝ }
-    {
-        self.push_count(b"runs ", a.runs as u64)
-            .push_count(b"files ", a.metrics as u64)
-            .push_count(b"chains ", a.chains as u64)
-            .push_count(b"volumes ", a.volumes as u64)
-    }
+// The four counts.
+fn put_counts(out: &mut [u8], at: usize, a: Acceptance) -> usize
+    ensures { λ r. ⌜ Put (now (out .entry)) at (countLines a) r (now (out .exit)) ⌝ }
+{
+    let runs = put_count(out, at, b"runs ", a.run_count as u64);
+    let files = put_count(out, runs, b"files ", a.metrics_count as u64);
+    let chains = put_count(out, files, b"chains ", a.chain_count as u64);
+    put_count(out, chains, b"volumes ", a.volume_count as u64)
 }
 
 // The listing of a file that is accepted.
-fn accepted_text(file: &[u8], a: Acceptance) -> Text
-    requires { ⌜ a .units ≤ 30 ⌝ }
-    ensures { λ r. ⌜ Shows (acceptedText a (now (file .entry))) r ⌝ }
+fn put_accepted(out: &mut [u8], file: &[u8], a: Acceptance) -> usize
+    requires { ⌜ a .«name_units» ≤ 30 ⌝ }
+    ensures { λ r. ⌜ Put (now (out .entry)) 0 (acceptedText a (now (file .entry))) r (now (out .exit)) ⌝ }
 {
-    Text::empty()
-        .push_count(b"version ", a.version as u64)
-        .push_name_line(file, a.units)
-        .push_hash_line(a.hash)
-        .push_counts(a)
-        .push_path_line(path_search::find_path(file))
+    let version = put_count(out, 0, b"version ", a.version as u64);
+    let name = put_name_line(out, version, file, a.name_units);
+    let hash = put_hash_line(out, name, a.stored_hash);
+    let counts = put_counts(out, hash, a);
+    put_path_line(out, counts, path_search::find_path(file))
 }
 
-fn refused_text(number: u32, index: usize) -> Text
-    ensures { λ r. ⌜ Shows (refusedText number index) r ⌝ }
+fn put_refused(out: &mut [u8], number: u32, index: usize) -> usize
+    ensures { λ r. ⌜ Put (now (out .entry)) 0 (refusedText number index) r (now (out .exit)) ⌝ }
 {
-    Text::empty()
-        .push_all(b"refused ")
-        .push_decimal(number as u64)
-        .push(32)
-        .push_decimal(index as u64)
-        .push(10)
+    let a = text::put_all(out, 0, b"refused ");
+    let b = text::put_decimal(out, a, number as u64);
+    let c = text::put(out, b, 32);
+    let d = text::put_decimal(out, c, index as u64);
+    text::put(out, d, 10)
 }
 
-fn too_long_text() -> Text
-    ensures { λ r. ⌜ Shows (line too-long) r ⌝ }
+fn put_too_long(out: &mut [u8]) -> usize
+    ensures { λ r. ⌜ Put (now (out .entry)) 0 (line too-long) r (now (out .exit)) ⌝ }
 {
-    Text::empty().push_all(b"too long").push(10)
+    let a = text::put_all(out, 0, b"too long");
+    text::put(out, a, 10)
 }
 
-// The listing of a file that has been read, up to the limit of the program's buffer. The working buffer may hold anything before
-// and holds what the whole-file reader leaves, or is filled where the file is too long.
-pub fn list(file: &[u8], predecessors: &mut [u32]) -> Text
-    ensures { λ r. ⌜ Listed (now (file .entry)) (now (predecessors .entry)) r (now (predecessors .exit)) ⌝ }
+// The listing of a file that has been read, up to the limit of the program's buffer, into the output from its start: the number of
+// bytes written. In 256 bytes every listing has room; of a smaller output as many bytes are written as fit. The working buffer may
+// hold anything before and holds what the whole-file reader leaves, or is filled where the file is too long.
+pub fn list(file: &[u8], predecessors: &mut [u32], out: &mut [u8]) -> usize
+    ensures { λ r. ⌜ Listed (now (file .entry)) (now (predecessors .entry)) (now (out .entry)) r (now (predecessors .exit)) (now (out .exit)) ⌝ }
 {
     if FILE_LIMIT < file.len() {
         trace::fill(predecessors);
-        return too_long_text();
+        return put_too_long(out);
     }
     match reader::read_file(file, predecessors) {
-        Verdict::Accepted(a) => accepted_text(file, a),
-        Verdict::Refused(r) => refused_text(r.number, r.index),
-        Verdict::Wanted(_) => Text::empty(),
+        Verdict::Accepted(a) => put_accepted(out, file, a),
+        Verdict::Refused(r) => put_refused(out, r.number, r.index),
+        Verdict::Wanted(_) => 0,
     }
 }

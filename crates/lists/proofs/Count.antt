@@ -18,7 +18,9 @@ some-yes p (suc n) k l e = go (p n) refl (some-yes p n k)
   where
     go : (b : Bool) → p n ≡ b → (k < n → p k ≡ true → some p n ≡ true) → elim b as (λ _. Bool) [ true ↦ true | false ↦ some p n ] ≡ true
     go true q ih = refl
-    go false q ih = ⊎-elim (λ j. let z : _≡_ {A = Bool} true false = sym e ∙ ap p j ∙ q in absurd (true-false z)) (λ h. ih h e) (eq-or-lt-of-le (le-of-suc-le-suc l))
+    go false q ih =
+        ⊎-elim (λ j. let z : _≡_ {A = Bool} true false = sym e ∙ ap p j ∙ q in absurd (true-false z)) (λ h. ih h e)
+        (eq-or-lt-of-le (le-of-suc-le-suc l))
 
 pub some-no : (p : ℕ → Bool) (n : ℕ) → ((k : ℕ) → k < n → p k ≡ false) → some p n ≡ false
 unfolding some

@@ -44,7 +44,8 @@ unfolding firstFrom
 first-clear test zero i e k l = absurd (omega arith)
 first-clear test (suc n) i e k l = go (test i) refl k l (first-clear test n (suc i))
   where
-    go : (b : Bool) → test i ≡ b → (k : ℕ) → k < suc n → (firstFrom test n (suc i) ≡ Nothing → (k : ℕ) → k < n → test (suc i + k) ≡ false) → test (i + k) ≡ false
+    go : (b : Bool) → test i ≡ b → (k : ℕ) → k < suc n → (firstFrom test n (suc i) ≡ Nothing → (k : ℕ) → k < n → test (suc i + k) ≡ false)
+        → test (i + k) ≡ false
     go true q k l ih = let z : pick (test i) (At i) (firstFrom test n (suc i)) ≡ Nothing = e in let w : At i ≡ Nothing = rw q at z in cc
     go false q zero l ih = rw (add-zero i) q
     go false q (suc k) l ih =

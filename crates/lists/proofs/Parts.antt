@@ -32,7 +32,8 @@ drop-take (suc a) n (x ∷ l) = rw suc-add (drop-take a n l)
 pub part-part : (b : List ℕ) (start size at len : ℕ) → at + len ≤ size → take len (drop at (take size (drop start b))) ≡ take len (drop (start + at) b)
 part-part b start size at len h =
     let e : size ≡ at + (size - at) = omega arith in
-    let d : drop at (take size (drop start b)) ≡ take (size - at) (drop at (drop start b)) = ap (λ (n : ℕ). drop at (take n (drop start b))) e ∙ drop-take at (size - at) (drop start b) in
+    let d : drop at (take size (drop start b)) ≡ take (size - at) (drop at (drop start b)) =
+    ap (λ (n : ℕ). drop at (take n (drop start b))) e ∙ drop-take at (size - at) (drop start b) in
     rw (d, drop-drop at start b) (take-take len (size - at) (drop (start + at) b) (omega arith))
 
 -- what meets the promise for one offset that the slice reaches meets it for no other, whatever bytes lie there
@@ -49,9 +50,14 @@ one-place s r a b m n h l p q =
 module _ (s r : RefT (List ℕ)) (at len : ℕ) (block : r .ptr .0 ≡ s .ptr .0) where
   pub is-part-none : length (now s) < at → now r ≡ [] → r .ptr .1 ≡ s .ptr .1 → IsPart s at len r
   is-part-none h e o =
-      record { contents = e ∙ part-none (now s) at len (omega arith); allocation = block; offset = o ∙ rw (lt-leb at (length (now s)) h) (sym (add-zero (s .ptr .1))) }
+      record {
+        contents = e ∙ part-none (now s) at len (omega arith);
+        allocation = block;
+        offset = o ∙ rw (lt-leb at (length (now s)) h) (sym (add-zero (s .ptr .1)));
+      }
 
-  pub is-part-rest : at ≤ length (now s) → length (now s) - at ≤ len → now r ≡ take (length (now s) - at) (drop at (now s)) → r .ptr .1 ≡ s .ptr .1 + at → IsPart s at len r
+  pub is-part-rest : at ≤ length (now s) → length (now s) - at ≤ len → now r ≡ take (length (now s) - at) (drop at (now s))
+      → r .ptr .1 ≡ s .ptr .1 + at → IsPart s at len r
   is-part-rest h l e o =
       record { contents = e ∙ part-rest (now s) at len l; allocation = block; offset = o ∙ rw (le-leb at (length (now s)) h) }
 

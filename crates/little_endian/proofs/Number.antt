@@ -29,7 +29,8 @@ unfolding le
 le-ext zero s t a b h = refl
 le-ext (suc w) s t a b h =
     let x : getD s a 0 ≡ getD t b 0 = simp add-zero at (h 0 (omega arith)) in
-    let y = le-ext w s t (a + 1) (b + 1) (λ i l. ap (λ (k : ℕ). getD s k 0) (omega arith) ∙ h (suc i) (omega arith) ∙ ap (λ (k : ℕ). getD t k 0) (omega arith)) in
+    let y = le-ext w s t (a + 1) (b + 1)
+    (λ i l. ap (λ (k : ℕ). getD s k 0) (omega arith) ∙ h (suc i) (omega arith) ∙ ap (λ (k : ℕ). getD t k 0) (omega arith)) in
     rw (x, y)
 
 -- past the end there is nothing

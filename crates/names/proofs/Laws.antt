@@ -4,21 +4,15 @@ use mathlib.Core.Bool.{Bool, true, false, not, _&&_, _||_}
 use mathlib.Core.List.{List}
 use mathlib.Core.Logic.{_↔_}
 use Prim.Native.Nat.{ℕ, _+_, _*_, _^_, _-_, _≤_, _<_}
-use native.Mathlib.Nat.{mul-le-mul-left}
 use native.Mathlib.Omega.{arith}
 use lib.Dec.{eqb, ltb}
 use lib.ListN.{length, getD}
 use borrow.Author.Tests.{leb-true, le-leb, ltb-true, ltb-false, eqb-true, eqb-false, eq-eqb, ne-eqb}
 use Rattle.lists.specs.Count.{some}
 use Rattle.lists.proofs.Count.{some-yes, some-no, some-true, some-eight, true-false, some-false}
-use Rattle.lists.specs.First.{first}
 use Rattle.little_endian.specs.Number.{le, zeroUnit}
-use Rattle.layout.specs.Versions.{layoutOf}
-use Rattle.layout.specs.Private.{Sound}
-use Rattle.layout.proofs.Versions.{layout-sound}
 use Rattle.layout.specs.declared.Layout.{Layout}
-use Rattle.layout.specs.declared.Version.{Version}
-use Rattle.names.specs.Names.{fits, sound, firstMisfit, firstUnsound, SoundName}
+use Rattle.names.specs.Names.{nameAt, nameUnits, fits, sound, SoundName}
 use Rattle.names.specs.Private.{zeroIn, soundText}
 
 -- One unit, by its bytes
@@ -75,7 +69,8 @@ eight-clear s at units h e = go (zeroIn s (at + 16) (units - 8)) refl
         let v : at + 16 + 2 * (units - 8) ≡ at + 2 * units = omega arith in
         ap (zeroUnit s) v ∙ text-end s at units (λ k l. clear q k l (ltb k 8) refl)
 
-pub eight-again : (s : List ℕ) (at units k : ℕ) → k + 8 ≤ units → zeroIn s (at + 2 * k) 8 ≡ false → soundText s (at + 2 * (k + 8)) (units - (k + 8)) ≡ soundText s (at + 2 * k) (units - k)
+pub eight-again : (s : List ℕ) (at units k : ℕ) → k + 8 ≤ units → zeroIn s (at + 2 * k) 8 ≡ false
+    → soundText s (at + 2 * (k + 8)) (units - (k + 8)) ≡ soundText s (at + 2 * k) (units - k)
 eight-again s at units k h e =
     let a : at + 2 * (k + 8) ≡ at + 2 * k + 16 = omega arith in
     let b : units - (k + 8) ≡ units - k - 8 = omega arith in
@@ -99,27 +94,13 @@ pub le-fits : (size at units : ℕ) → at + 2 * units + 2 ≤ size → fits siz
 unfolding fits
 le-fits size at units h = le-leb _ _ h
 
--- The fields of an entry start where no sum wraps
-pub layout-of-sound : (v : Version) {l : Layout} → l ≡ layoutOf v → Sound l
-layout-of-sound v e = rw e (layout-sound v)
-
-pub entry-low : (l : Layout) (i : ℕ) → Sound l → i < 2 ^ 32 → i * l .metric ≤ 2 ^ 32 * 32
-entry-low l i s h = omega (arith, mul-le-mul-left i (s .metric))
-
--- Checks 9 and 10, for code that has the layout at hand: the name of entry i fails a test on its offset and its length
+-- Checks 9 and 10: the name of entry i fails a test on its offset and its length
 abbrev pub failsAt : (ℕ → ℕ → Bool) → Layout → List ℕ → ℕ → Bool
-failsAt test l metrics i = not (test (le 4 metrics (i * l .metric + l .name)) (le 4 metrics (i * l .metric + l .units)))
+failsAt test l metrics i = not (test (nameAt l metrics i) (nameUnits l metrics i))
 
-pub fails-at : (test : ℕ → ℕ → Bool) (l : Layout) (metrics : List ℕ) (i : ℕ) {at units : ℕ} {r : Bool} → at ≡ le 4 metrics (i * l .metric + l .name) → units ≡ le 4 metrics (i * l .metric + l .units) → r ≡ test at units → failsAt test l metrics i ≡ not r
+pub fails-at : (test : ℕ → ℕ → Bool) (l : Layout) (metrics : List ℕ) (i : ℕ) {at units : ℕ} {r : Bool}
+    → at ≡ nameAt l metrics i → units ≡ nameUnits l metrics i → r ≡ test at units → failsAt test l metrics i ≡ not r
 fails-at test l metrics i a u e = rw (← a, ← u, ← e)
-
-pub misfit-of : (v : Version) {l : Layout} (metrics : List ℕ) (entries size : ℕ) → l ≡ layoutOf v → first (failsAt (fits size) l metrics) entries ≡ firstMisfit v metrics entries size
-unfolding firstMisfit
-misfit-of v metrics entries size e = rw e
-
-pub unsound-of : (v : Version) {l : Layout} (metrics : List ℕ) (entries : ℕ) (strings : List ℕ) → l ≡ layoutOf v → first (failsAt (sound strings) l metrics) entries ≡ firstUnsound v metrics entries strings
-unfolding firstUnsound
-unsound-of v metrics entries strings e = rw e
 
 pub sound-fits : (s : List ℕ) (at units : ℕ) → sound s at units ≡ true → fits (length s) at units ≡ true
 sound-fits s at units e = go (fits (length s) at units) refl

@@ -1,4 +1,4 @@
--- Laws on the names of metrics entries: what each way through the code decides, and what a sound name is.
+-- What only private contracts need: the part of check 10 that looks at a name's text.
 use mathlib.Core.Bool.{Bool, not, _&&_}
 use mathlib.Core.List.{List}
 use Prim.Native.Nat.{ℕ, _+_, _*_}

@@ -3,12 +3,10 @@ ghost use mathlib.Core.Path.{_≡_};
 ghost use Prim.Native.Nat.{_+_, _*_, _≤_};
 ghost use lib.ListN.{length};
 ghost use Rattle.little_endian.specs.Number.{le, zeroUnit};
-ghost use Rattle.layout.specs.Private.{Sound};
-ghost use Rattle.names.specs.Names.{fits, sound, nameAt, nameUnits, firstMisfit, firstUnsound};
+ghost use Rattle.names.specs.Names.{fits, sound, nameAt, nameUnits, misfitFault, unsoundFault};
 ghost use Rattle.names.specs.Private.{zeroIn, soundText};
+use incremental::Fault;
 use layout::Layout;
-use layout::Version;
-use lists::Found;
 
 // Whether a name of so many units at an offset fits a strings section of that size, with its zero unit.
 pub fn name_fits(size: usize, at: u32, units: u32) -> bool
@@ -80,64 +78,54 @@ pub fn name_sound(strings: &[u8], at: u32, units: u32) -> bool
     text_sound(strings, at as usize, units as usize)
 }
 
-// The two fields of metrics entry i that say where its name lies.
-fn offset_field(metrics: &[u8], layout: Layout, i: u32) -> u32
-    requires { ⌜ Sound layout ⌝ }
-    ensures { λ r. ⌜ r ≡ le 4 (now (metrics .entry)) (i * layout .metric + layout .name) ⌝ }
+// A field of metrics entry i, by the entry's size and the field's place in it.
+fn entry_field(metrics: &[u8], entry: u16, at: u16, i: u32) -> u32
+    ensures { λ r. ⌜ r ≡ le 4 (now (metrics .entry)) (i * entry + at) ⌝ }
 {
-    little_endian::u32_at(metrics, i as usize * layout.metric + layout.name)
-}
-
-fn units_field(metrics: &[u8], layout: Layout, i: u32) -> u32
-    requires { ⌜ Sound layout ⌝ }
-    ensures { λ r. ⌜ r ≡ le 4 (now (metrics .entry)) (i * layout .metric + layout .units) ⌝ }
-{
-    little_endian::u32_at(metrics, i as usize * layout.metric + layout.units)
+    little_endian::u32_at(metrics, i as usize * (entry as usize) + at as usize)
 }
 
 // The offset and the length of the name of metrics entry i.
-pub fn name_at(metrics: &[u8], version: Version, i: u32) -> u32
-    ensures { λ r. ⌜ r ≡ nameAt version (now (metrics .entry)) i ⌝ }
+pub fn name_at(metrics: &[u8], l: Layout, i: u32) -> u32
+    ensures { λ r. ⌜ r ≡ nameAt l (now (metrics .entry)) i ⌝ }
 {
-    offset_field(metrics, Layout::of(version), i)
+    entry_field(metrics, l.metrics_entry, l.name_offset_at, i)
 }
 
-pub fn name_units(metrics: &[u8], version: Version, i: u32) -> u32
-    ensures { λ r. ⌜ r ≡ nameUnits version (now (metrics .entry)) i ⌝ }
+pub fn name_units(metrics: &[u8], l: Layout, i: u32) -> u32
+    ensures { λ r. ⌜ r ≡ nameUnits l (now (metrics .entry)) i ⌝ }
 {
-    units_field(metrics, Layout::of(version), i)
+    entry_field(metrics, l.metrics_entry, l.name_length_at, i)
 }
 
 // Check 9: the first entry whose name does not fit a strings section of that size.
-pub fn first_misfit(metrics: &[u8], version: Version, entries: u32, size: usize) -> Found
-    ensures { λ r. ⌜ r ≡ firstMisfit version (now (metrics .entry)) entries size ⌝ }
+pub fn misfit_fault(metrics: &[u8], l: Layout, entries: u32, size: usize) -> Fault
+    ensures { λ r. ⌜ r ≡ misfitFault l (now (metrics .entry)) entries size ⌝ }
 {
-    let layout = Layout::of(version);
     let mut i = 0;
     while i < entries {
-        let at = offset_field(metrics, layout, i);
-        let units = units_field(metrics, layout, i);
+        let at = name_at(metrics, l, i);
+        let units = name_units(metrics, l, i);
         if !name_fits(size, at, units) {
-            return Found::At(i as usize);
+            return Fault::At(i as usize);
         }
         i += 1;
     }
-    Found::Nothing
+    Fault::Nowhere
 }
 
 // Check 10: the first entry whose name is not sound.
-pub fn first_unsound(metrics: &[u8], version: Version, entries: u32, strings: &[u8]) -> Found
-    ensures { λ r. ⌜ r ≡ firstUnsound version (now (metrics .entry)) entries (now (strings .entry)) ⌝ }
+pub fn unsound_fault(metrics: &[u8], l: Layout, entries: u32, strings: &[u8]) -> Fault
+    ensures { λ r. ⌜ r ≡ unsoundFault l (now (metrics .entry)) entries (now (strings .entry)) ⌝ }
 {
-    let layout = Layout::of(version);
     let mut i = 0;
     while i < entries {
-        let at = offset_field(metrics, layout, i);
-        let units = units_field(metrics, layout, i);
+        let at = name_at(metrics, l, i);
+        let units = name_units(metrics, l, i);
         if !name_sound(strings, at, units) {
-            return Found::At(i as usize);
+            return Fault::At(i as usize);
         }
         i += 1;
     }
-    Found::Nothing
+    Fault::Nowhere
 }

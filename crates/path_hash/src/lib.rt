@@ -53,13 +53,13 @@ fn plain_from(from: u32, cs: &[u32]) -> u32
     h
 }
 
-pub fn vista_hash(cs: &[u32]) -> u32
+pub fn hash_vista(cs: &[u32]) -> u32
     ensures { λ r. ⌜ r ≡ vista (now (cs .entry)) ⌝ }
 {
     plain_from(START, cs)
 }
 
-pub fn xp_hash(cs: &[u32]) -> u32
+pub fn hash_xp(cs: &[u32]) -> u32
     ensures { λ r. ⌜ r ≡ xp (now (cs .entry)) ⌝ }
 {
     signed_end(plain_from(0, cs))
@@ -151,13 +151,13 @@ fn hash_units(from: u32, text: &[u8]) -> u32
 }
 
 // The hashes of a text's 16-bit units, given as bytes, the low one first. An odd last byte is ignored.
-pub fn vista_hash_units(text: &[u8]) -> u32
+pub fn hash_vista_units(text: &[u8]) -> u32
     ensures { λ r. ⌜ r ≡ vista (units (now (text .entry))) ⌝ }
 {
     hash_units(START, text)
 }
 
-pub fn xp_hash_units(text: &[u8]) -> u32
+pub fn hash_xp_units(text: &[u8]) -> u32
     ensures { λ r. ⌜ r ≡ xp (units (now (text .entry))) ⌝ }
 {
     signed_end(hash_units(0, text))

@@ -15,8 +15,8 @@ use Rattle.lists.specs.First.{first}
 use Rattle.lists.proofs.First.{first-at, first-nothing, first-is-at, first-is-nothing}
 use Rattle.lists.specs.declared.Found.{Found}
 use Rattle.lists.specs.declared.Found.the-variants.{At, Nothing}
-use Rattle.layout.specs.Versions.{layoutOf, sizeLimit}
-use Rattle.layout.proofs.Versions.{layout-sound}
+use Rattle.layout.specs.Versions.{metricsEntry, sizeLimit}
+use Rattle.layout.specs.Private.{SoundLayout}
 use Rattle.layout.specs.declared.Version.{Version}
 use Rattle.layout.specs.declared.Version.the-variants.{V17, V23, V26}
 use Rattle.layout.specs.declared.Layout.{Layout}
@@ -26,7 +26,7 @@ use Rattle.incremental.specs.Plan.{decided, run}
 use Rattle.sections.specs.Fields.{storedHash, part}
 use Rattle.head.specs.Checks.{openPlan}
 use Rattle.head.specs.Private.{OpenFacts}
-use Rattle.head.proofs.Facts.{open-shapes}
+use Rattle.head.proofs.Facts.{open-sound, open-shapes}
 use Rattle.head.specs.declared.checks.Opening.{Opening}
 use Rattle.names.specs.Names.{nameAt, nameUnits, fits, sound}
 use Rattle.names.proofs.Laws.{name-past}
@@ -46,112 +46,122 @@ pub match-17 : {v : Version} (numbers : List ℕ) (hash : ℕ) {h : ℕ} {r : Ma
 unfolding matchOf
 match-17 numbers hash ev eh e = rw (ev, ← eh) e
 
-pub match-23 : {v : Version} (numbers : List ℕ) (hash : ℕ) {a b : ℕ} {r : Match} → v ≡ V23 → a ≡ vista numbers → b ≡ hash2008 numbers → r ≡ twoHashes a b hash → r ≡ matchOf v numbers hash
+pub match-23 : {v : Version} (numbers : List ℕ) (hash : ℕ) {a b : ℕ} {r : Match} → v ≡ V23 → a ≡ vista numbers → b ≡ hash2008 numbers
+    → r ≡ twoHashes a b hash → r ≡ matchOf v numbers hash
 unfolding matchOf
 match-23 numbers hash ev ea eb e = rw (ev, ← ea, ← eb) e
 
-pub match-26 : {v : Version} (numbers : List ℕ) (hash : ℕ) {h : ℕ} {r : Match} → v ≡ V26 → h ≡ hash2008 numbers → r ≡ oneHash h hash → r ≡ matchOf v numbers hash
+pub match-26 : {v : Version} (numbers : List ℕ) (hash : ℕ) {h : ℕ} {r : Match} → v ≡ V26 → h ≡ hash2008 numbers → r ≡ oneHash h hash
+    → r ≡ matchOf v numbers hash
 unfolding matchOf
 match-26 numbers hash ev eh e = rw (ev, ← eh) e
 
 pub ruleset by-version = (match-17, match-23, match-26)
 
 -- ---- a name with the stored hash
-pub where-true : (strings : List ℕ) (at units : ℕ) (x : Report) {r : Bool} → r ≡ sound strings at units → r ≡ true → match.Equal x ≡ whereSound strings at units x
+pub where-true : (strings : List ℕ) (at units : ℕ) (x : Report) {r : Bool} → r ≡ sound strings at units → r ≡ true
+    → match.Equal x ≡ whereSound strings at units x
 where-true strings at units x e q = rw (sym e ∙ q)
 
-pub where-false : (strings : List ℕ) (at units : ℕ) (x : Report) {r : Bool} → r ≡ sound strings at units → r ≡ false → match.Differs ≡ whereSound strings at units x
+pub where-false : (strings : List ℕ) (at units : ℕ) (x : Report) {r : Bool} → r ≡ sound strings at units → r ≡ false
+    → match.Differs ≡ whereSound strings at units x
 where-false strings at units x e q = rw (sym e ∙ q)
 
 pub ruleset by-sound = (where-true, where-false)
 
 -- ---- the name of an entry: `at` and `units` are its fields, and `end` is where its units end
-module _ (v : Version) (metrics strings : List ℕ) (hash i : ℕ) {at units : ℕ} (a : at ≡ nameAt v metrics i) (u : units ≡ nameUnits v metrics i) where
-  pub match-misfit : fits (length strings) at units ≡ false → match.Differs ≡ matchIn v metrics strings hash i
+module _ (v : Version) (l : Layout) (metrics strings : List ℕ) (hash i : ℕ) {at units : ℕ} (a : at ≡ nameAt l metrics i)
+    (u : units ≡ nameUnits l metrics i) where
+  pub match-misfit : fits (length strings) at units ≡ false → match.Differs ≡ matchIn v l metrics strings hash i
   unfolding matchIn nameSound
   match-misfit e = rw (← a, ← u, ← name-past strings at units e)
 
   -- the match by the fields
   match-here : {m : Match} {end : ℕ} → end ≡ at + 2 * units → m ≡ matchOf v (numbersOf (take (end - at) (drop at strings))) hash
-      → matchIn v metrics strings hash i ≡ pick (sound strings at units) m match.Differs
+      → matchIn v l metrics strings hash i ≡ pick (sound strings at units) m match.Differs
   unfolding matchIn nameSound
   match-here {end = end} d e =
       let l : end - at ≡ 2 * units = omega arith in
       rw (← a, ← u, e, l)
 
   pub match-differs : {m : Match} {end : ℕ} → end ≡ at + 2 * units → m ≡ matchOf v (numbersOf (take (end - at) (drop at strings))) hash → m ≡ match.Differs
-      → match.Differs ≡ matchIn v metrics strings hash i
+      → match.Differs ≡ matchIn v l metrics strings hash i
   match-differs d e q = sym (match-here d e ∙ rw q (neither (sound strings at units)))
     where
       neither : (b : Bool) → pick b match.Differs match.Differs ≡ match.Differs
       neither true = refl
       neither false = refl
 
-  pub match-equals : {m r : Match} {x : Report} {end : ℕ} → end ≡ at + 2 * units → m ≡ matchOf v (numbersOf (take (end - at) (drop at strings))) hash → m ≡ match.Equal x
-      → r ≡ whereSound strings at units x → r ≡ matchIn v metrics strings hash i
+  pub match-equals : {m r : Match} {x : Report} {end : ℕ} → end ≡ at + 2 * units
+      → m ≡ matchOf v (numbersOf (take (end - at) (drop at strings))) hash → m ≡ match.Equal x
+      → r ≡ whereSound strings at units x → r ≡ matchIn v l metrics strings hash i
   match-equals d e q h = h ∙ sym (match-here d e ∙ rw q)
 
 -- ---- the loop: what an entry's answer says of the test
-pub record Equals (v : Version) (metrics strings : List ℕ) (hash i : ℕ) (x : Report) : Type 0 where
-  pub passes : testIn v metrics strings hash i ≡ true
-  pub reports : x ≡ reportOf v (numbersIn v metrics strings i) hash
+pub record Equals (v : Version) (l : Layout) (metrics strings : List ℕ) (hash i : ℕ) (x : Report) : Type 0 where
+  pub passes : testIn v l metrics strings hash i ≡ true
+  pub reports : x ≡ reportOf v (numbersIn l metrics strings i) hash
 
-pub entry-equals : (v : Version) (metrics strings : List ℕ) (hash i : ℕ) {r : Match} {x : Report} → r ≡ matchIn v metrics strings hash i → r ≡ match.Equal x → Equals v metrics strings hash i x
+pub entry-equals : (v : Version) (l : Layout) (metrics strings : List ℕ) (hash i : ℕ) {r : Match} {x : Report}
+    → r ≡ matchIn v l metrics strings hash i → r ≡ match.Equal x → Equals v l metrics strings hash i x
 unfolding matchIn matchOf testIn
-entry-equals v metrics strings hash i {x = x} e q = go (nameSound v metrics strings i) (matches v (numbersIn v metrics strings i) hash) refl refl (sym q ∙ e)
+entry-equals v l metrics strings hash i {x = x} e q = go (nameSound l metrics strings i) (matches v (numbersIn l metrics strings i) hash) refl refl (sym q ∙ e)
   where
-    go : (a b : Bool) → nameSound v metrics strings i ≡ a → matches v (numbersIn v metrics strings i) hash ≡ b
-        → match.Equal x ≡ pick a (pick b (match.Equal (reportOf v (numbersIn v metrics strings i) hash)) match.Differs) match.Differs → Equals v metrics strings hash i x
+    go : (a b : Bool) → nameSound l metrics strings i ≡ a → matches v (numbersIn l metrics strings i) hash ≡ b
+        → match.Equal x ≡ pick a (pick b (match.Equal (reportOf v (numbersIn l metrics strings i) hash)) match.Differs) match.Differs
+        → Equals v l metrics strings hash i x
     go true true y z h = record { passes = rw (y, z); reports = cc }
     go true false y z h = let f : _≡_ {A = ℕ} 0 1 = cc in absurd (omega arith)
     go false b y z h = let f : _≡_ {A = ℕ} 0 1 = cc in absurd (omega arith)
 
-pub entry-differs : (v : Version) (metrics strings : List ℕ) (hash i : ℕ) {r : Match} → r ≡ matchIn v metrics strings hash i → r ≡ match.Differs → testIn v metrics strings hash i ≡ false
+pub entry-differs : (v : Version) (l : Layout) (metrics strings : List ℕ) (hash i : ℕ) {r : Match} → r ≡ matchIn v l metrics strings hash i
+    → r ≡ match.Differs → testIn v l metrics strings hash i ≡ false
 unfolding matchIn matchOf testIn
-entry-differs v metrics strings hash i e q = go (nameSound v metrics strings i) (matches v (numbersIn v metrics strings i) hash) (sym q ∙ e)
+entry-differs v l metrics strings hash i e q = go (nameSound l metrics strings i) (matches v (numbersIn l metrics strings i) hash) (sym q ∙ e)
   where
-    go : (a b : Bool) → match.Differs ≡ pick a (pick b (match.Equal (reportOf v (numbersIn v metrics strings i) hash)) match.Differs) match.Differs → (a && b) ≡ false
+    go : (a b : Bool) → match.Differs ≡ pick a (pick b (match.Equal (reportOf v (numbersIn l metrics strings i) hash)) match.Differs) match.Differs
+        → (a && b) ≡ false
     go true true h = let f : _≡_ {A = ℕ} 0 1 = cc in absurd (omega arith)
     go true false h = refl
     go false b h = refl
 
--- the loop ends, for code that has the layout at hand
-pub search-hit : (v : Version) (metrics strings : List ℕ) (hash i : ℕ) {l : Layout} {x : Report} → l ≡ layoutOf v → first (testIn v metrics strings hash) (length metrics / l .metric) ≡ At i → x ≡ reportOf v (numbersIn v metrics strings i) hash → pathAnswer.Entry i x ≡ searched v metrics strings hash
+-- the loop ends
+pub search-hit : (v : Version) (l : Layout) (metrics strings : List ℕ) (hash i : ℕ) {x : Report}
+    → first (testIn v l metrics strings hash) (entriesIn l metrics) ≡ At i → x ≡ reportOf v (numbersIn l metrics strings i) hash
+    → pathAnswer.Entry i x ≡ searched v l metrics strings hash
 unfolding searched
-search-hit v metrics strings hash i e h q =
-    let g : first (testIn v metrics strings hash) (length metrics / layoutOf v .metric) ≡ At i = rw (← e) h in
-    rw (g, q)
+search-hit v l metrics strings hash i h q = rw (h, q)
 
-pub search-none : (v : Version) (metrics strings : List ℕ) (hash : ℕ) {l : Layout} → l ≡ layoutOf v → first (testIn v metrics strings hash) (length metrics / l .metric) ≡ Nothing → pathAnswer.NoPath ≡ searched v metrics strings hash
+pub search-none : (v : Version) (l : Layout) (metrics strings : List ℕ) (hash : ℕ)
+    → first (testIn v l metrics strings hash) (entriesIn l metrics) ≡ Nothing → pathAnswer.NoPath ≡ searched v l metrics strings hash
 unfolding searched
-search-none v metrics strings hash e h =
-    let g : first (testIn v metrics strings hash) (length metrics / layoutOf v .metric) ≡ Nothing = rw (← e) h in
-    rw g
+search-none v l metrics strings hash h = rw h
 
 -- ---- THE SEARCH ON THE SECTIONS IS THE SEARCH ON THE FILE
 
 -- the bytes of a name that is shown are the same in the file
-pub name-bytes : (o : Opening) (p : List ℕ) (i : ℕ) → nameSound (o .version) (part (o .head .metrics) p) (part (o .head .strings) p) i ≡ true → bytesAt (nameIn (o .version) (part (o .head .metrics) p) i) (part (o .head .strings) p) ≡ bytesAt (namePlace o p i) p
+pub name-bytes : (o : Opening) (p : List ℕ) (i : ℕ) → nameSound (o .layout) (part (o .head .metrics) p) (part (o .head .strings) p) i ≡ true
+    → bytesAt (nameIn (o .layout) (part (o .head .metrics) p) i) (part (o .head .strings) p) ≡ bytesAt (namePlace o p i) p
 name-bytes o p i s =
-    let n = nameIn (o .version) (part (o .head .metrics) p) i in
-    let h = name-inside (o .version) (part (o .head .metrics) p) (part (o .head .strings) p) i s in
+    let n = nameIn (o .layout) (part (o .head .metrics) p) i in
+    let h = name-inside (o .layout) (part (o .head .metrics) p) (part (o .head .strings) p) i s in
     part-bytes (o .head .strings) p (n .at) (n .len) (omega (arith, h, part-there (o .head .strings) p))
 
 -- an entry lies whole in the metrics exactly when its index is below their number of whole entries
-pub metric-some : (v : Version) {l : Layout} → l ≡ layoutOf v → 0 < l .metric
-metric-some v e = rw e (omega (arith, layout-sound v .name))
+pub metric-some : (l : Layout) → SoundLayout l → 0 < metricsEntry l
+metric-some l s = omega (arith, s .name-offset)
 
-pub entry-whole : (v : Version) (metrics : List ℕ) (i : ℕ) → i < entriesIn v metrics → (i + 1) * layoutOf v .metric ≤ length metrics
-entry-whole v metrics i l = le-div-iff-mul-le (metric-some v refl) .0 (omega arith)
+pub entry-whole : (l : Layout) → SoundLayout l → (metrics : List ℕ) (i : ℕ) → i < entriesIn l metrics → (i + 1) * metricsEntry l ≤ length metrics
+entry-whole l s metrics i b = le-div-iff-mul-le (metric-some l s) .0 (omega arith)
 
-pub entry-not-whole : (v : Version) (metrics : List ℕ) (i : ℕ) → entriesIn v metrics ≤ i → length metrics < (i + 1) * layoutOf v .metric
-entry-not-whole v metrics i l = div-lt-iff-lt-mul (metric-some v refl) .0 (omega arith)
+pub entry-not-whole : (l : Layout) → SoundLayout l → (metrics : List ℕ) (i : ℕ) → entriesIn l metrics ≤ i → length metrics < (i + 1) * metricsEntry l
+entry-not-whole l s metrics i b = div-lt-iff-lt-mul (metric-some l s) .0 (omega arith)
 
 -- there are no more of them than the count says
-entries-most : (v : Version) (metrics : List ℕ) (count : ℕ) → length metrics ≤ count * layoutOf v .metric → entriesIn v metrics ≤ count
-entries-most v metrics count h =
-    let g : length metrics < (count + 1) * layoutOf v .metric = omega (arith, h, metric-some v refl, add-mul count 1 (layoutOf v .metric), one-mul (layoutOf v .metric)) in
-    let d = div-lt-iff-lt-mul (metric-some v refl) .1 g in
+entries-most : (l : Layout) → SoundLayout l → (metrics : List ℕ) (count : ℕ) → length metrics ≤ count * metricsEntry l → entriesIn l metrics ≤ count
+entries-most l s metrics count h =
+    let g : length metrics < (count + 1) * metricsEntry l = omega (arith, h, metric-some l s, add-mul count 1 (metricsEntry l), one-mul (metricsEntry l)) in
+    let d = div-lt-iff-lt-mul (metric-some l s) .1 g in
     omega arith
 
 -- the test of the definition, and the sections of an opening
@@ -165,54 +175,61 @@ abbrev stringsOf : Opening → List ℕ → List ℕ
 stringsOf o p = part (o .head .strings) p
 
 abbrev testOn : Opening → List ℕ → ℕ → Bool
-testOn o p i = testIn (o .version) (metricsOf o p) (stringsOf o p) (storedHash p) i
+testOn o p i = testIn (o .version) (o .layout) (metricsOf o p) (stringsOf o p) (storedHash p) i
 
 abbrev entriesOn : Opening → List ℕ → ℕ
-entriesOn o p = entriesIn (o .version) (metricsOf o p)
+entriesOn o p = entriesIn (o .layout) (metricsOf o p)
 
-test-sound : (v : Version) (metrics strings : List ℕ) (hash i : ℕ) → testIn v metrics strings hash i ≡ true → nameSound v metrics strings i ≡ true
+test-sound : (v : Version) (l : Layout) (metrics strings : List ℕ) (hash i : ℕ) → testIn v l metrics strings hash i ≡ true
+    → nameSound l metrics strings i ≡ true
 unfolding testIn
-test-sound v metrics strings hash i e = both _ _ e .0
+test-sound v l metrics strings hash i e = both _ _ e .0
 
 module _ (o : Opening) (p : List ℕ) (f : OpenFacts p o) where
-  metrics-most : length (metricsOf o p) ≤ o .head .metrics .count * layoutOf (o .version) .metric
+  metrics-most : length (metricsOf o p) ≤ o .head .metrics .count * metricsEntry (o .layout)
   metrics-most = omega (arith, part-there (o .head .metrics) p, open-shapes p o f .metrics-len)
 
   entries-below : (i : ℕ) → i < entriesOn o p → i < o .head .metrics .count
-  entries-below i l = omega (arith, entries-most (o .version) (metricsOf o p) (o .head .metrics .count) metrics-most)
+  entries-below i l = omega (arith, entries-most (o .layout) (open-sound p o f) (metricsOf o p) (o .head .metrics .count) metrics-most)
 
   whole-entry : (i : ℕ) → i < entriesOn o p → matchAt o p i ≡ testOn o p i
   unfolding entryShown testIn nameSound
   whole-entry i l =
-      rw (lt-ltb _ _ (entries-below i l), le-leb _ _ (entry-whole (o .version) (metricsOf o p) i l)) (go (nameSound (o .version) (metricsOf o p) (stringsOf o p) i) refl)
+      rw (lt-ltb _ _ (entries-below i l), le-leb _ _ (entry-whole (o .layout) (open-sound p o f) (metricsOf o p) i l))
+      (go (nameSound (o .layout) (metricsOf o p) (stringsOf o p) i) refl)
     where
-      go : (b : Bool) → nameSound (o .version) (metricsOf o p) (stringsOf o p) i ≡ b
-          → (b && matches (o .version) (entryNumbers o p i) (storedHash p)) ≡ (b && matches (o .version) (numbersIn (o .version) (metricsOf o p) (stringsOf o p) i) (storedHash p))
+      go : (b : Bool) → nameSound (o .layout) (metricsOf o p) (stringsOf o p) i ≡ b
+          → (b && matches (o .version) (entryNumbers o p i) (storedHash p))
+          ≡ (b && matches (o .version) (numbersIn (o .layout) (metricsOf o p) (stringsOf o p) i) (storedHash p))
       go true s = ap (λ (n : List ℕ). matches (o .version) (numbersOf n) (storedHash p)) (sym (name-bytes o p i s))
       go false s = refl
 
   -- an entry past the whole ones can't be shown
   cut-entry : (i : ℕ) → i < o .head .metrics .count → entriesOn o p ≤ i → matchAt o p i ≡ false
   unfolding entryShown
-  cut-entry i b l = rw (lt-ltb _ _ b, lt-leb _ _ (entry-not-whole (o .version) (metricsOf o p) i l))
+  cut-entry i b l = rw (lt-ltb _ _ b, lt-leb _ _ (entry-not-whole (o .layout) (open-sound p o f) (metricsOf o p) i l))
 
-  pub path-law : searched (o .version) (metricsOf o p) (stringsOf o p) (storedHash p) ≡ reported o p (firstMatch o p)
+  pub path-law : searched (o .version) (o .layout) (metricsOf o p) (stringsOf o p) (storedHash p) ≡ reported o p (firstMatch o p)
   unfolding searched firstMatch
   path-law = go (first (testOn o p) (entriesOn o p)) refl
     where
-      none : first (testOn o p) (entriesOn o p) ≡ Nothing → (k : ℕ) → k < o .head .metrics .count → (b : Bool) → ltb k (entriesOn o p) ≡ b → matchAt o p k ≡ false
+      none : first (testOn o p) (entriesOn o p) ≡ Nothing → (k : ℕ) → k < o .head .metrics .count → (b : Bool) → ltb k (entriesOn o p) ≡ b
+          → matchAt o p k ≡ false
       none e k h true q = whole-entry k (ltb-true _ _ q) ∙ first-nothing (testOn o p) (entriesOn o p) e k (ltb-true _ _ q)
       none e k h false q = cut-entry k h (ltb-false _ _ q)
 
-      go : (x : Found) → first (testOn o p) (entriesOn o p) ≡ x → reportedIn (o .version) (metricsOf o p) (stringsOf o p) (storedHash p) x ≡ reported o p (first (matchAt o p) (o .head .metrics .count))
+      go : (x : Found) → first (testOn o p) (entriesOn o p) ≡ x
+          → reportedIn (o .version) (o .layout) (metricsOf o p) (stringsOf o p) (storedHash p) x
+          ≡ reported o p (first (matchAt o p) (o .head .metrics .count))
       go (At i) e =
           let q = first-at (testOn o p) (entriesOn o p) 0 i e in
           let l : i < entriesOn o p = omega (arith, q .1) in
           let d : first (matchAt o p) (o .head .metrics .count) ≡ At i =
-          first-is-at (matchAt o p) (o .head .metrics .count) i (entries-below i l) (whole-entry i l ∙ q .2) (λ k h. whole-entry k (omega arith) ∙ q .3 k (omega arith) h) in
+          first-is-at (matchAt o p) (o .head .metrics .count) i (entries-below i l) (whole-entry i l ∙ q .2)
+          (λ k h. whole-entry k (omega arith) ∙ q .3 k (omega arith) h) in
           rw d
           (ap (λ (n : List ℕ). pathAnswer.Entry i (reportOf (o .version) (numbersOf n) (storedHash p)))
-          (name-bytes o p i (test-sound (o .version) (metricsOf o p) (stringsOf o p) (storedHash p) i (q .2))))
+          (name-bytes o p i (test-sound (o .version) (o .layout) (metricsOf o p) (stringsOf o p) (storedHash p) i (q .2))))
       go Nothing e =
           let d : first (matchAt o p) (o .head .metrics .count) ≡ Nothing =
           first-is-nothing (matchAt o p) (o .head .metrics .count) (λ k h. none e k h (ltb k (entriesOn o p)) refl) in
@@ -222,16 +239,19 @@ module _ (o : Opening) (p : List ℕ) (f : OpenFacts p o) where
 pub metrics-low : (o : Opening) (p : List ℕ) {metrics : List ℕ} → OpenFacts p o → metrics ≡ part (o .head .metrics) p → length metrics ≤ sizeLimit
 metrics-low o p f e = rw e (part-low (o .head .metrics) _ p (open-shapes p o f .metrics-end) (le-trans (f .metrics) (f .start .most)))
 
-pub path-given : (o : Opening) (p : List ℕ) {metrics strings : List ℕ} {hash : ℕ} {r : PathAnswer} → OpenFacts p o → metrics ≡ part (o .head .metrics) p → strings ≡ part (o .head .strings) p → hash ≡ storedHash p → r ≡ searched (o .version) metrics strings hash → r ≡ reported o p (firstMatch o p)
+pub path-given : (o : Opening) (p : List ℕ) {metrics strings : List ℕ} {hash : ℕ} {r : PathAnswer} → OpenFacts p o
+    → metrics ≡ part (o .head .metrics) p → strings ≡ part (o .head .strings) p → hash ≡ storedHash p
+    → r ≡ searched (o .version) (o .layout) metrics strings hash → r ≡ reported o p (firstMatch o p)
 path-given o p f em es eh e =
-    let g : _ ≡ searched (o .version) (metricsOf o p) (stringsOf o p) (storedHash p) = rw (em, es, eh) at e in
+    let g : _ ≡ searched (o .version) (o .layout) (metricsOf o p) (stringsOf o p) (storedHash p) = rw (em, es, eh) at e in
     g ∙ path-law o p f
 
 unequal : (a b : Bool) → (a && b) ≡ false → a ≡ true → b ≡ false
 unequal true b e q = e
 unequal false b e q = absurd (true-false (sym q))
 
-pub path-found-law : (o : Opening) (p : List ℕ) (i : ℕ) (x : Report) → run openPlan p ≡ decided (accept o) → pathFound p ≡ pathAnswer.Entry i x → PathFound o p i x
+pub path-found-law : (o : Opening) (p : List ℕ) (i : ℕ) (x : Report) → run openPlan p ≡ decided (accept o) → pathFound p ≡ pathAnswer.Entry i x
+    → PathFound o p i x
 unfolding firstMatch
 path-found-law o p i x a e = go (first (matchAt o p) (o .head .metrics .count)) refl (rw a at e)
   where
@@ -251,10 +271,12 @@ path-found-law o p i x a e = go (first (matchAt o p) (o .head .metrics .count)) 
         })
     go Nothing q h = let z : _≡_ {A = ℕ} 0 1 = cc in absurd (omega arith)
 
-pub path-not-found-law : (o : Opening) (p : List ℕ) → run openPlan p ≡ decided (accept o) → pathFound p ≡ pathAnswer.NoPath → (k : ℕ) → k < o .head .metrics .count → entryShown o p k ≡ true → matches (o .version) (entryNumbers o p k) (storedHash p) ≡ false
+pub path-not-found-law : (o : Opening) (p : List ℕ) → run openPlan p ≡ decided (accept o) → pathFound p ≡ pathAnswer.NoPath → (k : ℕ)
+    → k < o .head .metrics .count → entryShown o p k ≡ true → matches (o .version) (entryNumbers o p k) (storedHash p) ≡ false
 unfolding firstMatch
 path-not-found-law o p a e k l = go (first (matchAt o p) (o .head .metrics .count)) refl (rw a at e)
   where
-    go : (f : Found) → first (matchAt o p) (o .head .metrics .count) ≡ f → reported o p f ≡ pathAnswer.NoPath → entryShown o p k ≡ true → matches (o .version) (entryNumbers o p k) (storedHash p) ≡ false
+    go : (f : Found) → first (matchAt o p) (o .head .metrics .count) ≡ f → reported o p f ≡ pathAnswer.NoPath → entryShown o p k ≡ true
+        → matches (o .version) (entryNumbers o p k) (storedHash p) ≡ false
     go (At i) q h = let z : _≡_ {A = ℕ} 0 1 = cc in absurd (omega arith)
     go Nothing q h = unequal _ _ (first-nothing (matchAt o p) (o .head .metrics .count) q k l)

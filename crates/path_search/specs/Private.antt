@@ -8,7 +8,8 @@ use Rattle.lists.specs.Count.{pick}
 use Rattle.lists.specs.First.{first}
 use Rattle.lists.specs.declared.Found.{Found}
 use Rattle.lists.specs.declared.Found.the-variants.{At, Nothing}
-use Rattle.layout.specs.Versions.{layoutOf}
+use Rattle.layout.specs.Versions.{metricsEntry}
+use Rattle.layout.specs.declared.Layout.{Layout}
 use Rattle.layout.specs.declared.Version.{Version}
 use Rattle.names.specs.Names.{sound}
 use Rattle.query.specs.Queries.{bytesAt}
@@ -36,24 +37,24 @@ matchOf v numbers hash = pick (matches v numbers hash) (match.Equal (reportOf v 
 abbrev pub whereSound : List ℕ → ℕ → ℕ → Report → Match
 whereSound strings at units x = pick (sound strings at units) (match.Equal x) match.Differs
 
-abbrev pub numbersIn : Version → List ℕ → List ℕ → ℕ → List ℕ
-numbersIn v metrics strings i = numbersOf (bytesAt (nameIn v metrics i) strings)
+abbrev pub numbersIn : Layout → List ℕ → List ℕ → ℕ → List ℕ
+numbersIn l metrics strings i = numbersOf (bytesAt (nameIn l metrics i) strings)
 
-unfoldable pub matchIn : Version → List ℕ → List ℕ → ℕ → ℕ → Match
-matchIn v metrics strings hash i =
-    pick (nameSound v metrics strings i) (matchOf v (numbersIn v metrics strings i) hash) match.Differs
+unfoldable pub matchIn : Version → Layout → List ℕ → List ℕ → ℕ → ℕ → Match
+matchIn v l metrics strings hash i =
+    pick (nameSound l metrics strings i) (matchOf v (numbersIn l metrics strings i) hash) match.Differs
 
-unfoldable pub testIn : Version → List ℕ → List ℕ → ℕ → ℕ → Bool
-testIn v metrics strings hash i = nameSound v metrics strings i && matches v (numbersIn v metrics strings i) hash
+unfoldable pub testIn : Version → Layout → List ℕ → List ℕ → ℕ → ℕ → Bool
+testIn v l metrics strings hash i = nameSound l metrics strings i && matches v (numbersIn l metrics strings i) hash
 
 -- the entries that lie whole in the metrics
-abbrev pub entriesIn : Version → List ℕ → ℕ
-entriesIn v metrics = length metrics / layoutOf v .metric
+abbrev pub entriesIn : Layout → List ℕ → ℕ
+entriesIn l metrics = length metrics / metricsEntry l
 
-abbrev pub reportedIn : Version → List ℕ → List ℕ → ℕ → Found → PathAnswer
-reportedIn v metrics strings hash (At i) = pathAnswer.Entry i (reportOf v (numbersIn v metrics strings i) hash)
-reportedIn v metrics strings hash Nothing = pathAnswer.NoPath
+abbrev pub reportedIn : Version → Layout → List ℕ → List ℕ → ℕ → Found → PathAnswer
+reportedIn v l metrics strings hash (At i) = pathAnswer.Entry i (reportOf v (numbersIn l metrics strings i) hash)
+reportedIn v l metrics strings hash Nothing = pathAnswer.NoPath
 
-unfoldable pub searched : Version → List ℕ → List ℕ → ℕ → PathAnswer
-searched v metrics strings hash =
-    reportedIn v metrics strings hash (first (testIn v metrics strings hash) (entriesIn v metrics))
+unfoldable pub searched : Version → Layout → List ℕ → List ℕ → ℕ → PathAnswer
+searched v l metrics strings hash =
+    reportedIn v l metrics strings hash (first (testIn v l metrics strings hash) (entriesIn l metrics))

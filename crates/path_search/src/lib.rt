@@ -4,6 +4,7 @@ ghost use Prim.Native.Nat.{_≤_};
 ghost use lib.ListN.{length};
 ghost use Rattle.lists.specs.Answer.{Answers};
 ghost use Rattle.layout.specs.Versions.{sizeLimit};
+ghost use Rattle.layout.specs.Private.{SoundLayout};
 ghost use Rattle.head.specs.Private.{OpenFacts};
 ghost use Rattle.path_search.specs.Search.{numbersOf, pathFound, pathSaid, reported, firstMatch};
 ghost use Rattle.path_search.specs.Private.{oneHash, twoHashes, matchOf, whereSound, matchIn, searched};
@@ -61,9 +62,9 @@ fn name_matches(name: &[u8], version: Version, stored: u32) -> Match
     ensures { λ r. ⌜ r ≡ matchOf version (numbersOf (now (name .entry))) stored ⌝ }
 {
     match version {
-        Version::V17 => one_hash(path_hash::xp_hash_units(name), stored),
+        Version::V17 => one_hash(path_hash::hash_xp_units(name), stored),
         Version::V23 => two_hashes(
-            path_hash::vista_hash_units(name),
+            path_hash::hash_vista_units(name),
             path_hash::hash_2008_units(name),
             stored,
         ),
@@ -84,11 +85,18 @@ fn where_sound(strings: &[u8], at: u32, units: u32, report: Report) -> Match
 
 // The name of an entry that lies whole in the metrics, against the stored hash. Few names have that hash, so it comes first, and
 // only a name that has it is looked through for a zero unit.
-fn entry_matches(metrics: &[u8], strings: &[u8], version: Version, i: u32, stored: u32) -> Match
-    ensures { λ r. ⌜ r ≡ matchIn version (now (metrics .entry)) (now (strings .entry)) stored i ⌝ }
+fn entry_matches(
+    metrics: &[u8],
+    strings: &[u8],
+    version: Version,
+    l: Layout,
+    i: u32,
+    stored: u32,
+) -> Match
+    ensures { λ r. ⌜ r ≡ matchIn version l (now (metrics .entry)) (now (strings .entry)) stored i ⌝ }
 {
-    let at = names::name_at(metrics, version, i);
-    let units = names::name_units(metrics, version, i);
+    let at = names::name_at(metrics, l, i);
+    let units = names::name_units(metrics, l, i);
     if !names::name_fits(strings.len(), at, units) {
         return Match::Differs;
     }
@@ -101,15 +109,21 @@ fn entry_matches(metrics: &[u8], strings: &[u8], version: Version, i: u32, store
 }
 
 // The search over the entries that lie whole in the metrics: the others can't be shown.
-fn search(metrics: &[u8], strings: &[u8], version: Version, stored: u32) -> PathAnswer
-    requires { ⌜ length (now metrics) ≤ sizeLimit ⌝ }
-    ensures { λ r. ⌜ r ≡ searched version (now (metrics .entry)) (now (strings .entry)) stored ⌝ }
+fn search(metrics: &[u8], strings: &[u8], version: Version, l: Layout, stored: u32) -> PathAnswer
+    requires { ⌜ (length (now metrics) ≤ sizeLimit) × SoundLayout l ⌝ }
+    ensures { λ r. ⌜ r ≡ searched version l (now (metrics .entry)) (now (strings .entry)) stored ⌝ }
 {
-    let layout = Layout::of(version);
-    let entries = metrics.len() / layout.metric;
+    let entries = metrics.len() / (l.metrics_entry as usize);
     let mut i = 0;
     while i < entries {
-        if let Match::Equal(report) = entry_matches(metrics, strings, version, i as u32, stored) {
+        if let Match::Equal(report) = entry_matches(
+            metrics,
+            strings,
+            version,
+            l,
+            i as u32,
+            stored,
+        ) {
             return PathAnswer::Entry {
                 index: i,
                 report: report,
@@ -126,13 +140,14 @@ fn path_in(file: &[u8], o: Opening) -> PathAnswer
     ensures { λ r. ⌜ r ≡ reported o (now (file .entry)) (firstMatch o (now (file .entry))) ⌝ }
 {
     let version = o.version;
+    let l = o.layout;
     let h = o.head;
     let entries = h.metrics;
     let text = h.strings;
     let metrics = sections::part_of(file, entries);
     let strings = sections::part_of(file, text);
-    let stored = little_endian::u32_at(file, 76);
-    search(metrics, strings, version, stored)
+    let stored = little_endian::u32_at(file, layout::STORED_HASH_AT);
+    search(metrics, strings, version, l, stored)
 }
 
 // The first metrics entry that can be shown and whose path hash equals the stored one.

@@ -1,4 +1,4 @@
--- Document 01's "Questions about one entry".
+-- Document 01's "Questions about one entry", and the number of working places.
 use mathlib.Core.Bool.{Bool, true, false, _&&_}
 use mathlib.Core.List.{List, [], _∷_}
 use Prim.Native.Nat.{ℕ, _+_, _*_}
@@ -8,10 +8,13 @@ use lib.ListN.{length, take, drop}
 use Rattle.lists.specs.Answer.{Said}
 use Rattle.lists.specs.Part.{IsPart}
 use Rattle.lists.specs.Count.{pick}
-use Rattle.layout.specs.Versions.{layoutOf}
+use Rattle.layout.specs.Head.{programNameAt}
+use Rattle.layout.specs.Versions.{metricsEntry, volumeEntry}
+use Rattle.incremental.specs.declared.Fault.{Fault}
+use Rattle.incremental.specs.declared.Fault.the-variants.{At, Nowhere}
 use Rattle.incremental.specs.Decision.{Decision, accept, refuse}
 use Rattle.incremental.specs.Plan.{Answer, decided, wants, run}
-use Rattle.sections.specs.Fields.{part}
+use Rattle.sections.specs.Fields.{part, entriesFault}
 use Rattle.head.specs.Checks.{startPlan, openPlan}
 use Rattle.head.specs.declared.checks.Opening.{Opening}
 use Rattle.names.specs.Names.{sound, nameAt, nameUnits}
@@ -64,7 +67,7 @@ placeSaid placeAnswer.NotShown = record { number = 0; values = 0 ∷ 0 ∷ [] }
 
 -- ---- the program name: checks 1 to 4 pass; the units before its first zero, from byte 16
 abbrev pub programPlace : List ℕ → PlaceAnswer
-programPlace p = asked (run startPlan p) placeAnswer.NotShown (λ s. placeAnswer.Shown (record { at = 16; len = 2 * s .units }))
+programPlace p = asked (run startPlan p) placeAnswer.NotShown (λ s. placeAnswer.Shown (record { at = programNameAt; len = 2 * s .«name_units» }))
 
 -- ---- metrics entry i
 
@@ -73,17 +76,17 @@ programPlace p = asked (run startPlan p) placeAnswer.NotShown (λ s. placeAnswer
 unfoldable pub entryShown : Opening → List ℕ → ℕ → Bool
 entryShown o p i =
     ltb i (o .head .metrics .count)
-    && (leb ((i + 1) * layoutOf (o .version) .metric) (length (part (o .head .metrics) p))
+    && (leb ((i + 1) * metricsEntry (o .layout)) (length (part (o .head .metrics) p))
     && sound (part (o .head .strings) p)
-    (nameAt (o .version) (part (o .head .metrics) p) i)
-    (nameUnits (o .version) (part (o .head .metrics) p) i))
+    (nameAt (o .layout) (part (o .head .metrics) p) i)
+    (nameUnits (o .layout) (part (o .head .metrics) p) i))
 
 -- where the name stands in the file, without its zero
 abbrev pub namePlace : Opening → List ℕ → ℕ → Place
 namePlace o p i =
     record {
-      at = o .head .strings .at + nameAt (o .version) (part (o .head .metrics) p) i;
-      len = 2 * nameUnits (o .version) (part (o .head .metrics) p) i;
+      at = o .head .strings .at + nameAt (o .layout) (part (o .head .metrics) p) i;
+      len = 2 * nameUnits (o .layout) (part (o .head .metrics) p) i;
     }
 
 -- checks 1 to 6 pass on the bytes lent, and the entry can be shown
@@ -92,6 +95,11 @@ entryPlace p i =
     asked (run openPlan p) placeAnswer.NotShown (λ o. pick (entryShown o p i) (placeAnswer.Shown (namePlace o p i)) placeAnswer.NotShown)
 
 -- ---- volume i
+-- no fault
+abbrev pub clear : Fault → Bool
+clear (At i) = false
+clear Nowhere = true
+
 abbrev pub accepts : Decision Unit → Bool
 accepts (accept t) = true
 accepts (refuse r) = false
@@ -99,15 +107,15 @@ accepts (refuse r) = false
 -- check 8 passes, i is below the volume count, the whole volumes section is lent, and volume i passes 14 and 15
 unfoldable pub volumeShown : Opening → List ℕ → ℕ → Bool
 volumeShown o p i =
-    leb (o .head .volumes .count * layoutOf (o .version) .volume) (o .head .volumes .len)
+    clear (entriesFault (o .head .volumes .count) (volumeEntry (o .layout)) (o .head .volumes .len))
     && (ltb i (o .head .volumes .count)
     && (leb (o .head .volumes .len) (length (part (o .head .volumes) p))
-    && accepts (volumeChecks (part (o .head .volumes) p) (o .version) i)))
+    && accepts (volumeChecks (part (o .head .volumes) p) (o .layout) i)))
 
 -- creation time, serial number, the counts of references and directories, and the path as a place of the file
 unfoldable pub volumeFacts : Opening → List ℕ → ℕ → VolumeFacts
 volumeFacts o p i =
-    let v = volumeOf (part (o .head .volumes) p) (entryAt (o .version) i) in
+    let v = volumeOf (part (o .head .volumes) p) (entryAt (o .layout) i) in
     record {
       created = v .created;
       serial = v .serial;
@@ -137,14 +145,14 @@ volumeSaid volumeAnswer.NotShown = record { number = 0; values = volumeList (vol
 
 -- ---- reference k of volume i, where k is below n
 unfoldable pub referenceShown : Opening → List ℕ → ℕ → ℕ → Bool
-referenceShown o p i k = volumeShown o p i && ltb k (volumeOf (part (o .head .volumes) p) (entryAt (o .version) i) .references)
+referenceShown o p i k = volumeShown o p i && ltb k (volumeOf (part (o .head .volumes) p) (entryAt (o .layout) i) .references)
 
 abbrev pub referenceAsked : List ℕ → ℕ → ℕ → ReferenceAnswer
 referenceAsked p i k =
     asked (run openPlan p) referenceAnswer.NotShown
     (λ o.
     pick (referenceShown o p i k)
-    (referenceAnswer.Shown (referenceOf (part (o .head .volumes) p) (entryAt (o .version) i) k))
+    (referenceAnswer.Shown (referenceOf (part (o .head .volumes) p) (entryAt (o .layout) i) k))
     referenceAnswer.NotShown)
 
 -- what each case says: 1 for yes and 0 for no; entry index and sequence number, zeros where the answer is no

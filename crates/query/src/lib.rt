@@ -1,15 +1,16 @@
-// Questions about one entry of a file that is there in part or whole.
+// Queries about one entry of a file that is there in part or whole.
 ghost use mathlib.Core.Path.{_≡_};
 ghost use Rattle.lists.specs.Answer.{Answers};
 ghost use Rattle.head.specs.Private.{OpenFacts};
-ghost use Rattle.query.specs.Queries.{placeSaid, placeOf, ShownAt, programPlace, entryPlace, volumeAsked, volumeSaid, volumeValues, referenceAsked, referenceSaid, placesNeeded, placesSaid};
+ghost use Rattle.query.specs.Queries.{placeSaid, placeOf, ShownAt, programPlace, entryPlace, volumeAsked, volumeSaid, volumeValues};
+ghost use Rattle.query.specs.Queries.{referenceAsked, referenceSaid, placesNeeded, placesSaid};
 ghost use Rattle.query.specs.Private.{nameShown, entryIn, sectionShown, volumeIn, referenceIn};
 use head::OpenAnswer;
 use head::Opening;
 use head::StartAnswer;
 use incremental::Checked;
+use incremental::Fault;
 use layout::Layout;
-use layout::Version;
 use sections::Section;
 use volumes::Reference;
 
@@ -65,8 +66,8 @@ pub fn program_place(file: &[u8]) -> PlaceAnswer
 {
     match head::read_start(file) {
         StartAnswer::Started(s) => PlaceAnswer::Shown(Place {
-            at: 16,
-            len: 2 * s.units,
+            at: layout::PROGRAM_NAME_AT,
+            len: 2 * s.name_units,
         }),
         StartAnswer::Refused(_) => PlaceAnswer::NotShown,
         StartAnswer::Wanted(_) => PlaceAnswer::NotShown,
@@ -91,11 +92,11 @@ pub fn program_name(file: &[u8]) -> &[u8]
 }
 
 // The name of an entry that lies whole in the metrics, as a place of the strings section.
-fn name_shown(metrics: &[u8], strings: &[u8], version: Version, i: u32) -> PlaceAnswer
-    ensures { λ r. ⌜ r ≡ nameShown version (now (metrics .entry)) (now (strings .entry)) i ⌝ }
+fn name_shown(metrics: &[u8], strings: &[u8], l: Layout, i: u32) -> PlaceAnswer
+    ensures { λ r. ⌜ r ≡ nameShown l (now (metrics .entry)) (now (strings .entry)) i ⌝ }
 {
-    let at = names::name_at(metrics, version, i);
-    let units = names::name_units(metrics, version, i);
+    let at = names::name_at(metrics, l, i);
+    let units = names::name_units(metrics, l, i);
     if names::name_sound(strings, at, units) {
         PlaceAnswer::Shown(Place {
             at: at as usize,
@@ -111,20 +112,19 @@ fn entry_in(file: &[u8], o: Opening, i: usize) -> PlaceAnswer
     requires { ⌜ OpenFacts (now file) o ⌝ }
     ensures { λ r. ⌜ r ≡ entryIn o (now (file .entry)) i ⌝ }
 {
-    let version = o.version;
+    let l = o.layout;
     let h = o.head;
     let entries = h.metrics;
     if entries.count as usize <= i {
         return PlaceAnswer::NotShown;
     }
     let metrics = sections::part_of(file, entries);
-    let layout = Layout::of(version);
-    if metrics.len() < (i + 1) * layout.metric {
+    if metrics.len() < (i + 1) * (l.metrics_entry as usize) {
         return PlaceAnswer::NotShown;
     }
     let text = h.strings;
     let strings = sections::part_of(file, text);
-    match name_shown(metrics, strings, version, i as u32) {
+    match name_shown(metrics, strings, l, i as u32) {
         PlaceAnswer::Shown(w) => PlaceAnswer::Shown(Place {
             at: text.at + w.at,
             len: w.len,
@@ -152,11 +152,10 @@ pub fn entry_name(file: &[u8], i: usize) -> &[u8]
 }
 
 // Whether volume i can be shown, on the bytes that are there of its section.
-fn section_shown(s: Section, version: Version, section: &[u8], i: usize) -> bool
-    ensures { λ r. ⌜ r ≡ sectionShown s version (now (section .entry)) i ⌝ }
+fn section_shown(s: Section, l: Layout, section: &[u8], i: usize) -> bool
+    ensures { λ r. ⌜ r ≡ sectionShown s l (now (section .entry)) i ⌝ }
 {
-    let layout = Layout::of(version);
-    if s.len < s.count as usize * layout.volume {
+    if let Fault::At(_) = sections::entries_fault(s.count, l.volume_entry, s.len) {
         return false;
     }
     if s.count as usize <= i {
@@ -165,7 +164,7 @@ fn section_shown(s: Section, version: Version, section: &[u8], i: usize) -> bool
     if section.len() < s.len {
         return false;
     }
-    match volumes::check_volume(section, version, i as u32) {
+    match volumes::check_volume(section, l, i as u32) {
         Checked::Passed => true,
         Checked::Refused(_) => false,
     }
@@ -176,14 +175,14 @@ fn volume_in(file: &[u8], o: Opening, i: usize) -> VolumeAnswer
     requires { ⌜ OpenFacts (now file) o ⌝ }
     ensures { λ r. ⌜ r ≡ volumeIn o (now (file .entry)) i ⌝ }
 {
-    let version = o.version;
+    let l = o.layout;
     let h = o.head;
     let s = h.volumes;
     let section = sections::part_of(file, s);
-    if !section_shown(s, version, section, i) {
+    if !section_shown(s, l, section, i) {
         return VolumeAnswer::NotShown;
     }
-    let v = volumes::volume_at(section, version, i as u32);
+    let v = volumes::volume_at(section, l, i as u32);
     VolumeAnswer::Shown(VolumeFacts {
         created: v.created,
         serial: v.serial,
@@ -224,18 +223,18 @@ pub fn volume_path(file: &[u8], i: usize) -> &[u8]
 fn reference_in(file: &[u8], o: Opening, i: usize, k: usize) -> ReferenceAnswer
     ensures { λ r. ⌜ r ≡ referenceIn o (now (file .entry)) i k ⌝ }
 {
-    let version = o.version;
+    let l = o.layout;
     let h = o.head;
     let s = h.volumes;
     let section = sections::part_of(file, s);
-    if !section_shown(s, version, section, i) {
+    if !section_shown(s, l, section, i) {
         return ReferenceAnswer::NotShown;
     }
-    let v = volumes::volume_at(section, version, i as u32);
+    let v = volumes::volume_at(section, l, i as u32);
     if v.references as usize <= k {
         return ReferenceAnswer::NotShown;
     }
-    ReferenceAnswer::Shown(volumes::reference_at(section, version, i as u32, k as u32))
+    ReferenceAnswer::Shown(volumes::reference_at(section, l, i as u32, k as u32))
 }
 
 pub fn reference(file: &[u8], i: usize, k: usize) -> ReferenceAnswer

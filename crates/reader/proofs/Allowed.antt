@@ -1,4 +1,4 @@
--- DEMAND 2: a file is accepted exactly when document 01's layout allows it, and then every field is the one that layout gives.
+-- DEMAND 2, the proof: what checks 1 to 6 and 7 to 15 accept, in both directions, is what the layout allows.
 use mathlib.Core.Path.{_≡_, refl, sym, _∙_, ap}
 use mathlib.Core.List.{List}
 use mathlib.Core.Logic.{inl, inr}
@@ -8,13 +8,15 @@ use borrow.Author.Tests.{eq-eqb}
 use lib.Dec.{eqb}
 use lib.ListN.{length}
 use Rattle.lists.specs.Count.{pick}
-use Rattle.layout.specs.Versions.{layoutOf}
-use Rattle.layout.proofs.Versions.{layout-sound}
+use Rattle.layout.specs.Versions.{headEnd}
+use Rattle.layout.specs.Private.{SoundLayout}
+use Rattle.layout.proofs.Laws.{layout-sound}
 use Rattle.incremental.specs.Plan.{Answer}
-use Rattle.sections.specs.Fields.{declaredSize, headOf}
+use Rattle.sections.specs.Fields.{declaredSize, headOf, sizeIn}
 use Rattle.head.specs.Rules.{Within}
 use Rattle.head.specs.Private.{OpenFacts}
-use Rattle.head.proofs.Facts.{Shapes, head-shapes, signature-law, outside-law, shares-law}
+use Rattle.head.proofs.Rules.{signature-law, outside-law, shares-law}
+use Rattle.head.proofs.Facts.{Shapes, head-shapes, open-sound}
 use Rattle.sections.specs.declared.Section.{Section}
 use Rattle.sections.specs.declared.Head.{Head}
 use Rattle.head.specs.declared.checks.Opening.{Opening}
@@ -28,8 +30,6 @@ use Rattle.reader.specs.Checks.{recordOf, prefixAnswer, fileAnswer, Read
 use Rattle.reader.proofs.AllowedLaws.{head-take, name-ends, RestFacts, read-facts, read-complete, whole-accepted, whole-accepts}
 use Rattle.reader.specs.Allowed.{Allowed, givenRecord, givenTable, AcceptedExactly}
 
--- ---- the proof
-
 -- a section that is within S ends by S, for an empty one ends at H
 within-end : (h size : ℕ) (s : Section) → h ≤ size → s .end ≡ pick (eqb (s .len) 0) h (s .at + s .len) → Within h size s → s .end ≤ size
 within-end h size s l e (inl z) =
@@ -41,24 +41,26 @@ within-end h size s l e (inr w) = w .1
 pub opens : (p : List ℕ) (o : Opening) → Allowed p o → OpenFacts p o
 unfolding headOf
 opens p o a =
-    let h = layoutOf (o .version) .head in
-    let b = layout-sound (o .version) .fixed in
-    let g : Shapes (layoutOf (o .version)) (o .head) = rw (a .sections) (head-shapes (o .version) p) in
-    let size : o .head .size ≡ declaredSize p = ap (λ (x : Head). x .size) (a .sections) in
-    let l : h ≤ o .head .size = rw size (a .least) in
+    let h = headEnd (o .layout) in
+    let sound : SoundLayout (o .layout) = rw (a .layout) (layout-sound (o .version)) in
+    let b = sound .fixed in
+    let g : Shapes (o .layout) (o .head) = rw (a .sections) (head-shapes (o .layout) p) in
+    let size : sizeIn (o .head) ≡ declaredSize p = ap (λ (x : Head). sizeIn x) (a .sections) in
+    let l : h ≤ sizeIn (o .head) = rw size (a .least) in
     record {
       start =
           record {
+            laid = a .layout;
             least = a .least;
             most = a .most;
             known = a .version;
-            ended = name-ends p (o .units) .1 (a .name);
+            ended = name-ends p (o .«name_units») .1 (a .name);
             named = omega (arith, b, a .least, a .complete);
             signed = signature-law p .1 (a .signature);
           };
       whole = omega (arith, a .least, a .complete);
-      fields = a .sections ∙ sym (head-take (o .version) p);
-      inside = outside-law (o .version) (o .head) .1 (a .inside);
+      fields = a .sections ∙ sym (head-take (o .layout) p sound);
+      inside = outside-law (o .layout) (o .head) .1 (a .inside);
       apart = shares-law (o .head) .1 (a .apart);
       metrics = rw (← size) (within-end h _ (o .head .metrics) l (g .metrics-end) (a .inside .metrics));
       trace = rw (← size) (within-end h _ (o .head .trace) l (g .trace-end) (a .inside .trace));
@@ -85,13 +87,14 @@ allowed : (m : ℕ) (p : List ℕ) (o : Opening) (x : Acceptable) → length p �
 allowed m p o x c f r =
     record {
       version = f .start .known;
+      layout = f .start .laid;
       signature = signature-law p .0 (f .start .signed);
       least = f .start .least;
       most = f .start .most;
       complete = c;
-      name = name-ends p (o .units) .0 (f .start .ended);
-      sections = f .fields ∙ head-take (o .version) p;
-      inside = outside-law (o .version) (o .head) .0 (f .inside);
+      name = name-ends p (o .«name_units») .0 (f .start .ended);
+      sections = f .fields ∙ head-take (o .layout) p (open-sound p o f);
+      inside = outside-law (o .layout) (o .head) .0 (f .inside);
       apart = shares-law (o .head) .0 (f .apart);
       entries = r .entries;
       names = r .names;
@@ -102,7 +105,7 @@ allowed m p o x c f r =
     }
 
 -- the declared size of an acceptance
-sizes : (o : Opening) (p : List ℕ) (n : ℕ) → recordOf o p n .size ≡ declaredSize p
+sizes : (o : Opening) (p : List ℕ) (n : ℕ) → recordOf o p n .«declared_size» ≡ declaredSize p
 unfolding recordOf
 sizes o p n = refl
 
@@ -120,7 +123,7 @@ demand-2 p buffer v after r = record { sound = is-allowed; complete = is-accepte
         let t = read-facts m p .holds x (w .0) in
         let o = t .0 in
         let g = t .2 in
-        let size : x .fields .size ≡ declaredSize p = ap (λ (b : Acceptance). b .size) (g .fields) ∙ sizes o p _ in (
+        let size : x .fields .«declared_size» ≡ declaredSize p = ap (λ (b : Acceptance). b .«declared_size») (g .fields) ∙ sizes o p _ in (
           o,
           allowed m p o x (sym (w .1) ∙ size) (t .1) g,
           g .places,
@@ -128,7 +131,8 @@ demand-2 p buffer v after r = record { sound = is-allowed; complete = is-accepte
           r .buffer ∙ ap (λ (z : Answer Acceptable). bufferAfter z m) (y .1) ∙ g .table,
         )
 
-    is-accepted : (o : Opening) → Allowed p o → o .head .trace .count ≤ length buffer → (v ≡ Accepted (givenRecord o p)) × (after ≡ givenTable o p (length buffer))
+    is-accepted : (o : Opening) → Allowed p o → o .head .trace .count ≤ length buffer
+        → (v ≡ Accepted (givenRecord o p)) × (after ≡ givenTable o p (length buffer))
     is-accepted o a l =
         let m = length buffer in
         let x : Acceptable = record { fields = givenRecord o p; table = givenTable o p m } in

@@ -1,5 +1,4 @@
--- What checks 7 to 15 accept of bytes that checks 1 to 6 accept as `o`, in both directions. The checks look at the bytes up to their
--- required length; what they find there, the file has.
+-- What all checks accept, in both directions. The checks look at the bytes up to their required length; what they find there, the file has.
 use mathlib.Core.Path.{_≡_, refl, sym, _∙_, ap}
 use mathlib.Core.Bool.{Bool, true, false, not}
 use mathlib.Core.List.{List}
@@ -15,25 +14,29 @@ use Rattle.lists.specs.First.{firstFrom}
 use Rattle.lists.proofs.First.{first-nothing, first-is-nothing, first-is-at}
 use Rattle.lists.specs.Count.{pick, count}
 use Rattle.lists.proofs.Count.{count-yes, count-no, count-zero, true-false}
-use Rattle.lists.specs.declared.Found.the-variants.{At, Nothing}
+use Rattle.lists.specs.declared.Found.the-variants as found
 use Rattle.little_endian.specs.Number.{le, zeroUnit}
 use Rattle.little_endian.proofs.Number.{le-take}
-use Rattle.layout.specs.Versions.{layoutOf}
-use Rattle.layout.proofs.Versions.{layout-sound}
-use Rattle.layout.specs.declared.Version.{Version}
-use Rattle.incremental.specs.Decision.{Decision, accept, refuse}
-use Rattle.incremental.specs.Plan.{decide, andThen, Answer, decided, wants, run}
-use Rattle.incremental.proofs.Plan.{run-then, run-decide, await-here, Holds, holds-await, holds-then, holds-accept}
-use Rattle.sections.specs.Fields.{declaredSize, headOf, part, faultAt, nameEnd}
+use Rattle.layout.specs.Versions.{headEnd, runTimeAt, runCountAt, volumeEntry}
+use Rattle.layout.specs.Private.{SoundLayout}
+use Rattle.layout.specs.declared.Layout.{Layout}
+use Rattle.incremental.specs.Decision.{Decision, accept, refuse, faultOf}
+use Rattle.incremental.specs.Plan.{decide, Answer, decided, wants, run, andThen}
+use Rattle.incremental.proofs.Plan.{run-then, reach-here, check-passed, Holds, holds-reach, holds-check, holds-then, holds-accept}
+use Rattle.incremental.proofs.Decision.{fault-nothing}
+use Rattle.incremental.specs.declared.Fault.{Fault}
+use Rattle.incremental.specs.declared.Fault.the-variants.{Nowhere}
+use Rattle.sections.specs.Fields.{declaredSize, headOf, part, nameEnd, placesFault, entriesFault}
+use Rattle.sections.proofs.Cases.{places-met, entries-met, places-enough, entries-fit}
 use Rattle.head.specs.Checks.{openPlan}
-use Rattle.head.proofs.Steps.{stop-miss}
 use Rattle.head.specs.Private.{OpenFacts}
-use Rattle.head.proofs.Facts.{open-facts, open-complete, name-law, open-shapes, part-length, part-take, holds-stop}
 use Rattle.head.specs.Rules.{NameEnds}
+use Rattle.head.proofs.Rules.{name-law, part-length, part-take}
+use Rattle.head.proofs.Facts.{open-facts, open-complete, open-sound, open-shapes}
 use Rattle.head.specs.declared.checks.Opening.{Opening}
-use Rattle.names.specs.Names.{nameAt, nameUnits, firstMisfit, firstUnsound, SoundName}
+use Rattle.names.specs.Names.{nameAt, nameUnits, misfitFault, unsoundFault, SoundName}
 use Rattle.names.proofs.Laws.{sound-name, le-fits}
-use Rattle.trace.specs.Links.{end, after, Cyclic, cyclic, namers, shared, astray, chains, predecessors, linkChecks}
+use Rattle.trace.specs.Links.{end, after, Cyclic, cyclic, namers, shared, astray, astrayFault, sharedFault, cyclicFault, chains, predecessors, linkChecks}
 use Rattle.trace.proofs.Steps.{length-nexts}
 use Rattle.trace.proofs.Accepted.{accepted, astray-end, astray-below}
 use Rattle.trace.proofs.Cycles.{cycle-law}
@@ -42,18 +45,21 @@ use Rattle.volumes.specs.SoundVolume.{SoundVolume}
 use Rattle.volumes.proofs.SoundVolume.{volumes-sound}
 use Rattle.reader.specs.declared.verdict.Acceptance.{Acceptance}
 use Rattle.reader.specs.Verdict.{Acceptable}
-use Rattle.reader.specs.Checks.{nextsIn, headEnd, recordOf, volumesRequired, namesRequired, volumesPlan, tracePlan, namesPlan, metricsPlan, restPlan, readPlan, prefixAnswer, sized, whole}
-use Rattle.reader.proofs.Stages.{room-enough}
+use Rattle.reader.specs.Checks.{nextsIn, recordOf, volumesRequired, namesRequired, readPlan, prefixAnswer, sizeOf, sized, whole}
+use Rattle.reader.specs.Private.{fitsPlan, textsPlan, tracePlan, volumesPlan, EntriesFit, tablesPlan, restPlan}
+use Rattle.reader.proofs.Opens.{read-opens}
+use Rattle.reader.proofs.Stages.{answer-then}
 use Rattle.reader.proofs.Early.{names-required-low, volumes-required-low}
 
 -- ---- the head's fields lie before H
-fixed-field : (v : Version) (p : List ℕ) (k : ℕ) → k + 4 ≤ 120 → le 4 (take (layoutOf v .head) p) k ≡ le 4 p k
-fixed-field v p k l = le-take 4 (layoutOf v .head) p k (omega (arith, layout-sound v .fixed))
 
-pub head-take : (v : Version) (p : List ℕ) → headOf v (take (layoutOf v .head) p) ≡ headOf v p
+fixed-field : (l : Layout) (p : List ℕ) (k : ℕ) → SoundLayout l → k + 4 ≤ 120 → le 4 (take (headEnd l) p) k ≡ le 4 p k
+fixed-field l p k s h = le-take 4 (headEnd l) p k (omega (arith, s .fixed))
+
+pub head-take : (l : Layout) (p : List ℕ) → SoundLayout l → headOf l (take (headEnd l) p) ≡ headOf l p
 unfolding headOf
-head-take v p =
-    let f = fixed-field v p in
+head-take l p s =
+    let f : (k : ℕ) → k + 4 ≤ 120 → le 4 (take (headEnd l) p) k ≡ le 4 p k = λ k h. fixed-field l p k s h in
     rw (
       f 12 (omega arith),
       f 84 (omega arith),
@@ -67,26 +73,26 @@ head-take v p =
       f 116 (omega arith),
     )
 
-pub record-take : (o : Opening) (p : List ℕ) (n : ℕ) → recordOf o (take (headEnd o) p) n ≡ recordOf o p n
+pub record-take : (o : Opening) (p : List ℕ) (n : ℕ) → SoundLayout (o .layout) → recordOf o (take (headEnd (o .layout)) p) n ≡ recordOf o p n
 unfolding recordOf
-record-take o p n =
-    let v = o .version in
+record-take o p n s =
+    let l = o .layout in
     rw (
-      fixed-field v p 12 (omega arith),
-      fixed-field v p 76 (omega arith),
-      le-take 8 (layoutOf v .head) p (layoutOf v .time) (layout-sound v .time),
-      le-take 4 (layoutOf v .head) p (layoutOf v .runs) (layout-sound v .runs),
+      fixed-field l p 12 s (omega arith),
+      fixed-field l p 76 s (omega arith),
+      le-take 8 (headEnd l) p (runTimeAt l) (s .run-time),
+      le-take 4 (headEnd l) p (runCountAt l) (s .run-count),
     )
 
 -- the name's 30 units lie before byte 76
 unit-take : (p : List ℕ) (k : ℕ) → k < 30 → le 2 (take 76 p) (16 + 2 * k) ≡ le 2 p (16 + 2 * k)
 unit-take p k l = le-take 2 76 p (16 + 2 * k) (omega arith)
 
-pub name-ends : (p : List ℕ) (u : ℕ) → (nameEnd (take 76 p) ≡ At u) ↔ NameEnds p u
+pub name-ends : (p : List ℕ) (u : ℕ) → (nameEnd (take 76 p) ≡ found.At u) ↔ NameEnds p u
 unfolding nameEnd
 name-ends p u = (there, back)
   where
-    there : nameEnd (take 76 p) ≡ At u → NameEnds p u
+    there : nameEnd (take 76 p) ≡ found.At u → NameEnds p u
     there e =
         let n = name-law (take 76 p) u e in
         record {
@@ -95,7 +101,7 @@ name-ends p u = (there, back)
           before = λ k l z. n .before k l (unit-take p k (omega (arith, n .short)) ∙ z);
         }
 
-    back : NameEnds p u → nameEnd (take 76 p) ≡ At u
+    back : NameEnds p u → nameEnd (take 76 p) ≡ found.At u
     back n =
         first-is-at (λ i. zeroUnit (take 76 p) (16 + 2 * i)) 30 u (n .short)
         (eq-eqb _ _ (unit-take p u (n .short) ∙ n .zero-unit))
@@ -148,87 +154,88 @@ module _ (s : List ℕ) (n : ℕ) (size : length s ≡ n) (small : n ≤ end) wh
   not-cyclic f i l true q = absurd (f .acyclic i (omega arith) (cycle-law s i l (omega arith) .0 q))
   not-cyclic f i l false q = refl
 
-  pub free-passes : Free s n → linkChecks s ≡ accept (chains s)
-  unfolding linkChecks
-  free-passes f =
-      rw (
-        first-is-nothing (astray s) (length s) (λ i l. ⊎-elim (astray-end s i) (λ h. astray-below s i (omega arith)) (f .links i (omega arith))),
-        first-is-nothing (shared s) (length s) (λ j l. le-ltb 1 _ (named-once f j l)),
-        first-is-nothing (cyclic s) (length s) (λ i l. not-cyclic f i l (cyclic s i) refl),
-      )
+  pub free-clear : Free s n → (astrayFault s ≡ Nowhere) × (sharedFault s ≡ Nowhere) × (cyclicFault s ≡ Nowhere)
+  free-clear f = (
+    ap faultOf (first-is-nothing (astray s) (length s) (λ i l. ⊎-elim (astray-end s i) (λ h. astray-below s i (omega arith)) (f .links i (omega arith)))),
+    ap faultOf (first-is-nothing (shared s) (length s) (λ j l. le-ltb 1 _ (named-once f j l))),
+    ap faultOf (first-is-nothing (cyclic s) (length s) (λ i l. not-cyclic f i l (cyclic s i) refl)),
+  )
 
 -- ---- a section's bytes up to a required length are the file's
 module _ (p : List ℕ) (o : Opening) (f : OpenFacts p o) where
-  metrics-take : (k : ℕ) → o .head .metrics .end ≤ k → part (o .head .metrics) (take k p) ≡ part (o .head .metrics) p
-  metrics-take k l = part-take (o .head .metrics) (headEnd o) k p (open-shapes p o f .metrics-end) l
+  -- the faults that checks 9, 10, 14 and 15 find in the whole bytes
+  abbrev misfitIn : List ℕ → Fault
+  misfitIn b = misfitFault (o .layout) (part (o .head .metrics) b) (o .head .metrics .count) (o .head .strings .len)
 
-  misfit-take : firstMisfit (o .version) (part (o .head .metrics) (take (o .head .metrics .end) p)) (o .head .metrics .count) (o .head .strings .len)
-      ≡ firstMisfit (o .version) (part (o .head .metrics) p) (o .head .metrics .count) (o .head .strings .len)
+  abbrev unsoundIn : List ℕ → Fault
+  unsoundIn b = unsoundFault (o .layout) (part (o .head .metrics) b) (o .head .metrics .count) (part (o .head .strings) b)
+
+  abbrev volumesIn : List ℕ → Decision Unit
+  volumesIn b = volumesFrom (part (o .head .volumes) b) (o .layout) (o .head .volumes .count) 0
+
+  metrics-take : (k : ℕ) → o .head .metrics .end ≤ k → part (o .head .metrics) (take k p) ≡ part (o .head .metrics) p
+  metrics-take k l = part-take (o .head .metrics) (headEnd (o .layout)) k p (open-shapes p o f .metrics-end) l
+
+  misfit-take : misfitIn (take (o .head .metrics .end) p) ≡ misfitIn p
   misfit-take = rw (metrics-take (o .head .metrics .end) (le-refl _))
 
   -- with no metrics entry nothing is looked at
-  unsound-take : firstUnsound (o .version) (part (o .head .metrics) (take (namesRequired o) p)) (o .head .metrics .count) (part (o .head .strings) (take (namesRequired o) p))
-      ≡ firstUnsound (o .version) (part (o .head .metrics) p) (o .head .metrics .count) (part (o .head .strings) p)
-  unfolding firstUnsound firstFrom
+  unsound-take : unsoundIn (take (namesRequired (o .layout) (o .head)) p) ≡ unsoundIn p
+  unfolding unsoundFault firstFrom
   unsound-take = go (ℕ-discrete (o .head .metrics .count) 0)
     where
-      go : Dec (o .head .metrics .count ≡ 0)
-          → firstUnsound (o .version) (part (o .head .metrics) (take (namesRequired o) p)) (o .head .metrics .count) (part (o .head .strings) (take (namesRequired o) p))
-          ≡ firstUnsound (o .version) (part (o .head .metrics) p) (o .head .metrics .count) (part (o .head .strings) p)
+      go : Dec (o .head .metrics .count ≡ 0) → unsoundIn (take (namesRequired (o .layout) (o .head)) p) ≡ unsoundIn p
       go (yes z) = rw z
       go (no z) =
-          let r : namesRequired o ≡ max (o .head .metrics .end) (o .head .strings .end) = rw (ne-eqb _ _ z) in
+          let k = namesRequired (o .layout) (o .head) in
+          let r : k ≡ max (o .head .metrics .end) (o .head .strings .end) = rw (ne-eqb _ _ z) in
           rw (
-            metrics-take (namesRequired o) (omega (arith, r)),
-            part-take (o .head .strings) (headEnd o) (namesRequired o) p (open-shapes p o f .strings-end) (omega (arith, r)),
+            metrics-take k (omega (arith, r)),
+            part-take (o .head .strings) (headEnd (o .layout)) k p (open-shapes p o f .strings-end) (omega (arith, r)),
           )
 
   trace-take : part (o .head .trace) (take (o .head .trace .end) p) ≡ part (o .head .trace) p
-  trace-take = part-take (o .head .trace) (headEnd o) (o .head .trace .end) p (open-shapes p o f .trace-end) (le-refl _)
+  trace-take = part-take (o .head .trace) (headEnd (o .layout)) (o .head .trace .end) p (open-shapes p o f .trace-end) (le-refl _)
 
-  volumes-take : volumesFrom (part (o .head .volumes) (take (volumesRequired o) p)) (o .version) (o .head .volumes .count) 0
-      ≡ volumesFrom (part (o .head .volumes) p) (o .version) (o .head .volumes .count) 0
+  volumes-take : volumesIn (take (volumesRequired (o .layout) (o .head)) p) ≡ volumesIn p
   unfolding volumesFrom
   volumes-take = go (ℕ-discrete (o .head .volumes .count) 0)
     where
-      go : Dec (o .head .volumes .count ≡ 0)
-          → volumesFrom (part (o .head .volumes) (take (volumesRequired o) p)) (o .version) (o .head .volumes .count) 0
-          ≡ volumesFrom (part (o .head .volumes) p) (o .version) (o .head .volumes .count) 0
+      go : Dec (o .head .volumes .count ≡ 0) → volumesIn (take (volumesRequired (o .layout) (o .head)) p) ≡ volumesIn p
       go (yes z) = rw z
       go (no z) =
-          let r : volumesRequired o ≡ o .head .volumes .end = rw (ne-eqb _ _ z) in
-          rw (part-take (o .head .volumes) (headEnd o) (volumesRequired o) p (open-shapes p o f .volumes-end) (omega (arith, r)))
+          let k = volumesRequired (o .layout) (o .head) in
+          let r : k ≡ o .head .volumes .end = rw (ne-eqb _ _ z) in
+          rw (part-take (o .head .volumes) (headEnd (o .layout)) k p (open-shapes p o f .volumes-end) (omega (arith, r)))
 
   -- no more trace entries than S has bytes
   pub trace-few : o .head .trace .count ≤ end
   trace-few = go (eqb (o .head .trace .len) 0) refl (open-shapes p o f .trace-end)
     where
-      go : (z : Bool) → eqb (o .head .trace .len) 0 ≡ z → o .head .trace .end ≡ pick z (headEnd o) (o .head .trace .at + o .head .trace .len) → o .head .trace .count ≤ end
+      go : (z : Bool) → eqb (o .head .trace .len) 0 ≡ z → o .head .trace .end ≡ pick z (headEnd (o .layout)) (o .head .trace .at + o .head .trace .len)
+          → o .head .trace .count ≤ end
       go true q e =
           let z : o .head .trace .len ≡ 0 = eqb-true _ _ q in
-          omega (arith, open-shapes p o f .trace-len, mul-le-mul-left (o .head .trace .count) (layout-sound (o .version) .next))
+          omega (arith, open-shapes p o f .trace-len, mul-le-mul-left (o .head .trace .count) (open-sound p o f .next))
       go false q e =
-          omega (arith, open-shapes p o f .trace-len, mul-le-mul-left (o .head .trace .count) (layout-sound (o .version) .next), f .trace, f .start .most)
+          omega (arith, open-shapes p o f .trace-len, mul-le-mul-left (o .head .trace .count) (open-sound p o f .next), f .trace, f .start .most)
 
 -- ---- what checks 7 to 15 accept
 pub record RestFacts (m : ℕ) (p : List ℕ) (o : Opening) (x : Acceptable) : Type 0 where
   pub places : o .head .trace .count ≤ m
-  pub entries : o .head .volumes .count * layoutOf (o .version) .volume ≤ o .head .volumes .len
+  pub entries : EntriesFit o
   pub names : (i : ℕ) → i < o .head .metrics .count
-      → SoundName (part (o .head .strings) p) (nameAt (o .version) (part (o .head .metrics) p) i) (nameUnits (o .version) (part (o .head .metrics) p) i)
+      → SoundName (part (o .head .strings) p) (nameAt (o .layout) (part (o .head .metrics) p) i) (nameUnits (o .layout) (part (o .head .metrics) p) i)
   pub free : Free (nextsIn o p) (o .head .trace .count)
-  pub volumes : (i : ℕ) → i < o .head .volumes .count → SoundVolume (part (o .head .volumes) p) (entryAt (o .version) i)
+  pub volumes : (i : ℕ) → i < o .head .volumes .count → SoundVolume (part (o .head .volumes) p) (entryAt (o .layout) i)
   -- what they give
   pub fields : x .fields ≡ recordOf o p (chains (nextsIn o p))
   pub table : x .table ≡ predecessors (nextsIn o p) m
 
--- a test that finds no fault
-clear : (a b : ℕ) → faultAt 0 (ltb a b) ≡ Nothing → b ≤ a
-clear a b = go (ltb a b) refl
-  where
-    go : (t : Bool) → ltb a b ≡ t → faultAt 0 t ≡ Nothing → b ≤ a
-    go true q e = let z : _≡_ {A = ℕ} 0 1 = cc in absurd (omega arith)
-    go false q e = ltb-false _ _ q
+-- the faults of checks 11 to 13 and their decision
+links-pass : (s : List ℕ) → astrayFault s ≡ Nowhere → sharedFault s ≡ Nowhere → cyclicFault s ≡ Nowhere → linkChecks s ≡ accept (chains s)
+unfolding linkChecks
+links-pass s a b c = rw (a, b, c)
 
 -- what a decision in a plan accepts
 decision : {A : Type 0} (d : Decision A) (a : A) (p : List ℕ) → run (decide d) p ≡ decided (accept a) → d ≡ accept a
@@ -236,114 +243,152 @@ unfolding run
 decision d a p e = cc
 
 module _ (m : ℕ) (p : List ℕ) (o : Opening) (f : OpenFacts p o) where
-  names-found : firstUnsound (o .version) (part (o .head .metrics) p) (o .head .metrics .count) (part (o .head .strings) p) ≡ Nothing → (i : ℕ) → i < o .head .metrics .count
-      → SoundName (part (o .head .strings) p) (nameAt (o .version) (part (o .head .metrics) p) i) (nameUnits (o .version) (part (o .head .metrics) p) i)
-  unfolding firstUnsound
-  names-found e i l = sound-name _ _ _ .0 (not-false _ (first-nothing _ (o .head .metrics .count) e i l))
+  names-found : unsoundIn p o f p ≡ Nowhere → (i : ℕ) → i < o .head .metrics .count
+      → SoundName (part (o .head .strings) p) (nameAt (o .layout) (part (o .head .metrics) p) i) (nameUnits (o .layout) (part (o .head .metrics) p) i)
+  unfolding unsoundFault
+  names-found e i l = sound-name _ _ _ .0 (not-false _ (first-nothing _ (o .head .metrics .count) (fault-nothing _ e) i l))
+
+  texts-hold : Holds (λ _. unsoundIn p o f p ≡ Nowhere) (run (textsPlan o) p)
+  unfolding textsPlan
+  texts-hold =
+      let k = namesRequired (o .layout) (o .head) in
+      holds-reach k _ p _ λ _. holds-check _ 10 (unsoundIn p o f (take k p)) _ p λ e. holds-accept _ tt p (sym (unsound-take p o f) ∙ e)
+
+  trace-hold : Holds (λ t. (t ≡ nextsIn o p) × (linkChecks (nextsIn o p) ≡ accept (chains (nextsIn o p)))) (run (tracePlan o) p)
+  unfolding tracePlan
+  trace-hold =
+      let s = nextsIn o (take (o .head .trace .end) p) in
+      let same : s ≡ nextsIn o p = rw (trace-take p o f) in
+      holds-reach (o .head .trace .end) _ p _ λ _.
+      holds-check _ 11 (astrayFault s) _ p λ a.
+      holds-check _ 12 (sharedFault s) _ p λ b.
+      holds-check _ 13 (cyclicFault s) _ p λ c.
+      holds-accept _ s p (same, rw same at (links-pass s a b c))
+
+  volumes-hold : Holds (λ _. volumesIn p o f p ≡ accept tt) (run (volumesPlan o) p)
+  unfolding volumesPlan
+  volumes-hold =
+      let k = volumesRequired (o .layout) (o .head) in
+      holds-reach k _ p _ λ _.
+      holds-then _ (decide (volumesIn p o f (take k p))) _ p λ t e. holds-accept _ tt p (sym (volumes-take p o f) ∙ decision _ t p e)
 
   pub rest-facts : Holds (RestFacts m p o) (run (restPlan m o) p)
-  unfolding restPlan metricsPlan namesPlan tracePlan volumesPlan
+  unfolding restPlan tablesPlan
   rest-facts =
-      let s = nextsIn o (take (o .head .trace .end) p) in
-      holds-await _ (headEnd o) _ p λ _.
-      holds-stop _ 7 (faultAt 0 (ltb m (o .head .trace .count))) _ p λ e7.
-      holds-stop _ 8 (faultAt 0 (ltb (o .head .volumes .len) (o .head .volumes .count * layoutOf (o .version) .volume))) _ p λ e8.
-      holds-await _ (o .head .metrics .end) _ p λ _.
-      holds-stop _ 9 (firstMisfit (o .version) (part (o .head .metrics) (take (o .head .metrics .end) p)) (o .head .metrics .count) (o .head .strings .len)) _ p λ _.
-      holds-await _ (namesRequired o) _ p λ _.
-      holds-stop _ 10 (firstUnsound (o .version) (part (o .head .metrics) (take (namesRequired o) p)) (o .head .metrics .count) (part (o .head .strings) (take (namesRequired o) p))) _ p λ e10.
-      holds-await _ (o .head .trace .end) _ p λ _.
-      holds-then _ (decide (linkChecks s)) _ p λ n e11.
-      holds-await _ (volumesRequired o) _ p λ _.
-      holds-then _ (decide (volumesFrom (part (o .head .volumes) (take (volumesRequired o) p)) (o .version) (o .head .volumes .count) 0)) _ p λ t e14.
-      holds-accept _ _ p (accepts n (clear _ _ e7) (clear _ _ e8) (sym (unsound-take p o f) ∙ e10) (decision _ n p e11) (decision _ t p e14))
+      holds-reach (headEnd (o .layout)) _ p _ λ _.
+      holds-check _ 7 (placesFault m (o .head .trace .count)) _ p λ e7.
+      holds-check _ 8 (entriesFault (o .head .volumes .count) (volumeEntry (o .layout)) (o .head .volumes .len)) _ p λ e8.
+      holds-then _ (fitsPlan o) _ p λ _ _.
+      holds-then _ (textsPlan o) _ p λ u e10.
+      holds-then _ (tracePlan o) _ p λ t e11.
+      holds-then _ (volumesPlan o) _ p λ w e14.
+      holds-accept _ _ p
+      (accepts t (places-met _ _ _ refl e7) (entries-met _ _ _ _ refl e8) (texts-hold .holds u e10) (trace-hold .holds t e11) (volumes-hold .holds w e14))
     where
-      accepts : (n : ℕ)
+      accepts : (t : List ℕ)
           → o .head .trace .count ≤ m
-          → o .head .volumes .count * layoutOf (o .version) .volume ≤ o .head .volumes .len
-          → firstUnsound (o .version) (part (o .head .metrics) p) (o .head .metrics .count) (part (o .head .strings) p) ≡ Nothing
-          → linkChecks (nextsIn o (take (o .head .trace .end) p)) ≡ accept n
-          → volumesFrom (part (o .head .volumes) (take (volumesRequired o) p)) (o .version) (o .head .volumes .count) 0 ≡ accept tt
-          → RestFacts m p o (record { fields = recordOf o (take (headEnd o) p) n; table = predecessors (nextsIn o (take (o .head .trace .end) p)) m })
-      accepts n places entries names links volumes =
+          → EntriesFit o
+          → unsoundIn p o f p ≡ Nowhere
+          → (t ≡ nextsIn o p) × (linkChecks (nextsIn o p) ≡ accept (chains (nextsIn o p)))
+          → volumesIn p o f p ≡ accept tt
+          → RestFacts m p o (record { fields = recordOf o (take (headEnd (o .layout)) p) (chains t); table = predecessors t m })
+      accepts t places entries names links volumes =
           let s = nextsIn o p in
-          let e : linkChecks s ≡ accept n = rw (trace-take p o f) at links in
           record {
             places = places;
             entries = entries;
             names = names-found names;
-            free = free s _ (length-nexts _ _) (trace-few p o f) n e;
-            volumes = volumes-sound _ _ _ .0 (sym (volumes-take p o f) ∙ volumes);
-            fields = record-take o p n ∙ ap (recordOf o p) (accepted s n e .counted);
-            table = rw (trace-take p o f);
+            free = free s _ (length-nexts _ _ _) (trace-few p o f) (chains s) (links .1);
+            volumes = volumes-sound _ _ _ .0 volumes;
+            fields = record-take o p (chains t) (open-sound p o f) ∙ ap (λ (x : List ℕ). recordOf o p (chains x)) (links .0);
+            table = ap (λ (x : List ℕ). predecessors x m) (links .0);
           }
 
   module _ (d : declaredSize p ≤ length p) (x : Acceptable) (r : RestFacts m p o x) where
-    abbrev allNexts : List ℕ
-    allNexts = nextsIn o p
-
     -- a name that is sound fits the strings section, which has all its bytes
-    none-misfit : firstMisfit (o .version) (part (o .head .metrics) p) (o .head .metrics .count) (o .head .strings .len) ≡ Nothing
-    unfolding firstMisfit
+    none-misfit : misfitIn p o f p ≡ Nowhere
+    unfolding misfitFault
     none-misfit =
-        let e = part-length (o .head .strings) (headEnd o) p (open-shapes p o f .strings-end) (le-trans (f .strings) d) in
-        first-is-nothing _ (o .head .metrics .count) (λ i l. ap not (le-fits _ _ _ (omega (arith, r .names i l .inside, e))))
+        let e = part-length (o .head .strings) (headEnd (o .layout)) p (open-shapes p o f .strings-end) (le-trans (f .strings) d) in
+        ap faultOf (first-is-nothing _ (o .head .metrics .count) (λ i l. ap not (le-fits _ _ _ (omega (arith, r .names i l .inside, e)))))
 
-    none-unsound : firstUnsound (o .version) (part (o .head .metrics) p) (o .head .metrics .count) (part (o .head .strings) p) ≡ Nothing
-    unfolding firstUnsound
-    none-unsound = first-is-nothing _ (o .head .metrics .count) (λ i l. ap not (sound-name _ _ _ .1 (r .names i l)))
+    none-unsound : unsoundIn p o f p ≡ Nowhere
+    unfolding unsoundFault
+    none-unsound = ap faultOf (first-is-nothing _ (o .head .metrics .count) (λ i l. ap not (sound-name _ _ _ .1 (r .names i l))))
 
-    volumes-complete : (y : Acceptable) → decided (accept y) ≡ run (volumesPlan o y) p
-    unfolding volumesPlan andThen
-    volumes-complete y =
-        await-here (volumesRequired o) _ p _ (le-trans (volumes-required-low p o f) d)
-        (rw (volumes-take p o f ∙ volumes-sound (part (o .head .volumes) p) (o .version) (o .head .volumes .count) .1 (r .volumes)) (sym (run-decide _ p)))
+    fits-complete : run (fitsPlan o) p ≡ decided (accept tt)
+    unfolding fitsPlan run
+    fits-complete =
+        reach-here (o .head .metrics .end) _ p (le-trans (f .metrics) d) ∙ check-passed 9 _ _ p (misfit-take p o f ∙ none-misfit)
 
-    trace-complete : (fields : ℕ → Acceptance) → fields (chains allNexts) ≡ x .fields → decided (accept x) ≡ run (tracePlan m o fields) p
-    unfolding tracePlan andThen
-    trace-complete fields e =
-        await-here (o .head .trace .end) _ p _ (le-trans (f .trace) d)
-        (rw (trace-take p o f, free-passes allNexts _ (length-nexts _ _) (trace-few p o f) (r .free), e, ← r .table) (volumes-complete x))
+    texts-complete : run (textsPlan o) p ≡ decided (accept tt)
+    unfolding textsPlan run
+    texts-complete =
+        reach-here (namesRequired (o .layout) (o .head)) _ p (le-trans (names-required-low p o f) d)
+        ∙ check-passed 10 _ _ p (unsound-take p o f ∙ none-unsound)
+
+    trace-complete : run (tracePlan o) p ≡ decided (accept (nextsIn o p))
+    unfolding tracePlan run
+    trace-complete =
+        let c = free-clear (nextsIn o p) _ (length-nexts _ _ _) (trace-few p o f) (r .free) in
+        reach-here (o .head .trace .end) _ p (le-trans (f .trace) d)
+        ∙ rw (trace-take p o f) (check-passed 11 _ _ p (c .0) ∙ check-passed 12 _ _ p (c .1) ∙ check-passed 13 _ _ p (c .2))
+
+    volumes-complete : run (volumesPlan o) p ≡ decided (accept tt)
+    unfolding volumesPlan run andThen
+    volumes-complete =
+        reach-here (volumesRequired (o .layout) (o .head)) _ p (le-trans (volumes-required-low p o f) d)
+        ∙ rw (volumes-take p o f ∙ volumes-sound (part (o .head .volumes) p) (o .layout) (o .head .volumes .count) .1 (r .volumes))
+
+    tables-complete : run (tablesPlan m o (take (headEnd (o .layout)) p)) p ≡ decided (accept x)
+    unfolding tablesPlan run
+    tables-complete =
+        let g : recordOf o (take (headEnd (o .layout)) p) (chains (nextsIn o p)) ≡ x .fields = record-take o p _ (open-sound p o f) ∙ sym (r .fields) in
+        let t : predecessors (nextsIn o p) m ≡ x .table = sym (r .table) in
+        sym
+        ((λ i. decided (accept (record { fields = sym g i; table = sym t i })))
+        ∙ answer-then (volumesPlan o) _ p _ volumes-complete
+        ∙ answer-then (tracePlan o) _ p _ trace-complete
+        ∙ answer-then (textsPlan o) _ p _ texts-complete
+        ∙ answer-then (fitsPlan o) _ p _ fits-complete)
 
     pub rest-complete : run (restPlan m o) p ≡ decided (accept x)
-    unfolding metricsPlan namesPlan
+    unfolding restPlan
     rest-complete =
-        sym
-        (room-enough m o p (f .whole) _ (record { places = r .places; entries = r .entries })
-        (await-here (o .head .metrics .end) _ p _ (le-trans (f .metrics) d)
-        (stop-miss 9 _ _ _ p _ refl (misfit-take p o f ∙ none-misfit)
-        (await-here (namesRequired o) _ p _ (le-trans (names-required-low p o f) d)
-        (stop-miss 10 _ _ _ p _ refl (unsound-take p o f ∙ none-unsound)
-        (trace-complete (recordOf o (take (headEnd o) p)) (record-take o p _ ∙ sym (r .fields))))))))
+        reach-here (headEnd (o .layout)) _ p (f .whole)
+        ∙ check-passed 7 _ _ p (sym (places-enough m (o .head .trace .count) (r .places)))
+        ∙ check-passed 8 _ _ p (sym (entries-fit (o .head .volumes .count) (volumeEntry (o .layout)) (o .head .volumes .len) (r .entries)))
+        ∙ tables-complete
 
 -- what all checks accept, in both directions
 pub read-facts : (m : ℕ) (p : List ℕ) → Holds (λ x. (o : Opening) × OpenFacts p o × RestFacts m p o x) (prefixAnswer p m)
-unfolding readPlan
 read-facts m p =
-    holds-then _ openPlan (restPlan m) p λ o e.
+    rw (← read-opens m p)
+    (holds-then _ openPlan (restPlan m) p λ o e.
     let f = open-facts p .holds o e in
-    record { holds = λ x q. (o, f, rest-facts m p o f .holds x q) }
+    record { holds = λ x q. (o, f, rest-facts m p o f .holds x q) })
 
-pub read-complete : (m : ℕ) (p : List ℕ) (o : Opening) (x : Acceptable) → OpenFacts p o → declaredSize p ≤ length p → RestFacts m p o x → prefixAnswer p m ≡ decided (accept x)
-unfolding readPlan
-read-complete m p o x f d r = rw (run-then openPlan (restPlan m) p, open-complete p o f) (rest-complete m p o f d x r)
+pub read-complete : (m : ℕ) (p : List ℕ) (o : Opening) (x : Acceptable) → OpenFacts p o → declaredSize p ≤ length p → RestFacts m p o x
+    → prefixAnswer p m ≡ decided (accept x)
+read-complete m p o x f d r =
+    sym (read-opens m p) ∙ run-then openPlan (restPlan m) p ∙ rw (open-complete p o f) (rest-complete m p o f d x r)
 
 -- ---- the whole reader
 
 -- an acceptance is one of all checks, of a file as long as it says
-pub whole-accepted : (n : ℕ) (y : Answer Acceptable) (x : Acceptable) → whole n y ≡ decided (accept x) → (y ≡ decided (accept x)) × (x .fields .size ≡ n)
-whole-accepted n (decided (accept z)) x e = go (ltb n (z .fields .size)) (ltb (z .fields .size) n) refl refl e
+pub whole-accepted : (n : ℕ) (y : Answer Acceptable) (x : Acceptable) → whole n y ≡ decided (accept x) → (y ≡ decided (accept x)) × (sizeOf x ≡ n)
+whole-accepted n (decided (accept z)) x e = go (ltb n (sizeOf z)) (ltb (sizeOf z) n) refl refl e
   where
-    go : (short long : Bool) → ltb n (z .fields .size) ≡ short → ltb (z .fields .size) n ≡ long → decided (sized short long z) ≡ decided (accept x)
-        → (decided (accept z) ≡ decided (accept x)) × (x .fields .size ≡ n)
+    go : (short long : Bool) → ltb n (sizeOf z) ≡ short → ltb (sizeOf z) n ≡ long → decided (sized short long z) ≡ decided (accept x)
+        → (decided (accept z) ≡ decided (accept x)) × (sizeOf x ≡ n)
     go true long p q e = let w : _≡_ {A = ℕ} 0 1 = cc in absurd (omega arith)
     go false true p q e = let w : _≡_ {A = ℕ} 0 1 = cc in absurd (omega arith)
     go false false p q e =
         let w : z ≡ x = cc in
-        let s : z .fields .size ≡ x .fields .size = ap (λ (t : Acceptable). t .fields .size) w in
-        (e, omega (arith, ltb-false n (z .fields .size) p, ltb-false (z .fields .size) n q))
+        let s : sizeOf z ≡ sizeOf x = ap (λ (t : Acceptable). sizeOf t) w in
+        (e, omega (arith, ltb-false n (sizeOf z) p, ltb-false (sizeOf z) n q))
 whole-accepted n (decided (refuse r)) x e = let w : _≡_ {A = ℕ} 0 1 = cc in absurd (omega arith)
 whole-accepted n (wants k) x e = let w : _≡_ {A = ℕ} 0 1 = cc in absurd (omega arith)
 
-pub whole-accepts : (n : ℕ) (y : Answer Acceptable) (x : Acceptable) → y ≡ decided (accept x) → x .fields .size ≡ n → whole n y ≡ decided (accept x)
-whole-accepts n y x e s = rw (e, le-ltb n (x .fields .size) (omega arith), le-ltb (x .fields .size) n (omega arith))
+pub whole-accepts : (n : ℕ) (y : Answer Acceptable) (x : Acceptable) → y ≡ decided (accept x) → sizeOf x ≡ n → whole n y ≡ decided (accept x)
+whole-accepts n y x e s = rw (e, le-ltb n (sizeOf x) (omega arith), le-ltb (sizeOf x) n (omega arith))

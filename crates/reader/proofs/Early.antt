@@ -1,81 +1,104 @@
--- DEMAND 3: what the prefix reader accepts or refuses early stands.
+-- DEMAND 3, the proof: what the prefix reader accepts or refuses early stands, since a plan sees no byte beyond what it has reached; and no
+-- required length exceeds the greater of sixteen and S.
 use mathlib.Core.Path.{_≡_, refl, sym, _∙_, ap, subst⁻¹}
 use mathlib.Core.List.{List}
-use Prim.Native.Nat.{ℕ, _*_, _≤_}
+use Prim.Native.Nat.{ℕ, _≤_}
 use native.Mathlib.Nat.{le-trans}
 use native.Mathlib.Decide.{ℕ-discrete}
 use native.Mathlib.Omega.{arith}
 use borrow.Author.Tests.{eq-eqb, ne-eqb}
-use lib.Dec.{ltb}
 use lib.ListN.{length, take}
 use lib.Seq.{length-take-le, take-length}
 use Rattle.little_endian.proofs.Number.{le-take}
-use Rattle.layout.specs.Versions.{layoutOf}
+use Rattle.layout.specs.Versions.{headEnd, volumeEntry}
 use Rattle.incremental.specs.Decision.{Decision}
 use Rattle.incremental.specs.Plan.{decide, Answer, decided, wants, run}
-use Rattle.incremental.proofs.Plan.{stands, begins-take, Decided, decided-decide, decided-await, decided-then}
+use Rattle.incremental.proofs.Plan.{stands, begins-take, Decided, decided-decide, decided-reach, decided-check, decided-then}
 use Rattle.incremental.specs.declared.Refusal.{Refusal}
-use Rattle.sections.specs.Fields.{declaredSize, faultAt, part}
+use Rattle.sections.specs.Fields.{declaredSize, part, placesFault, entriesFault}
 use Rattle.head.specs.Checks.{openPlan}
 use Rattle.head.specs.Private.{OpenFacts}
-use Rattle.head.proofs.Facts.{open-facts, decided-open, decided-stop}
+use Rattle.head.proofs.Facts.{open-facts, decided-open}
 use Rattle.head.specs.declared.checks.Opening.{Opening}
-use Rattle.names.specs.Names.{firstMisfit, firstUnsound}
-use Rattle.trace.specs.Links.{linkChecks}
+use Rattle.names.specs.Names.{misfitFault, unsoundFault}
+use Rattle.trace.specs.Links.{astrayFault, sharedFault, cyclicFault}
 use Rattle.volumes.specs.Volumes.{volumesFrom}
 use Rattle.reader.specs.declared.verdict.Acceptance.{Acceptance}
 use Rattle.reader.specs.declared.verdict.Verdict.{Verdict}
 use Rattle.reader.specs.declared.verdict.Verdict.the-variants.{Accepted, Refused, Wanted}
 use Rattle.reader.specs.Verdict.{Acceptable, Reads, valuesOf, answerValues, wantedValues, bufferAfter}
 use Rattle.reader.proofs.Values.{same-values, wanted-answer}
-use Rattle.reader.specs.Checks.{nextsIn, headEnd, volumesRequired, namesRequired, volumesPlan, tracePlan, namesPlan, metricsPlan, restPlan, readPlan, prefixAnswer, ReadsPrefix}
+use Rattle.reader.specs.Checks.{nextsIn, volumesRequired, namesRequired, readPlan, prefixAnswer, ReadsPrefix}
+use Rattle.reader.specs.Private.{fitsPlan, textsPlan, tracePlan, volumesPlan, tablesPlan, restPlan}
+use Rattle.reader.proofs.Opens.{read-opens}
 use Rattle.reader.specs.Early.{EarlyStands}
 
 -- ---- no required length exceeds the greater of sixteen and S
-pub names-required-low : (p : List ℕ) (o : Opening) → OpenFacts p o → namesRequired o ≤ declaredSize p
+
+pub names-required-low : (p : List ℕ) (o : Opening) → OpenFacts p o → namesRequired (o .layout) (o .head) ≤ declaredSize p
 names-required-low p o f = go (ℕ-discrete (o .head .metrics .count) 0)
   where
-    go : Dec (o .head .metrics .count ≡ 0) → namesRequired o ≤ declaredSize p
+    go : Dec (o .head .metrics .count ≡ 0) → namesRequired (o .layout) (o .head) ≤ declaredSize p
     go (yes z) = rw (eq-eqb _ _ z) (f .start .least)
     go (no z) = rw (ne-eqb _ _ z) (omega (arith, f .metrics, f .strings))
 
-pub volumes-required-low : (p : List ℕ) (o : Opening) → OpenFacts p o → volumesRequired o ≤ declaredSize p
+pub volumes-required-low : (p : List ℕ) (o : Opening) → OpenFacts p o → volumesRequired (o .layout) (o .head) ≤ declaredSize p
 volumes-required-low p o f = go (ℕ-discrete (o .head .volumes .count) 0)
   where
-    go : Dec (o .head .volumes .count ≡ 0) → volumesRequired o ≤ declaredSize p
+    go : Dec (o .head .volumes .count ≡ 0) → volumesRequired (o .layout) (o .head) ≤ declaredSize p
     go (yes z) = rw (eq-eqb _ _ z) (f .start .least)
     go (no z) = rw (ne-eqb _ _ z) (f .volumes)
 
-decided-volumes : (p : List ℕ) (o : Opening) (x : Acceptable) → OpenFacts p o → declaredSize p ≤ length p → Decided (run (volumesPlan o x) p)
-unfolding volumesPlan
-decided-volumes p o x f d =
-    decided-await (volumesRequired o) _ p (le-trans (volumes-required-low p o f) d)
-    (decided-then (decide (volumesFrom (part (o .head .volumes) (take (volumesRequired o) p)) (o .version) (o .head .volumes .count) 0)) _ p
-    (decided-decide _ p) λ a e. decided-decide _ p)
+module _ (p : List ℕ) (o : Opening) (f : OpenFacts p o) (d : declaredSize p ≤ length p) where
+  decided-fits : Decided (run (fitsPlan o) p)
+  unfolding fitsPlan
+  decided-fits =
+      let b = take (o .head .metrics .end) p in
+      decided-reach (o .head .metrics .end) _ p (le-trans (f .metrics) d)
+      (decided-check 9 (misfitFault (o .layout) (part (o .head .metrics) b) (o .head .metrics .count) (o .head .strings .len)) _ p λ _. decided-decide _ p)
 
-decided-trace : (m : ℕ) (p : List ℕ) (o : Opening) (fields : ℕ → Acceptance) → OpenFacts p o → declaredSize p ≤ length p → Decided (run (tracePlan m o fields) p)
-unfolding tracePlan
-decided-trace m p o fields f d =
-    decided-await (o .head .trace .end) _ p (le-trans (f .trace) d)
-    (decided-then (decide (linkChecks (nextsIn o (take (o .head .trace .end) p)))) _ p
-    (decided-decide _ p) λ chains e. decided-volumes p o _ f d)
+  decided-texts : Decided (run (textsPlan o) p)
+  unfolding textsPlan
+  decided-texts =
+      let k = namesRequired (o .layout) (o .head) in
+      decided-reach k _ p (le-trans (names-required-low p o f) d)
+      (decided-check 10 (unsoundFault (o .layout) (part (o .head .metrics) (take k p)) (o .head .metrics .count) (part (o .head .strings) (take k p))) _ p
+      λ _. decided-decide _ p)
 
-decided-rest : (m : ℕ) (p : List ℕ) (o : Opening) → OpenFacts p o → declaredSize p ≤ length p → Decided (run (restPlan m o) p)
-unfolding restPlan metricsPlan namesPlan
-decided-rest m p o f d =
-    decided-await (headEnd o) _ p (f .whole)
-    (decided-stop 7 (faultAt 0 (ltb m (o .head .trace .count))) _ p λ _.
-    decided-stop 8 (faultAt 0 (ltb (o .head .volumes .len) (o .head .volumes .count * layoutOf (o .version) .volume))) _ p λ _.
-    decided-await (o .head .metrics .end) _ p (le-trans (f .metrics) d)
-    (decided-stop 9 (firstMisfit (o .version) (part (o .head .metrics) (take (o .head .metrics .end) p)) (o .head .metrics .count) (o .head .strings .len)) _ p λ _.
-    decided-await (namesRequired o) _ p (le-trans (names-required-low p o f) d)
-    (decided-stop 10 (firstUnsound (o .version) (part (o .head .metrics) (take (namesRequired o) p)) (o .head .metrics .count) (part (o .head .strings) (take (namesRequired o) p))) _ p λ _.
-    decided-trace m p o _ f d)))
+  decided-trace : Decided (run (tracePlan o) p)
+  unfolding tracePlan
+  decided-trace =
+      let s = nextsIn o (take (o .head .trace .end) p) in
+      decided-reach (o .head .trace .end) _ p (le-trans (f .trace) d)
+      (decided-check 11 (astrayFault s) _ p λ _.
+      decided-check 12 (sharedFault s) _ p λ _.
+      decided-check 13 (cyclicFault s) _ p λ _.
+      decided-decide _ p)
+
+  decided-volumes : Decided (run (volumesPlan o) p)
+  unfolding volumesPlan
+  decided-volumes =
+      let k = volumesRequired (o .layout) (o .head) in
+      decided-reach k _ p (le-trans (volumes-required-low p o f) d)
+      (decided-then (decide (volumesFrom (part (o .head .volumes) (take k p)) (o .layout) (o .head .volumes .count) 0)) _ p
+      (decided-decide _ p) λ _ _. decided-decide _ p)
+
+  decided-rest : (m : ℕ) → Decided (run (restPlan m o) p)
+  unfolding restPlan tablesPlan
+  decided-rest m =
+      decided-reach (headEnd (o .layout)) _ p (f .whole)
+      (decided-check 7 (placesFault m (o .head .trace .count)) _ p λ _.
+      decided-check 8 (entriesFault (o .head .volumes .count) (volumeEntry (o .layout)) (o .head .volumes .len)) _ p λ _.
+      decided-then (fitsPlan o) _ p decided-fits λ _ _.
+      decided-then (textsPlan o) _ p decided-texts λ _ _.
+      decided-then (tracePlan o) _ p decided-trace λ _ _.
+      decided-then (volumesPlan o) _ p decided-volumes λ _ _.
+      decided-decide _ p)
 
 pub decided-read : (m : ℕ) (p : List ℕ) → 16 ≤ length p → declaredSize p ≤ length p → Decided (prefixAnswer p m)
-unfolding readPlan
 decided-read m p h d =
-    decided-then openPlan (restPlan m) p (decided-open p h d) λ o e. decided-rest m p o (open-facts p .holds o e) d
+    rw (← read-opens m p)
+    (decided-then openPlan (restPlan m) p (decided-open p h d) λ o e. decided-rest p o (open-facts p .holds o e) d m)
 
 -- ---- a verdict that is no request is a decision
 decided-answer : (x : Answer Acceptable) → ((k : ℕ) → answerValues x ≡ wantedValues k → ⊥) → (d : Decision Acceptable) × (x ≡ decided d)
@@ -129,7 +152,8 @@ demand-3 xs i j buffer buffer′ v w after after′ h l r s =
     early-stands xs i j (length buffer) h v w after after′ r (subst⁻¹ (λ (m : ℕ). Reads (prefixAnswer (take j xs) m) m w after′) l s)
 
 -- Beyond the first sixteen, no byte after S is looked at: bytes that agree up to there get one answer
-pub after-size : (p q : List ℕ) (m n : ℕ) → 16 ≤ n → declaredSize p ≤ n → n ≤ length p → n ≤ length q → take n p ≡ take n q → prefixAnswer p m ≡ prefixAnswer q m
+pub after-size : (p q : List ℕ) (m n : ℕ) → 16 ≤ n → declaredSize p ≤ n → n ≤ length p → n ≤ length q → take n p ≡ take n q
+    → prefixAnswer p m ≡ prefixAnswer q m
 after-size p q m n a b lp lq e = same p lp refl ∙ ap (λ (t : List ℕ). prefixAnswer t m) e ∙ sym (same q lq (sym e))
   where
     size : declaredSize (take n p) ≤ n

@@ -1,5 +1,8 @@
-pub mod Allowed
-pub mod AllowedLaws
-pub mod Early
-pub mod Stages
 pub mod Values
+pub mod Stages
+pub mod Tables
+pub mod Opens
+pub mod Readers
+pub mod Early
+pub mod AllowedLaws
+pub mod Allowed

@@ -1,236 +1,212 @@
--- The reader's stages, for `search` at a function's returns: what calls gave picks the case.
+-- The stages from check 9 on, by what the calls in their code gave: each way out of a stage is a run of its plan.
 use mathlib.Core.Path.{_≡_, refl, sym, ap, _∙_}
 use mathlib.Core.List.{List}
 use Prim.Native.Nat.{ℕ, _*_, _≤_, _<_}
-use native.Mathlib.Omega.{arith}
-use lib.ListN.{length, take, length-take}
 use native.Mathlib.Decide.{ℕ-discrete}
 use native.Mathlib.Nat.{zero-mul}
-use borrow.Author.Tests.{lt-ltb, le-ltb, ne-eqb}
-use Rattle.lists.specs.declared.Found.{Found}
-use Rattle.lists.specs.declared.Found.the-variants.{At, Nothing}
-use Rattle.layout.specs.Versions.{layoutOf}
-use Rattle.layout.specs.declared.Layout.{Layout}
+use native.Mathlib.Omega.{arith}
+use lib.ListN.{length, take, length-take}
+use borrow.Author.Tests.{ne-eqb}
+use Rattle.layout.specs.Versions.{headEnd, volumeEntry, traceEntry}
+use Rattle.incremental.specs.Decision as decision
 use Rattle.incremental.specs.Decision.{Decision, accept, refuse, refusal, checkedOf}
-use Rattle.incremental.specs.Plan.{Plan, decide, andThen, Answer, decided, wants, run}
-use Rattle.incremental.proofs.Plan.{run-here, run-short}
+use Rattle.incremental.specs.Plan.{Plan, decide, Answer, decided, wants, run, andThen, reach, check, done, outcomeOf, _>>=_, _>>_}
+use Rattle.incremental.proofs.Plan.{onward, run-then, reach-here, reach-short, reach-wants, reach-on}
+use Rattle.incremental.proofs.Plan.{check-refused, check-on, check-fault, check-passed, decide-it, then-case}
 use Rattle.incremental.specs.declared.Refusal.{Refusal}
+use Rattle.incremental.specs.declared.Fault.{Fault}
+use Rattle.incremental.specs.declared.Fault.the-variants.{At, Nowhere}
 use Rattle.incremental.specs.declared.Checked.{Checked}
 use Rattle.incremental.specs.declared.Checked.the-variants as checked
-use Rattle.sections.specs.Fields.{part}
-use Rattle.head.proofs.Steps.{row-short, row-hit, row-miss}
+use Rattle.incremental.specs.declared.Outcome.{Outcome}
+use Rattle.incremental.specs.declared.Outcome.the-variants as out
+use Rattle.sections.specs.Fields.{part, entriesFault, placesFault}
+use Rattle.sections.proofs.Cases.{entries-fit}
 use Rattle.head.specs.Private.{OpenFacts}
-use Rattle.head.proofs.Facts.{part-length, open-shapes}
+use Rattle.head.proofs.Rules.{part-length}
+use Rattle.head.proofs.Facts.{open-shapes}
 use Rattle.head.specs.declared.checks.Opening.{Opening}
-use Rattle.names.specs.Names.{firstMisfit, firstUnsound}
-use Rattle.trace.specs.Links.{nexts, linkChecks, predecessors, linksOf, LinkAnswer, held, filled}
+use Rattle.names.specs.Names.{misfitFault, unsoundFault}
+use Rattle.trace.specs.Links.{nexts, astrayFault, sharedFault, cyclicFault, linkChecks, chains, predecessors, linksOf, LinkAnswer, held}
 use Rattle.trace.proofs.Accepted.{trace-room}
 use Rattle.trace.proofs.Steps.{length-nexts}
 use Rattle.trace.specs.declared.Links.{Links}
 use Rattle.trace.specs.declared.Links.the-variants as links
 use Rattle.volumes.specs.Volumes.{volumesFrom, volumesChecks}
 use Rattle.volumes.proofs.Laws.{volumes-room}
+use Rattle.reader.specs.declared.checks.TraceOutcome.the-variants as outcome
 use Rattle.reader.specs.declared.verdict.Acceptance.{Acceptance}
-use Rattle.reader.specs.declared.verdict.Verdict.{Verdict}
-use Rattle.reader.specs.declared.verdict.Verdict.the-variants.{Accepted, Refused, Wanted}
-use Rattle.reader.specs.Verdict.{Acceptable, Reads, valuesOf, bufferAfter}
-use Rattle.reader.proofs.Values.{accepted-answer, refused-answer, wanted-answer}
-use Rattle.reader.specs.Checks.{headEnd, recordOf, volumesRequired, volumesPlan, tracePlan, namesRequired, namesPlan, metricsPlan, restPlan, whole}
-use Rattle.reader.specs.Private.{verdictOf, RoomFor, wrongLength}
-
--- ---- 14 and 15
-module _ (o : Opening) (p : List ℕ) (k : ℕ) (e : k ≡ volumesRequired o) where
-  pub volumes-short : (x : Acceptable) → length p < k → wants k ≡ run (volumesPlan o x) p
-  unfolding volumesPlan
-  volumes-short x h = rw (run-short (volumesRequired o) _ p (rw (← e) h), ← e)
-
-  -- what is decided where the section is there
-  volumes-here : (x : Acceptable) (d : Decision Unit) → k ≤ length p → volumesFrom (part (o .head .volumes) (take k p)) (o .version) (o .head .volumes .count) 0 ≡ d
-      → run (volumesPlan o x) p ≡ run (andThen (decide d) λ _. decide (accept x)) p
-  unfolding volumesPlan
-  volumes-here x d h q = rw (run-here (volumesRequired o) _ p (rw (← e) h), ← e, q)
-
-  pub volumes-passed : (x : Acceptable) (r : Checked) (section : List ℕ) → k ≤ length p → section ≡ part (o .head .volumes) (take k p)
-      → o .head .volumes .count * layoutOf (o .version) .volume ≤ length (part (o .head .volumes) (take k p))
-      → checkedOf r ≡ volumesChecks section (o .version) (o .head .volumes .count) → r ≡ checked.Passed
-      → decided (accept x) ≡ run (volumesPlan o x) p
-  unfolding run andThen
-  volumes-passed x r section h s room c q =
-      sym (volumes-here x (checkedOf r) h (sym (volumes-room _ _ _ room) ∙ ap (λ (t : List ℕ). volumesChecks t (o .version) (o .head .volumes .count)) (sym s) ∙ sym c) ∙ rw q)
-
-  pub volumes-refused : (x : Acceptable) (r : Checked) (f : Refusal) (section : List ℕ) → k ≤ length p → section ≡ part (o .head .volumes) (take k p)
-      → o .head .volumes .count * layoutOf (o .version) .volume ≤ length (part (o .head .volumes) (take k p))
-      → checkedOf r ≡ volumesChecks section (o .version) (o .head .volumes .count) → r ≡ checked.Refused f
-      → decided (refuse f) ≡ run (volumesPlan o x) p
-  unfolding run andThen
-  volumes-refused x r f section h s room c q =
-      sym (volumes-here x (checkedOf r) h (sym (volumes-room _ _ _ room) ∙ ap (λ (t : List ℕ). volumesChecks t (o .version) (o .head .volumes .count)) (sym s) ∙ sym c) ∙ rw q)
-
--- ---- 11 to 13
-abbrev nextsOf : Opening → List ℕ → List ℕ
-nextsOf o section = nexts section (o .head .trace .count)
-
--- what follows the decision on the links
-abbrev afterLinks : ℕ → Opening → (ℕ → Acceptance) → List ℕ → Decision ℕ → Plan Acceptable
-afterLinks m o fields section d = andThen (decide d) λ chains. volumesPlan o (record { fields = fields chains; table = predecessors (nextsOf o section) m })
-
-module _ (m : ℕ) (o : Opening) (fields : ℕ → Acceptance) (p : List ℕ) where
-  pub trace-short : length p < o .head .trace .end → wants (o .head .trace .end) ≡ run (tracePlan m o fields) p
-  unfolding tracePlan
-  trace-short h = sym (run-short (o .head .trace .end) _ p h)
-
-  module _ (section : List ℕ) (h : o .head .trace .end ≤ length p) (e : section ≡ part (o .head .trace) (take (o .head .trace .end) p))
-      (room : o .head .trace .count ≤ m) (r : Links) (buffer : List ℕ) (a : LinkAnswer section (o .head .trace .count) m r buffer) where
-    decides : linkChecks (nextsOf o section) ≡ linksOf r
-    decides = sym (a .answer ∙ trace-room (nextsOf o section) m (rw (length-nexts section (o .head .trace .count)) room))
-
-    trace-here : run (tracePlan m o fields) p ≡ run (afterLinks m o fields section (linksOf r)) p
-    unfolding tracePlan
-    trace-here = rw (run-here (o .head .trace .end) _ p h, ← e) (ap (λ (d : Decision ℕ). run (afterLinks m o fields section d) p) decides)
-
-    trace-case : (l : Links) → r ≡ l → run (tracePlan m o fields) p ≡ run (afterLinks m o fields section (linksOf l)) p
-    trace-case l q = trace-here ∙ ap (λ (x : Links). run (afterLinks m o fields section (linksOf x)) p) q
-
-    pub trace-refused : (f : Refusal) → r ≡ links.Refused f → decided (refuse f) ≡ run (tracePlan m o fields) p
-    unfolding run andThen
-    trace-refused f q = sym (trace-case (links.Refused f) q)
-
-    -- the buffer is the table
-    tabled : (n : ℕ) → r ≡ links.Chains n → buffer ≡ predecessors (nextsOf o section) m
-    tabled n q = a .holds ∙ ap (λ (d : Decision ℕ). held d (nextsOf o section) m) (sym (a .answer) ∙ ap linksOf q)
-
-    pub trace-passed : (n : ℕ) (x : Acceptance) (v : Verdict) → r ≡ links.Chains n → x ≡ fields n
-        → ((t : List ℕ) → verdictOf v t ≡ run (volumesPlan o (record { fields = x; table = t })) p)
-        → verdictOf v buffer ≡ run (tracePlan m o fields) p
-    unfolding andThen
-    trace-passed n x v q f w =
-        w buffer
-        ∙ ap (λ (t : List ℕ). run (volumesPlan o (record { fields = x; table = t })) p) (tabled n q)
-        ∙ ap (λ (y : Acceptance). run (volumesPlan o (record { fields = y; table = predecessors (nextsOf o section) m })) p) f
-        ∙ sym (trace-case (links.Chains n) q)
-
--- ---- 10
-abbrev unsoundIn : Opening → List ℕ → Found
-unsoundIn o b = firstUnsound (o .version) (part (o .head .metrics) b) (o .head .metrics .count) (part (o .head .strings) b)
-
-module _ (m : ℕ) (o : Opening) (fields : ℕ → Acceptance) (p : List ℕ) (k : ℕ) (e : k ≡ namesRequired o) where
-  pub names-short : length p < k → wants k ≡ run (namesPlan m o fields) p
-  unfolding namesPlan
-  names-short h = row-short 10 k (namesRequired o) (unsoundIn o) (tracePlan m o fields) p e h
-
-  module _ (metrics strings : List ℕ) (r : Found) (h : k ≤ length p) (a : metrics ≡ part (o .head .metrics) (take k p))
-      (b : strings ≡ part (o .head .strings) (take k p)) (q : r ≡ firstUnsound (o .version) metrics (o .head .metrics .count) strings) where
-    found : r ≡ unsoundIn o (take k p)
-    found = rw (← a, ← b) q
-
-    pub names-hit : (i : ℕ) → r ≡ At i → decided (refuse (refusal 10 i)) ≡ run (namesPlan m o fields) p
-    unfolding namesPlan
-    names-hit i z = row-hit 10 k (namesRequired o) (unsoundIn o) (tracePlan m o fields) p e r i h found z
-
-    pub names-miss : (v : Answer Acceptable) → r ≡ Nothing → v ≡ run (tracePlan m o fields) p → v ≡ run (namesPlan m o fields) p
-    unfolding namesPlan
-    names-miss v z w = row-miss 10 k (namesRequired o) (unsoundIn o) (tracePlan m o fields) p e r v h found z w
+use Rattle.reader.specs.Verdict.{Acceptable}
+use Rattle.reader.specs.Checks.{namesRequired, volumesRequired, nextsIn, recordOf}
+use Rattle.reader.specs.Private.{fitsPlan, textsPlan, tracePlan, TraceAnswer, volumesPlan, EntriesFit, tablesPlan, restPlan}
 
 -- ---- 9
-abbrev misfitIn : Opening → List ℕ → Found
-misfitIn o b = firstMisfit (o .version) (part (o .head .metrics) b) (o .head .metrics .count) (o .head .strings .len)
+module _ (o : Opening) (p : List ℕ) where
+  pub fits-short : length p < o .head .metrics .end → wants (o .head .metrics .end) ≡ run (fitsPlan o) p
+  unfolding fitsPlan
+  fits-short h = reach-wants _ _ p h
 
-module _ (m : ℕ) (o : Opening) (fields : ℕ → Acceptance) (p : List ℕ) where
-  pub metrics-short : length p < o .head .metrics .end → wants (o .head .metrics .end) ≡ run (metricsPlan m o fields) p
-  unfolding metricsPlan
-  metrics-short h = row-short 9 (o .head .metrics .end) (o .head .metrics .end) (misfitIn o) (namesPlan m o fields) p refl h
+  module _ (a : List ℕ) (h : o .head .metrics .end ≤ length p) (e : a ≡ part (o .head .metrics) (take (o .head .metrics .end) p)) (r : Fault)
+      (f : r ≡ misfitFault (o .layout) a (o .head .metrics .count) (o .head .strings .len)) where
+    misfit : r ≡ misfitFault (o .layout) (part (o .head .metrics) (take (o .head .metrics .end) p)) (o .head .metrics .count) (o .head .strings .len)
+    misfit = rw (← e) f
 
-  module _ (metrics : List ℕ) (r : Found) (h : o .head .metrics .end ≤ length p) (a : metrics ≡ part (o .head .metrics) (take (o .head .metrics .end) p))
-      (q : r ≡ firstMisfit (o .version) metrics (o .head .metrics .count) (o .head .strings .len)) where
-    misfit : r ≡ misfitIn o (take (o .head .metrics .end) p)
-    misfit = rw (← a) q
+    pub fits-refused : (i : ℕ) → r ≡ At i → decided (refuse (refusal 9 i)) ≡ run (fitsPlan o) p
+    unfolding fitsPlan
+    fits-refused i q = reach-on _ _ p _ h (check-refused 9 _ _ p i r misfit q)
 
-    pub metrics-hit : (i : ℕ) → r ≡ At i → decided (refuse (refusal 9 i)) ≡ run (metricsPlan m o fields) p
-    unfolding metricsPlan
-    metrics-hit i z = row-hit 9 (o .head .metrics .end) (o .head .metrics .end) (misfitIn o) (namesPlan m o fields) p refl r i h misfit z
+    pub fits-pass : r ≡ Nowhere → decided (accept tt) ≡ run (fitsPlan o) p
+    unfolding fitsPlan
+    fits-pass q = reach-on _ _ p _ h (check-on 9 _ _ p r _ misfit q (decide-it _ _ p refl))
 
-    pub metrics-miss : (v : Answer Acceptable) → r ≡ Nothing → v ≡ run (namesPlan m o fields) p → v ≡ run (metricsPlan m o fields) p
-    unfolding metricsPlan
-    metrics-miss v z w = row-miss 9 (o .head .metrics .end) (o .head .metrics .end) (misfitIn o) (namesPlan m o fields) p refl r v h misfit z w
+-- ---- 10, with the required length at hand
+abbrev textsAt : ℕ → Opening → Plan Unit
+textsAt k o = do
+  b ← reach k
+  check 10 (unsoundFault (o .layout) (part (o .head .metrics) b) (o .head .metrics .count) (part (o .head .strings) b))
+  done tt
 
--- ---- 7 and 8
-module _ (m : ℕ) (o : Opening) (p : List ℕ) (h : headEnd o ≤ length p) where
-  pub few-places : m < o .head .trace .count → decided (refuse (refusal 7 0)) ≡ run (restPlan m o) p
-  unfolding restPlan run
-  few-places l = rw (run-here (headEnd o) _ p h, lt-ltb m (o .head .trace .count) l)
+module _ (o : Opening) (p : List ℕ) (k : ℕ) (at : k ≡ namesRequired (o .layout) (o .head)) where
+  texts-are : (x : Answer Unit) → x ≡ run (textsAt k o) p → x ≡ run (textsPlan o) p
+  unfolding textsPlan
+  texts-are x e = e ∙ ap (λ (j : ℕ). run (textsAt j o) p) at
 
-  pub few-bytes : o .head .trace .count ≤ m → o .head .volumes .len < o .head .volumes .count * layoutOf (o .version) .volume
-      → decided (refuse (refusal 8 0)) ≡ run (restPlan m o) p
-  unfolding restPlan run
-  few-bytes l n = rw (run-here (headEnd o) _ p h, le-ltb m (o .head .trace .count) l, lt-ltb _ _ n)
+  pub texts-short : length p < k → wants k ≡ run (textsPlan o) p
+  texts-short h = texts-are _ (reach-wants k _ p h)
 
-  pub room-enough : (v : Answer Acceptable) → RoomFor o m → v ≡ run (metricsPlan m o (recordOf o (take (headEnd o) p))) p → v ≡ run (restPlan m o) p
-  unfolding restPlan
-  room-enough v r w = rw (run-here (headEnd o) _ p h, le-ltb m (o .head .trace .count) (r .places), le-ltb _ _ (r .entries)) w
+  module _ (a b : List ℕ) (h : k ≤ length p) (e : a ≡ part (o .head .metrics) (take k p)) (g : b ≡ part (o .head .strings) (take k p)) (r : Fault)
+      (f : r ≡ unsoundFault (o .layout) a (o .head .metrics .count) b) where
+    unsound : r ≡ unsoundFault (o .layout) (part (o .head .metrics) (take k p)) (o .head .metrics .count) (part (o .head .strings) (take k p))
+    unsound = rw (← e, ← g) f
 
--- ---- the readers
+    pub texts-refused : (i : ℕ) → r ≡ At i → decided (refuse (refusal 10 i)) ≡ run (textsPlan o) p
+    texts-refused i q = texts-are _ (reach-on k _ p _ h (check-refused 10 _ _ p i r unsound q))
 
--- a verdict of all checks, once the working buffer is seen to
-pub reads-accepted : (answer : Answer Acceptable) (m : ℕ) (after : List ℕ) (v : Verdict) (a : Acceptance) → verdictOf v after ≡ answer → v ≡ Accepted a → Reads answer m (Accepted a) after
-reads-accepted answer m after v a e q =
-    let x : answer ≡ decided (accept (record { fields = a; table = after })) = sym e ∙ ap (λ (y : Verdict). verdictOf y after) q in
-    rw x (record { verdict = refl; buffer = refl })
+    pub texts-pass : r ≡ Nowhere → decided (accept tt) ≡ run (textsPlan o) p
+    texts-pass q = texts-are _ (reach-on k _ p _ h (check-on 10 _ _ p r _ unsound q (decide-it _ _ p refl)))
 
-pub reads-refused : (answer : Answer Acceptable) (m : ℕ) (after last : List ℕ) (v : Verdict) (r : Refusal) → verdictOf v after ≡ answer → v ≡ Refused r → last ≡ filled m → Reads answer m (Refused r) last
-reads-refused answer m after last v r e q f =
-    let x : answer ≡ decided (refuse r) = sym e ∙ ap (λ (y : Verdict). verdictOf y after) q in
-    rw x (record { verdict = refl; buffer = f })
+-- ---- 11 to 13
 
-pub reads-wanted : (answer : Answer Acceptable) (m : ℕ) (after last : List ℕ) (v : Verdict) (k : ℕ) → verdictOf v after ≡ answer → v ≡ Wanted k → last ≡ filled m → Reads answer m (Wanted k) last
-reads-wanted answer m after last v k e q f =
-    let x : answer ≡ wants k = sym e ∙ ap (λ (y : Verdict). verdictOf y after) q in
-    rw x (record { verdict = refl; buffer = f })
+-- the lines of the plan after its bytes have come, and what they decide
+abbrev linesOf : Fault → Fault → Fault → List ℕ → Plan (List ℕ)
+linesOf a b c s = check 11 a >> (check 12 b >> (check 13 c >> done s))
 
--- ---- what the opening's facts give the stages
+abbrev decides : Fault → Fault → Fault → ℕ → Decision ℕ
+decides a b c n = decision._>>_ (decision.check 11 a) (decision._>>_ (decision.check 12 b) (decision._>>_ (decision.check 13 c) (accept n)))
+
+lines-refuse : (a b c : Fault) (n : ℕ) (s p : List ℕ) (f : Refusal) → decides a b c n ≡ refuse f → run (linesOf a b c s) p ≡ decided (refuse f)
+unfolding run andThen check
+lines-refuse (At i) b c n s p f e = let q : refusal 11 i ≡ f = cc in ap (λ (x : Refusal). decided (refuse x)) q
+lines-refuse Nowhere (At i) c n s p f e = let q : refusal 12 i ≡ f = cc in ap (λ (x : Refusal). decided (refuse x)) q
+lines-refuse Nowhere Nowhere (At i) n s p f e = let q : refusal 13 i ≡ f = cc in ap (λ (x : Refusal). decided (refuse x)) q
+lines-refuse Nowhere Nowhere Nowhere n s p f e = let z : _≡_ {A = ℕ} 0 1 = cc in absurd (omega arith)
+
+lines-accept : (a b c : Fault) (n k : ℕ) (s p : List ℕ) → decides a b c n ≡ accept k → (run (linesOf a b c s) p ≡ decided (accept s)) × (k ≡ n)
+unfolding run andThen check
+lines-accept (At i) b c n k s p e = let z : _≡_ {A = ℕ} 0 1 = cc in absurd (omega arith)
+lines-accept Nowhere (At i) c n k s p e = let z : _≡_ {A = ℕ} 0 1 = cc in absurd (omega arith)
+lines-accept Nowhere Nowhere (At i) n k s p e = let z : _≡_ {A = ℕ} 0 1 = cc in absurd (omega arith)
+lines-accept Nowhere Nowhere Nowhere n k s p e = (refl, cc)
+
+module _ (o : Opening) (p : List ℕ) (m : ℕ) where
+  pub trace-short : (buffer : List ℕ) → length p < o .head .trace .end → TraceAnswer (run (tracePlan o) p) m (outcome.Wanted (o .head .trace .end)) buffer
+  unfolding tracePlan
+  trace-short buffer h =
+      record {
+        passed = λ n e. let z : _≡_ {A = ℕ} 0 1 = cc in absurd (omega arith);
+        refused = λ f e. let z : _≡_ {A = ℕ} 0 1 = cc in absurd (omega arith);
+        wanted = λ k e. let q : o .head .trace .end ≡ k = cc in reach-short _ _ p h ∙ ap (λ (j : ℕ). wants j) q;
+      }
+
+  module _ (a : List ℕ) (h : o .head .trace .end ≤ length p) (e : a ≡ part (o .head .trace) (take (o .head .trace .end) p))
+      (room : o .head .trace .count ≤ m) (r : Links) (buffer : List ℕ) (w : LinkAnswer a (traceEntry (o .layout)) (o .head .trace .count) m r buffer) where
+    abbrev s : List ℕ
+    s = nexts a (traceEntry (o .layout)) (o .head .trace .count)
+
+    links-decide : linkChecks s ≡ linksOf r
+    links-decide = sym (w .answer ∙ trace-room s m (rw (length-nexts a (traceEntry (o .layout)) (o .head .trace .count)) room))
+
+    lines-run : run (tracePlan o) p ≡ run (linesOf (astrayFault s) (sharedFault s) (cyclicFault s) s) p
+    unfolding tracePlan
+    lines-run = reach-here (o .head .trace .end) _ p h ∙ rw (← e)
+
+    pub trace-refused : (f : Refusal) → r ≡ links.Refused f → TraceAnswer (run (tracePlan o) p) m (outcome.Refused f) buffer
+    unfolding linkChecks
+    trace-refused f q =
+        record {
+          passed = λ n z. let y : _≡_ {A = ℕ} 0 1 = cc in absurd (omega arith);
+          refused = λ g z.
+              let i : f ≡ g = cc in
+              lines-run ∙ lines-refuse _ _ _ (chains s) s p g (links-decide ∙ ap linksOf q ∙ ap (λ (x : Refusal). refuse x) i);
+          wanted = λ k z. let y : _≡_ {A = ℕ} 0 1 = cc in absurd (omega arith);
+        }
+
+    pub trace-passed : (n : ℕ) → r ≡ links.Chains n → TraceAnswer (run (tracePlan o) p) m (outcome.Chains n) buffer
+    unfolding linkChecks
+    trace-passed n q =
+        let l = lines-accept (astrayFault s) (sharedFault s) (cyclicFault s) (chains s) n s p (links-decide ∙ ap linksOf q) in
+        let t : buffer ≡ predecessors s m = w .holds ∙ ap (λ (d : Decision ℕ). held d s m) (sym (w .answer) ∙ ap linksOf q) in
+        record {
+          passed = λ k z. let i : n ≡ k = cc in (s, lines-run ∙ l .0, sym i ∙ l .1, t);
+          refused = λ f z. let y : _≡_ {A = ℕ} 0 1 = cc in absurd (omega arith);
+          wanted = λ k z. let y : _≡_ {A = ℕ} 0 1 = cc in absurd (omega arith);
+        }
+
+-- ---- 14 and 15, with the required length at hand
+abbrev volumesAt : ℕ → Opening → Plan Unit
+volumesAt k o = do
+  b ← reach k
+  decide (volumesFrom (part (o .head .volumes) b) (o .layout) (o .head .volumes .count) 0)
+  done tt
 
 -- the volumes section, as far as its required length, has all its bytes
-pub volumes-all : (p : List ℕ) (o : Opening) (k : ℕ) → OpenFacts p o → k ≡ volumesRequired o → k ≤ length p
-    → o .head .volumes .count * layoutOf (o .version) .volume ≤ o .head .volumes .len
-    → o .head .volumes .count * layoutOf (o .version) .volume ≤ length (part (o .head .volumes) (take k p))
+volumes-all : (p : List ℕ) (o : Opening) (k : ℕ) → OpenFacts p o → k ≡ volumesRequired (o .layout) (o .head) → k ≤ length p → EntriesFit o
+    → o .head .volumes .count * volumeEntry (o .layout) ≤ length (part (o .head .volumes) (take k p))
 volumes-all p o k f e h room = go (ℕ-discrete (o .head .volumes .count) 0)
   where
-    go : Dec (o .head .volumes .count ≡ 0) → o .head .volumes .count * layoutOf (o .version) .volume ≤ length (part (o .head .volumes) (take k p))
+    go : Dec (o .head .volumes .count ≡ 0) → o .head .volumes .count * volumeEntry (o .layout) ≤ length (part (o .head .volumes) (take k p))
     go (yes z) = rw (z, zero-mul) (omega arith)
     go (no z) =
         let q : k ≡ o .head .volumes .end = e ∙ rw (ne-eqb _ _ z) in
         let l : o .head .volumes .end ≤ length (take k p) = rw (length-take k p) (omega arith) in
-        rw (part-length (o .head .volumes) (headEnd o) (take k p) (open-shapes p o f .volumes-end) l) room
+        rw (part-length (o .head .volumes) (headEnd (o .layout)) (take k p) (open-shapes p o f .volumes-end) l) room
 
-pub head-required : (p : List ℕ) (o : Opening) (l : Layout) → OpenFacts p o → l ≡ layoutOf (o .version) → l .head ≤ length p
-head-required p o l f e = rw e (f .whole)
+module _ (o : Opening) (p : List ℕ) (k : ℕ) (at : k ≡ volumesRequired (o .layout) (o .head)) where
+  volumes-are : (x : Answer Unit) → x ≡ run (volumesAt k o) p → x ≡ run (volumesPlan o) p
+  unfolding volumesPlan
+  volumes-are x e = e ∙ ap (λ (j : ℕ). run (volumesAt j o) p) at
 
--- ---- the whole reader
-module _ (n m : ℕ) (answer : Answer Acceptable) (v : Verdict) (after : List ℕ) (r : Reads answer m v after) where
-  -- an acceptance is of the size that its record has
-  accepted-whole : (a : Acceptance) → v ≡ Accepted a → whole n answer ≡ whole n (decided (accept (record { fields = a; table = after })))
-  accepted-whole a q =
-      let x = accepted-answer answer a (ap valuesOf (sym q) ∙ r .verdict) in
-      let f : x .0 .fields ≡ a = sym (x .2) in
-      let t : x .0 .table ≡ after = sym (r .buffer ∙ ap (λ (w : Answer Acceptable). bufferAfter w m) (x .1)) in
-      ap (whole n) (x .1) ∙ ap (λ (w : Acceptable). whole n (decided (accept w))) (λ i. record { fields = f i; table = t i })
+  pub volumes-short : length p < k → wants k ≡ run (volumesPlan o) p
+  volumes-short h = volumes-are _ (reach-wants k _ p h)
 
-  pub whole-short : (a : Acceptance) → v ≡ Accepted a → n < a .size → whole n answer ≡ wrongLength 16
-  whole-short a q l = accepted-whole a q ∙ rw (lt-ltb _ _ l)
+  module _ (f : OpenFacts p o) (room : EntriesFit o) (a : List ℕ) (h : k ≤ length p) (e : a ≡ part (o .head .volumes) (take k p)) (r : Checked)
+      (c : checkedOf r ≡ volumesChecks a (o .layout) (o .head .volumes .count)) where
+    volumes-decide : volumesFrom (part (o .head .volumes) (take k p)) (o .layout) (o .head .volumes .count) 0 ≡ checkedOf r
+    volumes-decide =
+        let n = o .head .volumes .count in
+        let b = part (o .head .volumes) (take k p) in
+        let q : entriesFault n (volumeEntry (o .layout)) (length b) ≡ Nowhere = sym (entries-fit n _ _ (volumes-all p o k f at h room)) in
+        sym (volumes-room b (o .layout) n _ refl q) ∙ ap (λ (t : List ℕ). volumesChecks t (o .layout) n) (sym e) ∙ sym c
 
-  pub whole-long : (a : Acceptance) → v ≡ Accepted a → a .size ≤ n → a .size < n → whole n answer ≡ wrongLength 17
-  whole-long a q l h = accepted-whole a q ∙ rw (le-ltb _ _ l, lt-ltb _ _ h)
+    pub volumes-pass : r ≡ checked.Passed → decided (accept tt) ≡ run (volumesPlan o) p
+    unfolding run andThen
+    volumes-pass q = volumes-are _ (reach-on k _ p _ h (rw (volumes-decide ∙ ap checkedOf q)))
 
-  pub whole-exact : (a : Acceptance) → v ≡ Accepted a → a .size ≤ n → n ≤ a .size → Reads (whole n answer) m (Accepted a) after
-  whole-exact a q l h = rw (accepted-whole a q, le-ltb _ _ l, le-ltb _ _ h) (record { verdict = refl; buffer = refl })
+    pub volumes-refused : (g : Refusal) → r ≡ checked.Refused g → decided (refuse g) ≡ run (volumesPlan o) p
+    unfolding run andThen
+    volumes-refused g q = volumes-are _ (reach-on k _ p _ h (rw (volumes-decide ∙ ap checkedOf q)))
 
-  pub whole-refused : (f : Refusal) → v ≡ Refused f → Reads (whole n answer) m (Refused f) after
-  whole-refused f q =
-      let x = refused-answer answer f (ap valuesOf (sym q) ∙ r .verdict) in
-      rw x (record { verdict = refl; buffer = r .buffer ∙ ap (λ (w : Answer Acceptable). bufferAfter w m) x })
+-- ---- one stage after another: `r` is what the call for a stage gave
+module _ {B : Type 0} (t : Plan Unit) (g : Unit → Plan B) (p : List ℕ) (r : Outcome) (e : outcomeOf r ≡ run t p) where
+  pub stage-refused : (f : Refusal) → r ≡ out.Refused f → decided (refuse f) ≡ run (andThen t g) p
+  stage-refused f q = then-case outcomeOf t g p r (out.Refused f) _ e q refl
 
-  pub whole-wanted : (k : ℕ) → v ≡ Wanted k → whole n answer ≡ wrongLength 16
-  whole-wanted k q = ap (whole n) (wanted-answer answer k (ap valuesOf (sym q) ∙ r .verdict))
+  pub stage-wanted : (k : ℕ) → r ≡ out.Wanted k → wants k ≡ run (andThen t g) p
+  stage-wanted k q = then-case outcomeOf t g p r (out.Wanted k) _ e q refl
 
--- the promise of an answer that is another
-pub reads-same : (x y : Answer Acceptable) (m k : ℕ) (v : Verdict) (after : List ℕ) → Reads x k v after → k ≡ m → y ≡ x → Reads y m v after
-reads-same x y m k v after r e q = rw (q, ← e) r
+  pub stage-passed : r ≡ out.Passed → run (g tt) p ≡ run (andThen t g) p
+  stage-passed q = then-case outcomeOf t g p r out.Passed _ e q refl
+
+-- a plan whose answer is known
+pub answer-then : {A B : Type 0} (t : Plan A) (g : A → Plan B) (p : List ℕ) (x : Answer A) → run t p ≡ x → onward x (λ a. run (g a) p) ≡ run (andThen t g) p
+answer-then t g p x e = sym (run-then t g p ∙ ap (λ y. onward y (λ a. run (g a) p)) e)

@@ -11,7 +11,8 @@ use Rattle.reader.specs.declared.verdict.Verdict.the-variants.{Accepted,
 use Rattle.reader.specs.Verdict.{Acceptable, Values, valuesOf, answerValues, acceptedValues, refusedValues, wantedValues}
 
 -- an acceptance is made exactly where the checks make it
-pub accepted-answer : (y : Answer Acceptable) (a : Acceptance) → acceptedValues a ≡ answerValues y → (x : Acceptable) × (y ≡ decided (accept x)) × (a ≡ x .fields)
+pub accepted-answer : (y : Answer Acceptable) (a : Acceptance) → acceptedValues a ≡ answerValues y
+    → (x : Acceptable) × (y ≡ decided (accept x)) × (a ≡ x .fields)
 accepted-answer (decided (accept x)) a e = (x, refl, ap (λ (w : Values). w .fields) e)
 accepted-answer (decided (refuse r)) a e = let z : _≡_ {A = ℕ} 0 1 = ap (λ (w : Values). w .kind) e in absurd (omega arith)
 accepted-answer (wants k) a e = let z : _≡_ {A = ℕ} 0 2 = ap (λ (w : Values). w .kind) e in absurd (omega arith)

@@ -5,7 +5,8 @@ use mathlib.Core.Logic.{_⊎_}
 use Prim.Native.Nat.{ℕ, _*_, _≤_, _<_}
 use lib.ListN.{length}
 use Rattle.little_endian.specs.Number.{le}
-use Rattle.layout.specs.Versions.{versionOf, layoutOf, sizeLimit}
+use Rattle.layout.specs.Versions.{versionOf, layoutOf, headEnd, volumeEntry, sizeLimit}
+use Rattle.layout.specs.Head.{versionAt, signatureAt}
 use Rattle.layout.specs.declared.KnownVersion.the-variants.{Known}
 use Rattle.sections.specs.Fields.{declaredSize, headOf, part}
 use Rattle.head.specs.Rules.{NameEnds, Inside, Apart}
@@ -19,29 +20,30 @@ use Rattle.reader.specs.declared.verdict.Verdict.{Verdict}
 use Rattle.reader.specs.declared.verdict.Verdict.the-variants.{Accepted}
 use Rattle.reader.specs.Checks.{nextsIn, recordOf}
 
--- what the layout allows of the bytes `p`: the version, the name's length and the sections are those of `o`
+-- what the layout allows of the bytes `p`: the version, its constants, the name's length and the sections are those of `o`
 pub record Allowed (p : List ℕ) (o : Opening) : Type 0 where
   -- 1: the version is 17, 23 or 26
-  pub version : versionOf (le 4 p 0) ≡ Known (o .version)
+  pub version : versionOf (le 4 p versionAt) ≡ Known (o .version)
+  pub layout : o .layout ≡ layoutOf (o .version)
   -- 2: the signature is 53 43 43 41
-  pub signature : le 4 p 4 ≡ 0x41434353
+  pub signature : le 4 p signatureAt ≡ 0x41434353
   -- 3: S is neither below H nor above 16,777,215
-  pub least : layoutOf (o .version) .head ≤ declaredSize p
+  pub least : headEnd (o .layout) ≤ declaredSize p
   pub most : declaredSize p ≤ sizeLimit
   -- 16, 17: the file is as long as it says
   pub complete : length p ≡ declaredSize p
   -- 4: the name ends within its 30 units
-  pub name : NameEnds p (o .units)
+  pub name : NameEnds p (o .«name_units»)
   -- 5: no section of nonzero length starts before H or ends after S
-  pub sections : o .head ≡ headOf (o .version) p
-  pub inside : Inside (o .version) (o .head)
+  pub sections : o .head ≡ headOf (o .layout) p
+  pub inside : Inside (o .layout) (o .head)
   -- 6: no two sections of nonzero length share a byte
   pub apart : Apart (o .head)
   -- 8: the volume entries fit their section
-  pub entries : o .head .volumes .count * layoutOf (o .version) .volume ≤ o .head .volumes .len
+  pub entries : o .head .volumes .count * volumeEntry (o .layout) ≤ o .head .volumes .len
   -- 9, 10: every name fits the strings section, has no zero unit inside and one directly after it
   pub names : (i : ℕ) → i < o .head .metrics .count
-      → SoundName (part (o .head .strings) p) (nameAt (o .version) (part (o .head .metrics) p) i) (nameUnits (o .version) (part (o .head .metrics) p) i)
+      → SoundName (part (o .head .strings) p) (nameAt (o .layout) (part (o .head .metrics) p) i) (nameUnits (o .layout) (part (o .head .metrics) p) i)
   -- 11: every next index is 4,294,967,295 or an entry
   pub links : (i : ℕ) → i < o .head .trace .count → (after (nextsIn o p) i ≡ end) ⊎ (after (nextsIn o p) i < o .head .trace .count)
   -- 12: no entry is named as next by two entries
@@ -50,7 +52,7 @@ pub record Allowed (p : List ℕ) (o : Opening) : Type 0 where
   -- 13: following next from an entry never comes back to it
   pub acyclic : (i : ℕ) → i < o .head .trace .count → Cyclic (nextsIn o p) i → ⊥
   -- 14, 15: every volume's path, references and directories lie in the section, and every directory ends in a zero unit
-  pub volumes : (i : ℕ) → i < o .head .volumes .count → SoundVolume (part (o .head .volumes) p) (entryAt (o .version) i)
+  pub volumes : (i : ℕ) → i < o .head .volumes .count → SoundVolume (part (o .head .volumes) p) (entryAt (o .layout) i)
 
 -- the acceptance record and the table that the layout gives
 abbrev pub givenRecord : Opening → List ℕ → Acceptance
@@ -65,4 +67,5 @@ pub record AcceptedExactly (p buffer : List ℕ) (v : Verdict) (after : List ℕ
   pub sound : (a : Acceptance) → v ≡ Accepted a
       → (o : Opening) × Allowed p o × (o .head .trace .count ≤ length buffer) × (a ≡ givenRecord o p) × (after ≡ givenTable o p (length buffer))
   -- what is allowed is accepted, with a working place for each trace entry
-  pub complete : (o : Opening) → Allowed p o → o .head .trace .count ≤ length buffer → (v ≡ Accepted (givenRecord o p)) × (after ≡ givenTable o p (length buffer))
+  pub complete : (o : Opening) → Allowed p o → o .head .trace .count ≤ length buffer
+      → (v ≡ Accepted (givenRecord o p)) × (after ≡ givenTable o p (length buffer))

@@ -1,97 +1,95 @@
--- All fifteen checks of document 01 in their order, each with its number, its required length (document 01: reach) and its index.
+-- ALL FIFTEEN CHECKS of document 01's table, from 1 to 15: required length (document 01: reach), number, fault with its index. Then the
+-- whole reader's 16 and 17, and the promises of both readers.
 use mathlib.Core.Bool.{Bool, true, false}
 use mathlib.Core.List.{List}
-use Prim.Native.Nat.{ℕ, _*_, max}
+use Prim.Native.Nat.{ℕ, max}
 use lib.Dec.{eqb, ltb}
 use lib.ListN.{length}
 use Rattle.lists.specs.Count.{pick}
 use Rattle.little_endian.specs.Number.{le}
-use Rattle.layout.specs.Versions.{layoutOf, versionNumber}
+use Rattle.layout.specs.Head.{versionAt}
+use Rattle.layout.specs.Versions.{versionOf, versionNumber, layoutOf, headEnd, runTimeAt, runCountAt, volumeEntry, traceEntry}
+use Rattle.layout.specs.declared.Version.{Version}
+use Rattle.layout.specs.declared.Layout.{Layout}
 use Rattle.incremental.specs.Decision.{Decision, accept, refuse, refusal}
-use Rattle.incremental.specs.Plan.{Plan, decide, await, andThen, Answer, decided, wants, run}
-use Rattle.sections.specs.Fields.{faultAt, part, declaredSize, storedHash}
-use Rattle.head.specs.Checks.{stop, row, openPlan}
+use Rattle.incremental.specs.Plan.{Plan, decide, Answer, decided, wants, run, reach, check, given, done, _>>=_, _>>_}
+use Rattle.sections.specs.Fields.{declaredSize, storedHash, signatureFault, sizeFault, nameEnd, headOf, part, outsideFault, sharedFault}
+use Rattle.sections.specs.Fields.{placesFault, entriesFault}
+use Rattle.sections.specs.declared.Head.{Head}
+use Rattle.head.specs.Checks.{version, units}
 use Rattle.head.specs.declared.checks.Opening.{Opening}
-use Rattle.names.specs.Names.{firstMisfit, firstUnsound}
-use Rattle.trace.specs.Links.{nexts, linkChecks, predecessors}
+use Rattle.names.specs.Names.{misfitFault, unsoundFault}
+use Rattle.trace.specs.Links as links
 use Rattle.volumes.specs.Volumes.{volumesFrom}
 use Rattle.reader.specs.declared.verdict.Acceptance.{Acceptance}
 use Rattle.reader.specs.declared.verdict.Verdict.{Verdict}
 use Rattle.reader.specs.Verdict.{Acceptable, Reads}
 
--- H
-abbrev pub headEnd : Opening → ℕ
-headEnd o = layoutOf (o .version) .head
+-- the reach of 10: the greater of metrics end and strings end; with no metrics entry H
+abbrev pub namesRequired : Layout → Head → ℕ
+namesRequired l h = pick (eqb (h .metrics .count) 0) (headEnd l) (max (h .metrics .end) (h .strings .end))
 
--- the acceptance record, by the first H bytes, the name's length and the chain count
+-- the reach of 14 and 15: the volumes end; with no volume H
+abbrev pub volumesRequired : Layout → Head → ℕ
+volumesRequired l h = pick (eqb (h .volumes .count) 0) (headEnd l) (h .volumes .end)
+
+-- the next indexes of the trace section
+abbrev pub nextsIn : Opening → List ℕ → List ℕ
+nextsIn o b = links.nexts (part (o .head .trace) b) (traceEntry (o .layout)) (o .head .trace .count)
+
+-- what checks 1 to 6 give: the version with its layout, the name's length and the sections
+abbrev pub opening : Version → ℕ → Head → Opening
+opening v n h = record { version = v; layout = layoutOf v; «name_units» = n; head = h }
+
+-- the acceptance record, by the first H bytes and the chain count
 unfoldable pub recordOf : Opening → List ℕ → ℕ → Acceptance
 recordOf o b chains =
     record {
       version = versionNumber (o .version);
-      size = declaredSize b;
-      units = o .units;
-      hash = storedHash b;
-      time = le 8 b (layoutOf (o .version) .time);
-      runs = le 4 b (layoutOf (o .version) .runs);
-      metrics = o .head .metrics .count;
-      trace = o .head .trace .count;
-      volumes = o .head .volumes .count;
-      chains = chains;
+      «declared_size» = declaredSize b;
+      «name_units» = o .«name_units»;
+      «stored_hash» = storedHash b;
+      «run_time» = le 8 b (runTimeAt (o .layout));
+      «run_count» = le 4 b (runCountAt (o .layout));
+      «metrics_count» = o .head .metrics .count;
+      «trace_count» = o .head .trace .count;
+      «volume_count» = o .head .volumes .count;
+      «chain_count» = chains;
     }
 
--- 14 and 15, required length (document 01: reach): with no volume H, else the volumes end
-abbrev pub volumesRequired : Opening → ℕ
-volumesRequired o = pick (eqb (o .head .volumes .count) 0) (headEnd o) (o .head .volumes .end)
-
--- what passes 14 and 15 is accepted
-unfoldable pub volumesPlan : Opening → Acceptable → Plan Acceptable
-volumesPlan o x =
-    await (volumesRequired o) λ b.
-    andThen (decide (volumesFrom (part (o .head .volumes) b) (o .version) (o .head .volumes .count) 0)) λ _.
-    decide (accept x)
-
--- the next indexes of the trace section
-abbrev pub nextsIn : Opening → List ℕ → List ℕ
-nextsIn o b = nexts (part (o .head .trace) b) (o .head .trace .count)
-
--- 11, 12 and 13: the trace end
-unfoldable pub tracePlan : ℕ → Opening → (ℕ → Acceptance) → Plan Acceptable
-tracePlan m o fields =
-    await (o .head .trace .end) λ b.
-    let s = nextsIn o b in
-    andThen (decide (linkChecks s)) λ chains.
-    volumesPlan o (record { fields = fields chains; table = predecessors s m })
-
--- 10: the greater of metrics end and strings end; with no metrics entry H
-abbrev pub namesRequired : Opening → ℕ
-namesRequired o = pick (eqb (o .head .metrics .count) 0) (headEnd o) (max (o .head .metrics .end) (o .head .strings .end))
-
-unfoldable pub namesPlan : ℕ → Opening → (ℕ → Acceptance) → Plan Acceptable
-namesPlan m o fields =
-    row 10 (namesRequired o)
-    (λ b. firstUnsound (o .version) (part (o .head .metrics) b) (o .head .metrics .count) (part (o .head .strings) b))
-    (tracePlan m o fields)
-
--- 9: the metrics end
-unfoldable pub metricsPlan : ℕ → Opening → (ℕ → Acceptance) → Plan Acceptable
-metricsPlan m o fields =
-    row 9 (o .head .metrics .end)
-    (λ b. firstMisfit (o .version) (part (o .head .metrics) b) (o .head .metrics .count) (o .head .strings .len))
-    (namesPlan m o fields)
-
--- 7 and 8: H. The working buffer has m places.
-unfoldable pub restPlan : ℕ → Opening → Plan Acceptable
-restPlan m o =
-    await (headEnd o) λ b.
-    stop 7 (faultAt 0 (ltb m (o .head .trace .count)))
-    (stop 8 (faultAt 0 (ltb (o .head .volumes .len) (o .head .volumes .count * layoutOf (o .version) .volume)))
-    (metricsPlan m o (recordOf o b)))
-
--- ALL CHECKS
+-- ALL CHECKS, with a working buffer of m places
 unfoldable pub readPlan : ℕ → Plan Acceptable
-readPlan m = andThen openPlan (restPlan m)
+readPlan m = do
+  b ← reach 4
+  v ← given 1 (version (versionOf (le 4 b versionAt)))
+  let l = layoutOf v
+  b ← reach 8
+  check 2 (signatureFault b)
+  b ← reach 16
+  check 3 (sizeFault l b)
+  b ← reach 76
+  n ← given 4 (units (nameEnd b))
+  top ← reach (headEnd l)
+  let h = headOf l top
+  let o = opening v n h
+  check 5 (outsideFault l h)
+  check 6 (sharedFault h)
+  check 7 (placesFault m (h .trace .count))
+  check 8 (entriesFault (h .volumes .count) (volumeEntry l) (h .volumes .len))
+  b ← reach (h .metrics .end)
+  check 9 (misfitFault l (part (h .metrics) b) (h .metrics .count) (h .strings .len))
+  b ← reach (namesRequired l h)
+  check 10 (unsoundFault l (part (h .metrics) b) (h .metrics .count) (part (h .strings) b))
+  b ← reach (h .trace .end)
+  let s = nextsIn o b
+  check 11 (links.astrayFault s)
+  check 12 (links.sharedFault s)
+  check 13 (links.cyclicFault s)
+  b ← reach (volumesRequired l h)
+  decide (volumesFrom (part (h .volumes) b) l (h .volumes .count) 0)
+  done (record { fields = recordOf o top (links.chains s); table = links.predecessors s m })
 
--- what they answer on a prefix, with a working buffer of m places
+-- what they answer on a prefix
 abbrev pub prefixAnswer : List ℕ → ℕ → Answer Acceptable
 prefixAnswer p m = run (readPlan m) p
 
@@ -101,8 +99,12 @@ sized true longer x = refuse (refusal 16 0)
 sized false true x = refuse (refusal 17 0)
 sized false false x = accept x
 
+-- S, as the record has it
+abbrev pub sizeOf : Acceptable → ℕ
+sizeOf x = x .fields .«declared_size»
+
 abbrev pub whole : ℕ → Answer Acceptable → Answer Acceptable
-whole n (decided (accept x)) = decided (sized (ltb n (x .fields .size)) (ltb (x .fields .size) n) x)
+whole n (decided (accept x)) = decided (sized (ltb n (sizeOf x)) (ltb (sizeOf x) n) x)
 whole n (decided (refuse r)) = decided (refuse r)
 whole n (wants k) = decided (refuse (refusal 16 0))
 

@@ -15,8 +15,20 @@ pub record Acceptable : Type 0 where
   pub table : List ℕ
 
 -- with any other answer every field is zero
-abbrev pub zeros : Acceptance
-zeros = record { version = 0; size = 0; units = 0; hash = 0; time = 0; runs = 0; metrics = 0; trace = 0; volumes = 0; chains = 0 }
+abbrev pub noRecord : Acceptance
+noRecord =
+    record {
+      version = 0;
+      «declared_size» = 0;
+      «name_units» = 0;
+      «stored_hash» = 0;
+      «run_time» = 0;
+      «run_count» = 0;
+      «metrics_count» = 0;
+      «trace_count» = 0;
+      «volume_count» = 0;
+      «chain_count» = 0;
+    }
 
 -- a verdict in numbers. Its kind is 0 for an acceptance, 1 for a refusal with its number and index, and 2 for a request.
 pub record Values : Type 0 where
@@ -30,10 +42,10 @@ abbrev pub acceptedValues : Acceptance → Values
 acceptedValues a = record { kind = 0; number = 0; index = 0; wanted = 0; fields = a }
 
 abbrev pub refusedValues : ℕ → ℕ → Values
-refusedValues number index = record { kind = 1; number = number; index = index; wanted = 0; fields = zeros }
+refusedValues number index = record { kind = 1; number = number; index = index; wanted = 0; fields = noRecord }
 
 abbrev pub wantedValues : ℕ → Values
-wantedValues k = record { kind = 2; number = 0; index = 0; wanted = k; fields = zeros }
+wantedValues k = record { kind = 2; number = 0; index = 0; wanted = k; fields = noRecord }
 
 -- what each case of the verdict says
 abbrev pub valuesOf : Verdict → Values

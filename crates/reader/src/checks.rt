@@ -1,87 +1,34 @@
 ghost use mathlib.Core.Path.{_≡_};
-ghost use mathlib.Core.List.{List};
-ghost use Prim.Native.Nat.{ℕ, _*_, _≤_};
-ghost use lib.ListN.{length, take};
-ghost use Rattle.incremental.specs.Plan.{run};
-ghost use Rattle.layout.specs.Versions.{layoutOf};
+ghost use Prim.Native.Nat.{_≤_};
+ghost use lib.ListN.{length};
+ghost use Rattle.incremental.specs.Plan.{run, outcomeOf};
 ghost use Rattle.head.specs.Private.{OpenFacts};
 ghost use Rattle.reader.specs.Verdict.{Reads};
-ghost use Rattle.reader.specs.Checks.{headEnd, recordOf, volumesRequired, namesRequired, volumesPlan, tracePlan, namesPlan, metricsPlan, restPlan, prefixAnswer, ReadsPrefix, ReadsFile};
-ghost use Rattle.reader.specs.Private.{verdictOf, RoomFor, wrongLength};
-use crate::verdict::Acceptance;
+ghost use Rattle.reader.specs.Checks.{namesRequired, volumesRequired, prefixAnswer, ReadsPrefix, ReadsFile};
+ghost use Rattle.reader.specs.Private.{fitsPlan, textsPlan, tracePlan, TraceAnswer, volumesPlan, EntriesFit, tablesAnswer, restPlan};
+ghost use Rattle.reader.specs.Private.{verdictOf, wrongLength};
 use crate::verdict::Verdict;
 use head::OpenAnswer;
 use head::Opening;
 use incremental::Checked;
+use incremental::Fault;
+use incremental::Outcome;
 use incremental::Refusal;
-use layout::Layout;
-use layout::Version;
-use lists::Found;
 use trace::Links;
 
-// Document 01: the reach of checks 14 and 15.
-fn volumes_required(o: Opening) -> usize
-    ensures { λ r. ⌜ r ≡ volumesRequired o ⌝ }
-{
-    if o.head.volumes.count == 0 {
-        let v = o.version;
-        return Layout::of(v).head;
-    }
-    o.head.volumes.end
-}
-
-// Checks 14 and 15.
-fn check_volumes(file: &[u8], o: Opening, a: Acceptance) -> Verdict
-    requires { ⌜ OpenFacts (now file) o ⌝ }
-    requires { ⌜ o .head .volumes .count * layoutOf (o .version) .volume ≤ o .head .volumes .len ⌝ }
-    ensures { λ r. ⌜ ((t : List ℕ) → verdictOf r t ≡ run (volumesPlan o (record { fields = a; table = t })) (now (file .entry))) ⌝ }
-{
-    let required = volumes_required(o);
-    let v = o.version;
-    let section = o.head.volumes;
-    if file.len() < required {
-        return Verdict::Wanted(required);
-    }
-    match volumes::check_volumes(
-        sections::part_of(&file[..required], section),
-        v,
-        section.count,
-    ) {
-        Checked::Passed => Verdict::Accepted(a),
-        Checked::Refused(r) => Verdict::Refused(r),
-    }
-}
-
-// Checks 11 to 13, the table of predecessors and the record; then what follows.
-fn check_trace(file: &[u8], o: Opening, predecessors: &mut [u32]) -> Verdict
-    requires { ⌜ OpenFacts (now file) o ⌝ }
-    requires { ⌜ RoomFor o (length (now predecessors)) ⌝ }
-    ensures { λ r. ⌜ verdictOf r (now (predecessors .exit)) ≡ run (tracePlan (length (now (predecessors .entry))) o (recordOf o (take (headEnd o) (now (file .entry))))) (now (file .entry)) ⌝ }
-{
-    let section = o.head.trace;
-    let required = section.end;
-    let v = o.version;
-    let h = Layout::of(v).head;
-    if file.len() < required {
-        return Verdict::Wanted(required);
-    }
-    let links = sections::part_of(&file[..required], section);
-    match trace::check_links(links, section.count, predecessors) {
-        Links::Chains(n) => {
-            let a = crate::verdict::record_of(o, &file[..h], n);
-            check_volumes(file, o, a)
-        }
-        Links::Refused(r) => Verdict::Refused(r),
-    }
+// What checks 11 to 13 answer on a prefix: the chain count, where they pass.
+enum TraceOutcome {
+    Chains(usize),
+    Refused(Refusal),
+    Wanted(usize),
 }
 
 // Document 01: the reach of check 10.
 fn names_required(o: Opening) -> usize
-    ensures { λ r. ⌜ r ≡ namesRequired o ⌝ }
+    ensures { λ r. ⌜ r ≡ namesRequired (o .layout) (o .head) ⌝ }
 {
     if o.head.metrics.count == 0 {
-        let v = o.version;
-        return Layout::of(v).head;
+        return o.layout.head_end as usize;
     }
     if o.head.metrics.end <= o.head.strings.end {
         o.head.strings.end
@@ -90,81 +37,147 @@ fn names_required(o: Opening) -> usize
     }
 }
 
-// Check 10, and what follows.
-fn check_names(file: &[u8], o: Opening, predecessors: &mut [u32]) -> Verdict
-    requires { ⌜ OpenFacts (now file) o ⌝ }
-    requires { ⌜ RoomFor o (length (now predecessors)) ⌝ }
-    ensures { λ r. ⌜ verdictOf r (now (predecessors .exit)) ≡ run (namesPlan (length (now (predecessors .entry))) o (recordOf o (take (headEnd o) (now (file .entry))))) (now (file .entry)) ⌝ }
+// Check 9.
+fn check_fits(file: &[u8], o: Opening) -> Outcome
+    ensures { λ r. ⌜ outcomeOf r ≡ run (fitsPlan o) (now (file .entry)) ⌝ }
 {
-    let required = names_required(o);
-    let v = o.version;
+    let l = o.layout;
     let metrics = o.head.metrics;
-    let strings = o.head.strings;
-    if file.len() < required {
-        return Verdict::Wanted(required);
-    }
-    let entries = sections::part_of(&file[..required], metrics);
-    let text = sections::part_of(&file[..required], strings);
-    if let Found::At(i) = names::first_unsound(entries, v, metrics.count, text) {
-        return Verdict::Refused(Refusal {
-            number: 10,
-            index: i,
-        });
-    }
-    check_trace(file, o, predecessors)
-}
-
-// Check 9, and what follows.
-fn check_metrics(file: &[u8], o: Opening, predecessors: &mut [u32]) -> Verdict
-    requires { ⌜ OpenFacts (now file) o ⌝ }
-    requires { ⌜ RoomFor o (length (now predecessors)) ⌝ }
-    ensures { λ r. ⌜ verdictOf r (now (predecessors .exit)) ≡ run (metricsPlan (length (now (predecessors .entry))) o (recordOf o (take (headEnd o) (now (file .entry))))) (now (file .entry)) ⌝ }
-{
-    let v = o.version;
-    let metrics = o.head.metrics;
-    let required = metrics.end;
     let size = o.head.strings.len;
+    let required = metrics.end;
     if file.len() < required {
-        return Verdict::Wanted(required);
+        return Outcome::Wanted(required);
     }
     let entries = sections::part_of(&file[..required], metrics);
-    if let Found::At(i) = names::first_misfit(entries, v, metrics.count, size) {
-        return Verdict::Refused(Refusal {
+    if let Fault::At(i) = names::misfit_fault(entries, l, metrics.count, size) {
+        return Outcome::Refused(Refusal {
             number: 9,
             index: i,
         });
     }
-    check_names(file, o, predecessors)
+    Outcome::Passed
 }
 
-// The bytes that so many volume entries take.
-fn entries_len(version: Version, count: u32) -> usize
-    ensures { λ r. ⌜ r ≡ count * layoutOf version .volume ⌝ }
+// Check 10.
+fn check_texts(file: &[u8], o: Opening) -> Outcome
+    ensures { λ r. ⌜ outcomeOf r ≡ run (textsPlan o) (now (file .entry)) ⌝ }
 {
-    count as usize * Layout::of(version).volume
+    let l = o.layout;
+    let metrics = o.head.metrics;
+    let strings = o.head.strings;
+    let required = names_required(o);
+    if file.len() < required {
+        return Outcome::Wanted(required);
+    }
+    let entries = sections::part_of(&file[..required], metrics);
+    let text = sections::part_of(&file[..required], strings);
+    if let Fault::At(i) = names::unsound_fault(entries, l, metrics.count, text) {
+        return Outcome::Refused(Refusal {
+            number: 10,
+            index: i,
+        });
+    }
+    Outcome::Passed
 }
 
-// Checks 7 and 8, and what follows.
+// Checks 11 to 13. Where they pass, the buffer is the table of predecessors.
+fn check_trace(file: &[u8], o: Opening, predecessors: &mut [u32]) -> TraceOutcome
+    requires { ⌜ o .head .trace .count ≤ length (now predecessors) ⌝ }
+    ensures { λ r. ⌜ TraceAnswer (run (tracePlan o) (now (file .entry))) (length (now (predecessors .entry))) r (now (predecessors .exit)) ⌝ }
+{
+    let l = o.layout;
+    let section = o.head.trace;
+    let required = section.end;
+    if file.len() < required {
+        return TraceOutcome::Wanted(required);
+    }
+    let links = sections::part_of(&file[..required], section);
+    match trace::check_links(links, l.trace_entry, section.count, predecessors) {
+        Links::Chains(n) => TraceOutcome::Chains(n),
+        Links::Refused(r) => TraceOutcome::Refused(r),
+    }
+}
+
+// Document 01: the reach of checks 14 and 15.
+fn volumes_required(o: Opening) -> usize
+    ensures { λ r. ⌜ r ≡ volumesRequired (o .layout) (o .head) ⌝ }
+{
+    if o.head.volumes.count == 0 {
+        return o.layout.head_end as usize;
+    }
+    o.head.volumes.end
+}
+
+// Checks 14 and 15, where 8 has passed.
+fn check_volumes(file: &[u8], o: Opening) -> Outcome
+    requires { ⌜ OpenFacts (now file) o × EntriesFit o ⌝ }
+    ensures { λ r. ⌜ outcomeOf r ≡ run (volumesPlan o) (now (file .entry)) ⌝ }
+{
+    let l = o.layout;
+    let section = o.head.volumes;
+    let required = volumes_required(o);
+    if file.len() < required {
+        return Outcome::Wanted(required);
+    }
+    match volumes::check_volumes(
+        sections::part_of(&file[..required], section),
+        l,
+        section.count,
+    ) {
+        Checked::Passed => Outcome::Passed,
+        Checked::Refused(r) => Outcome::Refused(r),
+    }
+}
+
+// Checks 9 to 15 and the record, where 7 and 8 have passed.
+fn check_tables(file: &[u8], o: Opening, predecessors: &mut [u32]) -> Verdict
+    requires { ⌜ OpenFacts (now file) o × EntriesFit o × (o .head .trace .count ≤ length (now predecessors)) ⌝ }
+    ensures { λ r. ⌜ verdictOf r (now (predecessors .exit)) ≡ tablesAnswer (length (now (predecessors .entry))) o (now (file .entry)) ⌝ }
+{
+    let h = o.layout.head_end as usize;
+    match check_fits(file, o) {
+        Outcome::Passed => {}
+        Outcome::Refused(r) => return Verdict::Refused(r),
+        Outcome::Wanted(k) => return Verdict::Wanted(k),
+    }
+    match check_texts(file, o) {
+        Outcome::Passed => {}
+        Outcome::Refused(r) => return Verdict::Refused(r),
+        Outcome::Wanted(k) => return Verdict::Wanted(k),
+    }
+    let chains = match check_trace(file, o, predecessors) {
+        TraceOutcome::Chains(n) => n,
+        TraceOutcome::Refused(r) => return Verdict::Refused(r),
+        TraceOutcome::Wanted(k) => return Verdict::Wanted(k),
+    };
+    match check_volumes(file, o) {
+        Outcome::Passed => Verdict::Accepted(crate::verdict::record_of(o, &file[..h], chains)),
+        Outcome::Refused(r) => Verdict::Refused(r),
+        Outcome::Wanted(k) => Verdict::Wanted(k),
+    }
+}
+
+// Checks 7 to 15.
 fn check_rest(file: &[u8], o: Opening, predecessors: &mut [u32]) -> Verdict
     requires { ⌜ OpenFacts (now file) o ⌝ }
     ensures { λ r. ⌜ verdictOf r (now (predecessors .exit)) ≡ run (restPlan (length (now (predecessors .entry))) o) (now (file .entry)) ⌝ }
 {
-    let v = o.version;
-    let len = o.head.volumes.len;
-    let drives = o.head.volumes.count;
-    if predecessors.len() < o.head.trace.count as usize {
+    let volumes = o.head.volumes;
+    let links = o.head.trace.count;
+    let entry = o.layout.volume_entry;
+    if let Fault::At(i) = sections::places_fault(predecessors.len(), links) {
         return Verdict::Refused(Refusal {
             number: 7,
-            index: 0,
+            index: i,
         });
     }
-    if len < entries_len(v, drives) {
+    if let Fault::At(i) = sections::entries_fault(volumes.count, entry, volumes.len) {
         return Verdict::Refused(Refusal {
             number: 8,
-            index: 0,
+            index: i,
         });
     }
-    check_metrics(file, o, predecessors)
+    check_tables(file, o, predecessors)
 }
 
 // All checks. Where they accept, the buffer is the table.
@@ -212,7 +225,7 @@ pub fn read_file(file: &[u8], predecessors: &mut [u32]) -> Verdict
 {
     match read_prefix(file, predecessors) {
         Verdict::Accepted(a) => {
-            let size = a.size as usize;
+            let size = a.declared_size as usize;
             if file.len() < size {
                 return wrong_length(16, predecessors);
             }

@@ -1,4 +1,4 @@
--- The cases of the definitions, for `search` at a function's returns: `r` and `l` are what calls gave, and the tests are the branches' facts.
+-- The cases of the definitions, for `search` at a function's returns: `r` is what a call gave, and the tests are the branches' facts.
 use mathlib.Core.Path.{_≡_, refl, sym, ap, _∙_}
 use mathlib.Core.Bool.{Bool, true, false, _||_}
 use mathlib.Core.List.{List}
@@ -7,38 +7,61 @@ use native.Mathlib.Omega.{arith}
 use native.Mathlib.Nat.{mul-le-mul-left}
 use mir.Syntax.{w64}
 use mir.Val.{Fits}
-use borrow.Author.Tests.{eq-eqb, ne-eqb, lt-ltb, le-ltb}
+use borrow.Author.Tests.{eq-eqb, ne-eqb, lt-ltb, le-ltb, ltb-false}
+use Rattle.incremental.proofs.Decision.{fault-clear}
 use Rattle.lists.specs.Count.{pick, some}
 use Rattle.lists.proofs.Count.{some-more}
 use Rattle.lists.specs.First.{firstFrom}
 use Rattle.lists.specs.declared.Found.{Found}
-use Rattle.lists.specs.declared.Found.the-variants.{At, Nothing}
+use Rattle.lists.specs.declared.Found.the-variants as found
 use Rattle.little_endian.specs.Number.{le}
-use Rattle.layout.specs.Versions.{layoutOf, sizeLimit}
-use Rattle.layout.proofs.Versions.{layout-sound}
-use Rattle.layout.specs.declared.Version.{Version}
+use Rattle.layout.specs.Versions.{sizeLimit, headEnd, metricsEntry, traceEntry}
 use Rattle.layout.specs.declared.Layout.{Layout}
+use Rattle.incremental.specs.Decision.{faultOf}
+use Rattle.incremental.specs.declared.Fault.{Fault}
+use Rattle.incremental.specs.declared.Fault.the-variants.{At, Nowhere}
 use Rattle.sections.specs.declared.Section.{Section}
 use Rattle.sections.specs.declared.Head.{Head}
-use Rattle.sections.specs.Fields.{signatureFault, sizeFault, sectionOf, headOf, outside, shares, numbered, firstShared}
+use Rattle.sections.specs.Fields.{signatureFault, sizeFault, sectionOf, headOf, sizeIn, outside}
+use Rattle.sections.specs.Fields.{shares, numbered, outsideFault, sharedFault, placesFault, entriesFault}
 
 -- the first section that fails a test
-pub pick-hit : (t r : Bool) (a b : Found) → r ≡ t → r ≡ true → a ≡ pick t a b
+pub pick-hit : (t r : Bool) (a b : Fault) → r ≡ t → r ≡ true → a ≡ pick t a b
 pick-hit t r a b p q = rw (sym p ∙ q)
 
-pub pick-miss : (t r : Bool) (x a b : Found) → r ≡ t → r ≡ false → x ≡ b → x ≡ pick t a b
+pub pick-miss : (t r : Bool) (x a b : Fault) → r ≡ t → r ≡ false → x ≡ b → x ≡ pick t a b
 pick-miss t r x a b p q e = rw (sym p ∙ q) e
 
-pub outside-hit : (v : Version) (l : Layout) (size : ℕ) (s : Section) (r : Bool) (a b : Found) → l ≡ layoutOf v → r ≡ outside (l .head) size s → r ≡ true → a ≡ pick (outside (layoutOf v .head) size s) a b
-outside-hit v l size s r a b e p q = pick-hit _ r a b (p ∙ ap (λ (k : Layout). outside (k .head) size s) e) q
+pub ruleset picks = (pick-hit, pick-miss)
 
-pub outside-miss : (v : Version) (l : Layout) (size : ℕ) (s : Section) (r : Bool) (x a b : Found) → l ≡ layoutOf v → r ≡ outside (l .head) size s → r ≡ false → x ≡ b → x ≡ pick (outside (layoutOf v .head) size s) a b
-outside-miss v l size s r x a b e p q h = pick-miss _ r x a b (p ∙ ap (λ (k : Layout). outside (k .head) size s) e) q h
+fault-pick : (b : Bool) (f g : Found) → faultOf (pick b f g) ≡ pick b (faultOf f) (faultOf g)
+fault-pick true f g = refl
+fault-pick false f g = refl
 
-pub ruleset picks = (outside-hit, outside-miss, pick-hit, pick-miss)
+-- 5 by sections, in the order in which the code looks at them
+abbrev pub outsideInTurn : Layout → Head → Fault
+outsideInTurn l h =
+    pick (outside (headEnd l) (sizeIn h) (h .metrics)) (At 1)
+    (pick (outside (headEnd l) (sizeIn h) (h .trace)) (At 2)
+    (pick (outside (headEnd l) (sizeIn h) (h .strings)) (At 3)
+    (pick (outside (headEnd l) (sizeIn h) (h .volumes)) (At 4)
+    Nowhere)))
+
+pub in-turn : (l : Layout) (h : Head) → outsideFault l h ≡ outsideInTurn l h
+unfolding outsideFault firstFrom
+in-turn l h =
+    let o : Section → Bool = λ s. outside (headEnd l) (sizeIn h) s in
+    go (o (h .metrics)) (o (h .trace)) (o (h .strings)) (o (h .volumes))
+  where
+    go : (a b c d : Bool) → faultOf (pick a (found.At 1) (pick b (found.At 2) (pick c (found.At 3) (pick d (found.At 4) found.Nothing))))
+        ≡ pick a (At 1) (pick b (At 2) (pick c (At 3) (pick d (At 4) Nowhere)))
+    go a b c d = simp fault-pick
+
+pub by-sections : (l : Layout) (h : Head) (r : Fault) → r ≡ outsideInTurn l h → r ≡ outsideFault l h
+by-sections l h r e = e ∙ sym (in-turn l h)
 
 -- 6 by pairs of sections, in the order in which the code compares them
-abbrev pub sharedPairs : Head → Found
+abbrev pub sharedPairs : Head → Fault
 sharedPairs h =
     pick (shares (h .metrics) (h .trace)) (At 2)
     (pick (shares (h .metrics) (h .strings)) (At 3)
@@ -46,7 +69,7 @@ sharedPairs h =
     (pick (shares (h .metrics) (h .volumes)) (At 4)
     (pick (shares (h .trace) (h .volumes)) (At 4)
     (pick (shares (h .strings) (h .volumes)) (At 4)
-    Nothing)))))
+    Nowhere)))))
 
 pick-or : {A : Type 0} (a b : Bool) (x y : A) → pick (a || b) x y ≡ pick a x (pick b x y)
 pick-or true b x y = refl
@@ -65,17 +88,18 @@ some-two p = some-more p 1 ∙ ap (λ b. b || p 1) (some-one p)
 some-three : (p : ℕ → Bool) → some p 3 ≡ ((p 0 || p 1) || p 2)
 some-three p = some-more p 2 ∙ ap (λ b. b || p 2) (some-two p)
 
-pub pairs-are : (h : Head) → firstShared h ≡ sharedPairs h
-unfolding firstShared firstFrom
+pub pairs-are : (h : Head) → sharedFault h ≡ sharedPairs h
+unfolding sharedFault firstFrom
 pairs-are h =
-    rw (some-none (λ k. shares (numbered h (k + 1)) (h .metrics)), some-one (λ k. shares (numbered h (k + 1)) (h .trace)), some-two (λ k. shares (numbered h (k + 1)) (h .strings)), some-three (λ k. shares (numbered h (k + 1)) (h .volumes)))
-    (rw (pick-or (shares (h .metrics) (h .strings)) (shares (h .trace) (h .strings)), pick-or (shares (h .metrics) (h .volumes) || shares (h .trace) (h .volumes)) (shares (h .strings) (h .volumes)), pick-or (shares (h .metrics) (h .volumes)) (shares (h .trace) (h .volumes))))
+    let with : Section → ℕ → Bool = λ s k. shares (numbered h (k + 1)) s in
+    rw (some-none (with (h .metrics)), some-one (with (h .trace)), some-two (with (h .strings)), some-three (with (h .volumes)))
+    (simp (fault-pick, pick-or))
 
-pub by-pairs : (h : Head) (r : Found) → r ≡ sharedPairs h → r ≡ firstShared h
+pub by-pairs : (h : Head) (r : Fault) → r ≡ sharedPairs h → r ≡ sharedFault h
 by-pairs h r e = e ∙ sym (pairs-are h)
 
 -- 2
-pub signature-right : (b : List ℕ) (r : ℕ) → r ≡ le 4 b 4 → r ≡ 0x41434353 → Nothing ≡ signatureFault b
+pub signature-right : (b : List ℕ) (r : ℕ) → r ≡ le 4 b 4 → r ≡ 0x41434353 → Nowhere ≡ signatureFault b
 unfolding signatureFault
 signature-right b r e q = rw (eq-eqb _ _ (sym e ∙ q))
 
@@ -84,52 +108,75 @@ unfolding signatureFault
 signature-wrong b r e q = rw (ne-eqb _ _ (λ h. q (e ∙ h)))
 
 -- 3
-pub size-low : (v : Version) (b : List ℕ) (r : ℕ) (l : Layout) → r ≡ le 4 b 12 → l ≡ layoutOf v → r < l .head → At 0 ≡ sizeFault v b
+pub size-low : (l : Layout) (b : List ℕ) (r : ℕ) → r ≡ le 4 b 12 → r < headEnd l → At 0 ≡ sizeFault l b
 unfolding sizeFault
-size-low v b r l e q h = rw (← e, ← q, lt-ltb _ _ h)
+size-low l b r e h = rw (← e, lt-ltb _ _ h)
 
-pub size-high : (v : Version) (b : List ℕ) (r : ℕ) (l : Layout) → r ≡ le 4 b 12 → l ≡ layoutOf v → l .head ≤ r → sizeLimit < r → At 0 ≡ sizeFault v b
+pub size-high : (l : Layout) (b : List ℕ) (r : ℕ) → r ≡ le 4 b 12 → headEnd l ≤ r → sizeLimit < r → At 0 ≡ sizeFault l b
 unfolding sizeFault
-size-high v b r l e q h k = rw (← e, ← q, le-ltb _ _ h, lt-ltb _ _ k)
+size-high l b r e h k = rw (← e, le-ltb _ _ h, lt-ltb _ _ k)
 
-pub size-right : (v : Version) (b : List ℕ) (r : ℕ) (l : Layout) → r ≡ le 4 b 12 → l ≡ layoutOf v → l .head ≤ r → r ≤ sizeLimit → Nothing ≡ sizeFault v b
+pub size-right : (l : Layout) (b : List ℕ) (r : ℕ) → r ≡ le 4 b 12 → headEnd l ≤ r → r ≤ sizeLimit → Nowhere ≡ sizeFault l b
 unfolding sizeFault
-size-right v b r l e q h k = rw (← e, ← q, le-ltb _ _ h, le-ltb _ _ k)
+size-right l b r e h k = rw (← e, le-ltb _ _ h, le-ltb _ _ k)
 
-pub ruleset faults = (signature-right, signature-wrong, size-low, size-high, size-right)
+-- 7 and 8
+pub places-few : (m n : ℕ) → m < n → At 0 ≡ placesFault m n
+unfolding placesFault
+places-few m n h = rw (lt-ltb m n h)
 
--- a section's length: a 32-bit count of entries
-pub length-small : (a b : ℕ) → a < 4294967296 → b ≤ 32 → a * b ≤ 281474976710656
+pub places-enough : (m n : ℕ) → n ≤ m → Nowhere ≡ placesFault m n
+unfolding placesFault
+places-enough m n h = rw (le-ltb m n h)
+
+pub entries-crowded : (count entry size : ℕ) → size < count * entry → At 0 ≡ entriesFault count entry size
+unfolding entriesFault
+entries-crowded count entry size h = rw (lt-ltb size (count * entry) h)
+
+pub entries-fit : (count entry size : ℕ) → count * entry ≤ size → Nowhere ≡ entriesFault count entry size
+unfolding entriesFault
+entries-fit count entry size h = rw (le-ltb size (count * entry) h)
+
+-- what it means that 7 and 8 pass
+pub places-met : (m n : ℕ) (r : Fault) → r ≡ placesFault m n → r ≡ Nowhere → n ≤ m
+unfolding placesFault
+places-met m n r e q = ltb-false m n (fault-clear 0 _ (sym e ∙ q))
+
+pub entries-met : (count entry size : ℕ) (r : Fault) → r ≡ entriesFault count entry size → r ≡ Nowhere → count * entry ≤ size
+unfolding entriesFault
+entries-met count entry size r e q = ltb-false size (count * entry) (fault-clear 0 _ (sym e ∙ q))
+
+pub ruleset faults =
+    (signature-right, signature-wrong, size-low, size-high, size-right, places-few, places-enough, entries-crowded, entries-fit)
+
+-- a section's length: a 32-bit count of entries, each of a 16-bit size
+pub length-small : (a b : ℕ) → a < 4294967296 → b < 65536 → a * b ≤ 281474976710656
 length-small a b p q =
-    let h : a * b ≤ a * 32 = mul-le-mul-left a q in
+    let h : a * b ≤ a * 65536 = mul-le-mul-left a (omega arith) in
     omega arith
 
-pub length-fits : (a b : ℕ) → a < 4294967296 → b ≤ 32 → Fits w64 (a * b)
+pub length-fits : (a b : ℕ) → a < 4294967296 → b < 65536 → Fits w64 (a * b)
 length-fits a b p q =
     let h : a * b ≤ 281474976710656 = length-small a b p q in
     omega arith
 
-pub metric-bound : (v : Version) (l : Layout) → l ≡ layoutOf v → l .metric ≤ 32
-metric-bound v l e = rw e (layout-sound v .metric)
-
-pub link-bound : (v : Version) (l : Layout) → l ≡ layoutOf v → l .link ≤ 32
-link-bound v l e = let h : l .link ≤ 12 = rw e (layout-sound v .link) in omega arith
-
-pub ruleset lengths = (length-small, length-fits, metric-bound, link-bound)
+pub ruleset lengths = (length-small, length-fits)
 
 -- a section of what calls gave
-pub section-same : (s : Section) (h at len count h′ at′ len′ count′ : ℕ) → s ≡ sectionOf h at len count → h ≡ h′ → at ≡ at′ → len ≡ len′ → count ≡ count′ → s ≡ sectionOf h′ at′ len′ count′
-section-same s h at len count h′ at′ len′ count′ e p q r t = rw (← p, ← q, ← r, ← t) e
+pub section-same : (s : Section) (h at len count at′ len′ count′ : ℕ)
+    → s ≡ sectionOf h at len count → at ≡ at′ → len ≡ len′ → count ≡ count′ → s ≡ sectionOf h at′ len′ count′
+section-same s h at len count at′ len′ count′ e q r t = rw (← q, ← r, ← t) e
 
-pub length-same : (a b a′ b′ : ℕ) → a ≡ a′ → b ≡ b′ → a * b ≡ a′ * b′
-length-same a b a′ b′ p q = rw (p, q)
+pub length-same : (a b a′ : ℕ) → a ≡ a′ → a * b ≡ a′ * b
+length-same a b a′ p = rw p
 
-pub head-from : (v : Version) (b : List ℕ) (size : ℕ) (metrics trace strings volumes : Section)
+pub head-from : (l : Layout) (b : List ℕ) (size : ℕ) (metrics trace strings volumes : Section)
     → size ≡ le 4 b 12
-    → metrics ≡ sectionOf (layoutOf v .head) (le 4 b 84) (le 4 b 88 * layoutOf v .metric) (le 4 b 88)
-    → trace ≡ sectionOf (layoutOf v .head) (le 4 b 92) (le 4 b 96 * layoutOf v .link) (le 4 b 96)
-    → strings ≡ sectionOf (layoutOf v .head) (le 4 b 100) (le 4 b 104) (le 4 b 104)
-    → volumes ≡ sectionOf (layoutOf v .head) (le 4 b 108) (le 4 b 116) (le 4 b 112)
-    → record { size = size; metrics = metrics; trace = trace; strings = strings; volumes = volumes } ≡ headOf v b
+    → metrics ≡ sectionOf (headEnd l) (le 4 b 84) (le 4 b 88 * metricsEntry l) (le 4 b 88)
+    → trace ≡ sectionOf (headEnd l) (le 4 b 92) (le 4 b 96 * traceEntry l) (le 4 b 96)
+    → strings ≡ sectionOf (headEnd l) (le 4 b 100) (le 4 b 104) (le 4 b 104)
+    → volumes ≡ sectionOf (headEnd l) (le 4 b 108) (le 4 b 116) (le 4 b 112)
+    → record { «declared_size» = size; metrics = metrics; trace = trace; strings = strings; volumes = volumes } ≡ headOf l b
 unfolding headOf
-head-from v b size metrics trace strings volumes e m t s u = λ i. record { size = e i; metrics = m i; trace = t i; strings = s i; volumes = u i }
+head-from l b size metrics trace strings volumes e m t s u =
+    λ i. record { «declared_size» = e i; metrics = m i; trace = t i; strings = s i; volumes = u i }

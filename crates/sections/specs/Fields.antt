@@ -1,4 +1,4 @@
--- The head's fields and sections, and what each of checks 2 to 6 finds wrong in them (document 01, "Head" and rows 2 to 6).
+-- The head's fields and sections, and what each of checks 2 to 8 finds wrong in them (document 01, "Head" and rows 2 to 8).
 use mathlib.Core.List.{List}
 use mathlib.Core.Bool.{Bool, _&&_, _||_, not}
 use Prim.Native.Nat.{ℕ, _+_, _-_, _*_}
@@ -7,51 +7,54 @@ use lib.ListN.{take, drop}
 use Rattle.lists.specs.First.{first, firstFrom}
 use Rattle.lists.specs.Count.{pick, some}
 use Rattle.lists.specs.declared.Found.{Found}
-use Rattle.lists.specs.declared.Found.the-variants.{At, Nothing}
 use Rattle.little_endian.specs.Number.{le, zeroUnit}
-use Rattle.layout.specs.Versions.{layoutOf, sizeLimit}
-use Rattle.layout.specs.declared.Version.{Version}
+use Rattle.layout.specs.Head.{signatureAt, declaredSizeAt, programNameAt, programNameUnits, storedHashAt, metricsOffsetAt, metricsCountAt}
+use Rattle.layout.specs.Head.{traceOffsetAt, traceCountAt, stringsOffsetAt, stringsSizeAt, volumesOffsetAt, volumesCountAt, volumesSizeAt}
+use Rattle.layout.specs.Versions.{sizeLimit, headEnd, metricsEntry, traceEntry}
+use Rattle.layout.specs.declared.Layout.{Layout}
+use Rattle.incremental.specs.Decision.{faultAt, faultOf}
+use Rattle.incremental.specs.declared.Fault.{Fault}
 use Rattle.sections.specs.declared.Section.{Section}
 use Rattle.sections.specs.declared.Head.{Head}
 
--- a fault of index i, where the test holds
-abbrev pub faultAt : ℕ → Bool → Found
-faultAt i test = pick test (At i) Nothing
-
 -- 2: the signature differs from 53 43 43 41
-unfoldable pub signatureFault : List ℕ → Found
-signatureFault b = faultAt 0 (not (eqb (le 4 b 4) 0x41434353))
+unfoldable pub signatureFault : List ℕ → Fault
+signatureFault b = faultAt 0 (not (eqb (le 4 b signatureAt) 0x41434353))
 
 -- S: the declared size
 abbrev pub declaredSize : List ℕ → ℕ
-declaredSize b = le 4 b 12
+declaredSize b = le 4 b declaredSizeAt
 
 -- the stored hash
 abbrev pub storedHash : List ℕ → ℕ
-storedHash b = le 4 b 76
+storedHash b = le 4 b storedHashAt
 
 -- 3: S below H or above 16,777,215
-unfoldable pub sizeFault : Version → List ℕ → Found
-sizeFault v b = faultAt 0 (ltb (declaredSize b) (layoutOf v .head) || ltb sizeLimit (declaredSize b))
+unfoldable pub sizeFault : Layout → List ℕ → Fault
+sizeFault l b = faultAt 0 (ltb (declaredSize b) (headEnd l) || ltb sizeLimit (declaredSize b))
 
 -- 4: the first zero unit of the program name's 30
 unfoldable pub nameEnd : List ℕ → Found
-nameEnd b = first (λ i. zeroUnit b (16 + 2 * i)) 30
+nameEnd b = first (λ i. zeroUnit b (programNameAt + 2 * i)) programNameUnits
 
 -- a section: its offset, length, count of entries, and its end, which is H where it is empty
 abbrev pub sectionOf : ℕ → ℕ → ℕ → ℕ → Section
 sectionOf h at len count = record { at = at; len = len; end = pick (eqb len 0) h (at + len); count = count }
 
 -- the declared size and the sections that the first H bytes give
-unfoldable pub headOf : Version → List ℕ → Head
-headOf v b =
+unfoldable pub headOf : Layout → List ℕ → Head
+headOf l b =
     record {
-      size = declaredSize b;
-      metrics = sectionOf (layoutOf v .head) (le 4 b 84) (le 4 b 88 * layoutOf v .metric) (le 4 b 88);
-      trace = sectionOf (layoutOf v .head) (le 4 b 92) (le 4 b 96 * layoutOf v .link) (le 4 b 96);
-      strings = sectionOf (layoutOf v .head) (le 4 b 100) (le 4 b 104) (le 4 b 104);
-      volumes = sectionOf (layoutOf v .head) (le 4 b 108) (le 4 b 116) (le 4 b 112);
+      «declared_size» = declaredSize b;
+      metrics = sectionOf (headEnd l) (le 4 b metricsOffsetAt) (le 4 b metricsCountAt * metricsEntry l) (le 4 b metricsCountAt);
+      trace = sectionOf (headEnd l) (le 4 b traceOffsetAt) (le 4 b traceCountAt * traceEntry l) (le 4 b traceCountAt);
+      strings = sectionOf (headEnd l) (le 4 b stringsOffsetAt) (le 4 b stringsSizeAt) (le 4 b stringsSizeAt);
+      volumes = sectionOf (headEnd l) (le 4 b volumesOffsetAt) (le 4 b volumesSizeAt) (le 4 b volumesCountAt);
     }
+
+-- S, as the head has it
+abbrev pub sizeIn : Head → ℕ
+sizeIn h = h .«declared_size»
 
 -- the bytes of a section
 abbrev pub part : Section → List ℕ → List ℕ
@@ -66,8 +69,8 @@ unfoldable pub outside : ℕ → ℕ → Section → Bool
 outside h size s = not (eqb (s .len) 0) && (ltb (s .at) h || ltb size (s .end))
 
 -- 5: the first such section, of the four from 1
-unfoldable pub firstOutside : Version → Head → Found
-firstOutside v h = firstFrom (λ n. outside (layoutOf v .head) (h .size) (numbered h n)) 4 1
+unfoldable pub outsideFault : Layout → Head → Fault
+outsideFault l h = faultOf (firstFrom (λ n. outside (headEnd l) (sizeIn h) (numbered h n)) 4 1)
 
 -- two sections of nonzero length share a byte
 unfoldable pub shares : Section → Section → Bool
@@ -78,5 +81,13 @@ abbrev pub sharesLower : Head → ℕ → Bool
 sharesLower h n = some (λ k. shares (numbered h (k + 1)) (numbered h n)) (n - 1)
 
 -- 6: the smallest such section
-unfoldable pub firstShared : Head → Found
-firstShared h = firstFrom (sharesLower h) 4 1
+unfoldable pub sharedFault : Head → Fault
+sharedFault h = faultOf (firstFrom (sharesLower h) 4 1)
+
+-- 7: the working buffer has fewer places than trace entries
+unfoldable pub placesFault : ℕ → ℕ → Fault
+placesFault places count = faultAt 0 (ltb places count)
+
+-- 8: volume count times entry size exceeds the volumes size
+unfoldable pub entriesFault : ℕ → ℕ → ℕ → Fault
+entriesFault count entry size = faultAt 0 (ltb size (count * entry))

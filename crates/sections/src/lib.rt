@@ -1,11 +1,12 @@
-// The fields of the head, the sections that they describe, and what checks 2 to 6 find wrong in them.
+// The fields of the head, the sections that they describe, and what checks 2 to 8 find wrong in them.
 ghost use mathlib.Core.Path.{_≡_};
 ghost use Prim.Native.Nat.{_≤_};
 ghost use Rattle.lists.specs.Part.{IsPart};
-ghost use Rattle.sections.specs.Fields.{signatureFault, sizeFault, nameEnd, sectionOf, headOf, outside, firstOutside, shares, firstShared};
+ghost use Rattle.sections.specs.Fields.{signatureFault, sizeFault, nameEnd, sectionOf, headOf, outside, outsideFault, shares};
+ghost use Rattle.sections.specs.Fields.{sharedFault, placesFault, entriesFault};
+use incremental::Fault;
 use layout::Layout;
 use layout::SIZE_LIMIT;
-use layout::Version;
 use lists::Found;
 
 // A section of the file: offset, length in bytes, end, and the count that its head has.
@@ -17,8 +18,8 @@ pub struct Section {
 }
 
 pub struct Head {
-    // Document 01: S, the declared size.
-    pub size: u32,
+    // Document 01: S.
+    pub declared_size: u32,
     pub metrics: Section,
     pub trace: Section,
     pub strings: Section,
@@ -32,34 +33,40 @@ pub fn part_of(bytes: &[u8], s: Section) -> &[u8]
     lists::part(bytes, s.at, s.len)
 }
 
-pub fn signature_fault(b: &[u8]) -> Found
+// Check 2.
+pub fn signature_fault(b: &[u8]) -> Fault
     ensures { λ r. ⌜ r ≡ signatureFault (now (b .entry)) ⌝ }
 {
-    if little_endian::u32_at(b, 4) == 0x41434353 {
-        Found::Nothing
+    if little_endian::u32_at(b, layout::SIGNATURE_AT) == layout::SIGNATURE {
+        Fault::Nowhere
     } else {
-        Found::At(0)
+        Fault::At(0)
     }
 }
 
-pub fn size_fault(b: &[u8], v: Version) -> Found
-    ensures { λ r. ⌜ r ≡ sizeFault v (now (b .entry)) ⌝ }
+// Check 3.
+pub fn size_fault(b: &[u8], l: Layout) -> Fault
+    ensures { λ r. ⌜ r ≡ sizeFault l (now (b .entry)) ⌝ }
 {
-    let size = little_endian::u32_at(b, 12);
-    if (size as usize) < Layout::of(v).head {
-        return Found::At(0);
+    let size = little_endian::u32_at(b, layout::DECLARED_SIZE_AT);
+    if size < l.head_end as u32 {
+        return Fault::At(0);
     }
     if SIZE_LIMIT < size {
-        return Found::At(0);
+        return Fault::At(0);
     }
-    Found::Nothing
+    Fault::Nowhere
 }
 
-// The number of the program name's units before its first zero.
+// Check 4: the number of the program name's units before its first zero.
 pub fn name_end(b: &[u8]) -> Found
     ensures { λ r. ⌜ r ≡ nameEnd (now (b .entry)) ⌝ }
 {
-    little_endian::first_zero_unit(b, 16, 30)
+    little_endian::first_zero_unit(
+        b,
+        layout::PROGRAM_NAME_AT as u32,
+        layout::PROGRAM_NAME_UNITS,
+    )
 }
 
 fn section_of(h: usize, at: u32, len: usize, count: u32) -> Section
@@ -83,35 +90,40 @@ fn section_of(h: usize, at: u32, len: usize, count: u32) -> Section
     }
 }
 
-pub fn head_of(v: Version, b: &[u8]) -> Head
-    ensures { λ r. ⌜ r ≡ headOf v (now (b .entry)) ⌝ }
+// The declared size and the sections. An empty section ends at H.
+pub fn head_of(l: Layout, b: &[u8]) -> Head
+    ensures { λ r. ⌜ r ≡ headOf l (now (b .entry)) ⌝ }
 {
-    let l = Layout::of(v);
-    let h = l.head;
-    let files = little_endian::u32_at(b, 88);
-    let links = little_endian::u32_at(b, 96);
-    let text = little_endian::u32_at(b, 104);
+    let h = l.head_end as usize;
+    let files = little_endian::u32_at(b, layout::METRICS_COUNT_AT);
+    let links = little_endian::u32_at(b, layout::TRACE_COUNT_AT);
+    let text = little_endian::u32_at(b, layout::STRINGS_SIZE_AT);
     let metrics = section_of(
         h,
-        little_endian::u32_at(b, 84),
-        files as usize * l.metric,
+        little_endian::u32_at(b, layout::METRICS_OFFSET_AT),
+        files as usize * (l.metrics_entry as usize),
         files,
     );
     let trace = section_of(
         h,
-        little_endian::u32_at(b, 92),
-        links as usize * l.link,
+        little_endian::u32_at(b, layout::TRACE_OFFSET_AT),
+        links as usize * (l.trace_entry as usize),
         links,
     );
-    let strings = section_of(h, little_endian::u32_at(b, 100), text as usize, text);
+    let strings = section_of(
+        h,
+        little_endian::u32_at(b, layout::STRINGS_OFFSET_AT),
+        text as usize,
+        text,
+    );
     let volumes = section_of(
         h,
-        little_endian::u32_at(b, 108),
-        little_endian::u32_at(b, 116) as usize,
-        little_endian::u32_at(b, 112),
+        little_endian::u32_at(b, layout::VOLUMES_OFFSET_AT),
+        little_endian::u32_at(b, layout::VOLUMES_SIZE_AT) as usize,
+        little_endian::u32_at(b, layout::VOLUMES_COUNT_AT),
     );
     Head {
-        size: little_endian::u32_at(b, 12),
+        declared_size: little_endian::u32_at(b, layout::DECLARED_SIZE_AT),
         metrics: metrics,
         trace: trace,
         strings: strings,
@@ -131,28 +143,29 @@ fn is_outside(h: usize, size: u32, s: Section) -> bool
     (size as usize) < s.end
 }
 
-pub fn first_outside(v: Version, h: Head) -> Found
-    ensures { λ r. ⌜ r ≡ firstOutside v h ⌝ }
+// Check 5.
+pub fn outside_fault(l: Layout, h: Head) -> Fault
+    ensures { λ r. ⌜ r ≡ outsideFault l h ⌝ }
 {
-    let start = Layout::of(v).head;
-    let size = h.size;
+    let start = l.head_end as usize;
+    let size = h.declared_size;
     let metrics = h.metrics;
     let trace = h.trace;
     let strings = h.strings;
     let volumes = h.volumes;
     if is_outside(start, size, metrics) {
-        return Found::At(1);
+        return Fault::At(1);
     }
     if is_outside(start, size, trace) {
-        return Found::At(2);
+        return Fault::At(2);
     }
     if is_outside(start, size, strings) {
-        return Found::At(3);
+        return Fault::At(3);
     }
     if is_outside(start, size, volumes) {
-        return Found::At(4);
+        return Fault::At(4);
     }
-    Found::Nothing
+    Fault::Nowhere
 }
 
 fn share(s: Section, t: Section) -> bool
@@ -170,30 +183,51 @@ fn share(s: Section, t: Section) -> bool
     t.at < s.end
 }
 
-pub fn first_shared(h: Head) -> Found
-    ensures { λ r. ⌜ r ≡ firstShared h ⌝ }
+// Check 6.
+pub fn shared_fault(h: Head) -> Fault
+    ensures { λ r. ⌜ r ≡ sharedFault h ⌝ }
 {
     let metrics = h.metrics;
     let trace = h.trace;
     let strings = h.strings;
     let volumes = h.volumes;
     if share(metrics, trace) {
-        return Found::At(2);
+        return Fault::At(2);
     }
     if share(metrics, strings) {
-        return Found::At(3);
+        return Fault::At(3);
     }
     if share(trace, strings) {
-        return Found::At(3);
+        return Fault::At(3);
     }
     if share(metrics, volumes) {
-        return Found::At(4);
+        return Fault::At(4);
     }
     if share(trace, volumes) {
-        return Found::At(4);
+        return Fault::At(4);
     }
     if share(strings, volumes) {
-        return Found::At(4);
+        return Fault::At(4);
     }
-    Found::Nothing
+    Fault::Nowhere
+}
+
+// Check 7.
+pub fn places_fault(places: usize, count: u32) -> Fault
+    ensures { λ r. ⌜ r ≡ placesFault places count ⌝ }
+{
+    if places < count as usize {
+        return Fault::At(0);
+    }
+    Fault::Nowhere
+}
+
+// Check 8.
+pub fn entries_fault(count: u32, entry: u16, size: usize) -> Fault
+    ensures { λ r. ⌜ r ≡ entriesFault count entry size ⌝ }
+{
+    if size < count as usize * (entry as usize) {
+        return Fault::At(0);
+    }
+    Fault::Nowhere
 }

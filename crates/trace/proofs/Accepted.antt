@@ -15,9 +15,10 @@ use Rattle.lists.specs.First.{first}
 use Rattle.lists.proofs.First.{first-nothing}
 use Rattle.lists.specs.Count.{count}
 use Rattle.lists.proofs.Count.{count-two}
-use Rattle.incremental.specs.Decision.{Decision, accept, refuse, refusal, check}
+use Rattle.incremental.specs.Decision.{Decision, accept, faultOf, check, _>>_}
+use Rattle.sections.specs.Fields.{placesFault}
 use Rattle.trace.specs.Links.{end, after, astray, namers, shared, cyclic, chains, linkChecks, traceChecks}
-use Rattle.trace.specs.Private.{Sound, Distinct}
+use Rattle.trace.specs.Private.{InRange, Distinct}
 
 -- check 13 passed
 abbrev pub Acyclic : List ℕ → Type 0
@@ -45,7 +46,7 @@ pub astray-yes : (s : List ℕ) (i : ℕ) → (after s i ≡ end → ⊥) → le
 astray-yes s i n l = rw (ne-eqb (after s i) end n, le-ltb (after s i) (length s) l)
 
 -- a check's search that found nothing
-pub sound : (s : List ℕ) → first (astray s) (length s) ≡ Nothing → Sound s
+pub sound : (s : List ℕ) → first (astray s) (length s) ≡ Nothing → InRange s
 sound s e i l = astray-no s i (first-nothing (astray s) (length s) e i l)
 
 pub once : (s : List ℕ) → first (shared s) (length s) ≡ Nothing → (j : ℕ) → j < length s → namers s (length s) j ≤ 1
@@ -54,7 +55,7 @@ once s e j l = ltb-false 1 (namers s (length s) j) (first-nothing (shared s) (le
 pub acyclic : (s : List ℕ) → first (cyclic s) (length s) ≡ Nothing → Acyclic s
 acyclic s e i l = first-nothing (cyclic s) (length s) e i l
 
-pub distinct : (s : List ℕ) → Sound s → ((j : ℕ) → j < length s → namers s (length s) j ≤ 1) → Distinct s
+pub distinct : (s : List ℕ) → InRange s → ((j : ℕ) → j < length s → namers s (length s) j ≤ 1) → Distinct s
 unfolding namers
 distinct s h most i j hi hj e n = go (ℕ-discrete i j) (decLt i j)
   where
@@ -76,12 +77,12 @@ distinct s h most i j hi hj e n = go (ℕ-discrete i j) (decLt i j)
     go (no z) (no l) = absurd (omega (arith, atMost, count-two named (length s) j i (omega arith) hi other mine))
 
 -- a check of an acceptance found nothing
-passed : {A : Type 0} (n : ℕ) (f : Found) (later : Decision A) (a : A) → check n f later ≡ accept a → (f ≡ Nothing) × (later ≡ accept a)
+passed : {A : Type 0} (n : ℕ) (f : Found) (later : Decision A) (a : A) → (check n (faultOf f) >> later) ≡ accept a → (f ≡ Nothing) × (later ≡ accept a)
 passed n (At i) later a e = let z : _≡_ {A = ℕ} 0 1 = cc in absurd (omega arith)
 passed n Nothing later a e = (refl, e)
 
 pub record Accepted (s : List ℕ) (n : ℕ) : Type 0 where
-  pub sound : Sound s
+  pub sound : InRange s
   pub once : (j : ℕ) → j < length s → namers s (length s) j ≤ 1
   pub distinct : Distinct s
   pub acyclic : Acyclic s
@@ -103,11 +104,7 @@ accepted s n e =
       counted = cc;
     }
 
--- check 7, and with a place for each entry the others
+-- check 7: with a place for each entry the others decide
 pub trace-room : (s : List ℕ) (m : ℕ) → length s ≤ m → traceChecks s m ≡ linkChecks s
-unfolding traceChecks
+unfolding traceChecks placesFault
 trace-room s m l = rw (le-ltb m (length s) l)
-
-pub trace-small : (s : List ℕ) (m : ℕ) → m < length s → traceChecks s m ≡ refuse (refusal 7 0)
-unfolding traceChecks
-trace-small s m l = rw (lt-ltb m (length s) l)

@@ -12,7 +12,7 @@ use lib.ListN.{length}
 use Rattle.lists.specs.Count.{count, pick}
 use Rattle.incremental.specs.Decision.{accept}
 use Rattle.trace.specs.Links.{end, after, namers, chains, linkChecks}
-use Rattle.trace.specs.Private.{Sound, ends}
+use Rattle.trace.specs.Private.{InRange, ends}
 use Rattle.trace.proofs.Accepted.{accepted}
 
 sum : (ℕ → ℕ) → ℕ → ℕ
@@ -66,7 +66,7 @@ ends-or-on s n (suc i) l h = go (ends-or-on s n i l (λ k q. h k (omega arith)))
         o
 
 -- there are as many chains as entries that end one, where checks 11 and 12 pass
-pub chains-are-ends : (s : List ℕ) → length s ≤ end → Sound s → ((j : ℕ) → j < length s → namers s (length s) j ≤ 1) → chains s ≡ ends s
+pub chains-are-ends : (s : List ℕ) → length s ≤ end → InRange s → ((j : ℕ) → j < length s → namers s (length s) j ≤ 1) → chains s ≡ ends s
 unfolding chains namers
 chains-are-ends s l sound once =
     omega (

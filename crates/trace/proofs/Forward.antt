@@ -14,9 +14,9 @@ use Rattle.lists.proofs.First.{first-is-nothing}
 use Rattle.lists.proofs.Count.{some-no}
 use Rattle.lists.specs.declared.Found.the-variants.{Nothing}
 use Rattle.trace.specs.Links.{end, after, follow, cyclic}
-use Rattle.trace.specs.Private.{Sound, Forward}
+use Rattle.trace.specs.Private.{InRange, Forward}
 
-module _ (s : List ℕ) (l : length s ≤ end) (sound : Sound s) (f : Forward s) where
+module _ (s : List ℕ) (l : length s ≤ end) (sound : InRange s) (f : Forward s) where
   -- a step leads on, and not past the end
   step-on : (j : ℕ) → j ≤ end → (j ≤ after s j) × (after s j ≤ end)
   step-on j h = go (decLt j (length s))

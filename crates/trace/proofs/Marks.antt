@@ -16,7 +16,7 @@ use Rattle.lists.proofs.Count.{count-le, count-less}
 use Rattle.trace.specs.Links.{end, after, follow, cyclic}
 use Rattle.trace.proofs.Steps.{Reach, follow-one, follow-add, follow-suc}
 use Rattle.trace.proofs.Cycles.{cyclic-yes, cyclic-no}
-use Rattle.trace.specs.Private.{Sound, Distinct}
+use Rattle.trace.specs.Private.{InRange, Distinct}
 
 -- how many entries have no mark
 abbrev pub unmarked : List ℕ → List ℕ → ℕ
@@ -112,7 +112,7 @@ module _ (s : List ℕ) (small : length s ≤ end) where
         }
 
     -- or it goes on: to the end, or to an entry that this walk has not marked, since no two entries name one
-    module _ (sound : Sound s) (distinct : Distinct s) (r : after s j ≡ i → ⊥) where
+    module _ (sound : InRange s) (distinct : Distinct s) (r : after s j ≡ i → ⊥) where
       -- a marked entry is not j
       marked : (p : ℕ) → getD b p 0 ≡ i → p ≡ j → ⊥
       marked p q z = i≢end (sym q ∙ ap (λ (x : ℕ). getD b x 0) z ∙ e)

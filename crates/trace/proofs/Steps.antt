@@ -9,13 +9,13 @@ use Rattle.lists.proofs.Table.{length-tabulate, getD-tabulate}
 use Rattle.little_endian.specs.Number.{le}
 use Rattle.trace.specs.Links.{end, nexts, after, follow}
 
-pub length-nexts : (section : List ℕ) (entries : ℕ) → length (nexts section entries) ≡ entries
+pub length-nexts : (section : List ℕ) (size entries : ℕ) → length (nexts section size entries) ≡ entries
 unfolding nexts
-length-nexts section entries = length-tabulate entries (λ i. le 4 section (12 * i))
+length-nexts section size entries = length-tabulate entries (λ i. le 4 section (i * size))
 
-pub after-nexts : (section : List ℕ) (entries i : ℕ) → i < entries → after (nexts section entries) i ≡ le 4 section (12 * i)
+pub after-nexts : (section : List ℕ) (size entries i : ℕ) → i < entries → after (nexts section size entries) i ≡ le 4 section (i * size)
 unfolding nexts
-after-nexts section entries i l = getD-tabulate entries (λ k. le 4 section (12 * k)) i end l
+after-nexts section size entries i l = getD-tabulate entries (λ k. le 4 section (k * size)) i end l
 
 -- j is reached from i in one step or more
 abbrev pub Reach : List ℕ → ℕ → ℕ → Type 0

@@ -9,17 +9,19 @@ use Rattle.lists.specs.First.{first}
 use Rattle.lists.specs.Table.{tabulate}
 use Rattle.lists.specs.Count.{some, count, pick}
 use Rattle.little_endian.specs.Number.{le}
-use Rattle.incremental.specs.Decision.{Decision, accept, refuse, refusal, check}
+use Rattle.incremental.specs.Decision.{Decision, accept, refuse, faultOf, check, _>>=_, _>>_}
+use Rattle.incremental.specs.declared.Fault.{Fault}
+use Rattle.sections.specs.Fields.{placesFault}
 use Rattle.trace.specs.declared.Links.{Links}
 use Rattle.trace.specs.declared.Links.the-variants.{Chains, Refused}
 
 -- the next index that ends a chain; document 01's 4,294,967,295
 abbrev pub end : ℕ
-end = 4294967295
+end = 4_294_967_295
 
--- the next indexes of a trace section of so many entries: the first four of each twelve bytes
-unfoldable pub nexts : List ℕ → ℕ → List ℕ
-nexts section entries = tabulate entries (λ i. le 4 section (12 * i))
+-- the next indexes of a trace section of so many entries of that size: the first four bytes of each
+unfoldable pub nexts : List ℕ → ℕ → ℕ → List ℕ
+nexts section size entries = tabulate entries (λ i. le 4 section (i * size))
 
 -- the entry after entry i; outside the list, the end
 abbrev pub after : List ℕ → ℕ → ℕ
@@ -73,21 +75,27 @@ abbrev pub linksOf : Links → Decision ℕ
 linksOf (Chains n) = accept n
 linksOf (Refused r) = refuse r
 
+-- 11, 12, 13: the first such entry
+abbrev pub astrayFault : List ℕ → Fault
+astrayFault s = faultOf (first (astray s) (length s))
+
+abbrev pub sharedFault : List ℕ → Fault
+sharedFault s = faultOf (first (shared s) (length s))
+
+abbrev pub cyclicFault : List ℕ → Fault
+cyclicFault s = faultOf (first (cyclic s) (length s))
+
 -- checks 11, 12 and 13 in their order; what passes them has its chain count
 unfoldable pub linkChecks : List ℕ → Decision ℕ
-linkChecks s =
-    check 11 (first (astray s) (length s))
-    (check 12 (first (shared s) (length s))
-    (check 13 (first (cyclic s) (length s))
-    (accept (chains s))))
+linkChecks s = do
+  check 11 (astrayFault s)
+  check 12 (sharedFault s)
+  check 13 (cyclicFault s)
+  accept (chains s)
 
 -- before them check 7: a buffer of m places has a place for each entry
 unfoldable pub traceChecks : List ℕ → ℕ → Decision ℕ
-traceChecks s m = roomFor (ltb m (length s)) (linkChecks s)
-  where
-    roomFor : Bool → Decision ℕ → Decision ℕ
-    roomFor true later = refuse (refusal 7 0)
-    roomFor false later = later
+traceChecks s m = check 7 (placesFault m (length s)) >> linkChecks s
 
 -- what the buffer of m places holds after a decision
 abbrev pub held : Decision ℕ → List ℕ → ℕ → List ℕ
@@ -95,6 +103,6 @@ held (accept n) s m = predecessors s m
 held (refuse r) s m = filled m
 
 -- the answer and the buffer after it, which had m places
-pub record LinkAnswer (section : List ℕ) (entries m : ℕ) (r : Links) (buffer : List ℕ) : Type 0 where
-  pub answer : linksOf r ≡ traceChecks (nexts section entries) m
-  pub holds : buffer ≡ held (traceChecks (nexts section entries) m) (nexts section entries) m
+pub record LinkAnswer (section : List ℕ) (size entries m : ℕ) (r : Links) (buffer : List ℕ) : Type 0 where
+  pub answer : linksOf r ≡ traceChecks (nexts section size entries) m
+  pub holds : buffer ≡ held (traceChecks (nexts section size entries) m) (nexts section size entries) m

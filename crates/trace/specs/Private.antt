@@ -1,23 +1,24 @@
--- What the checks that passed say of a list of next indexes.
+-- What only private contracts need: what each check looks for, the checks from one of them on, and what is known of the buffer on the way.
 use mathlib.Core.Path.{_≡_}
 use mathlib.Core.List.{List}
 use mathlib.Core.Logic.{_⊎_}
 use Prim.Native.Nat.{ℕ, _<_, _≤_, min}
 use lib.ListN.{length, getD, set}
-use Rattle.trace.specs.Links.{end, after, astray, namers, shared, cyclic, chains, predecessors, filled, linksOf, held}
+use Rattle.trace.specs.Links.{end, after, astray, namers, shared, cyclic, sharedFault, cyclicFault}
+use Rattle.trace.specs.Links.{chains, predecessors, filled, linksOf, held, linkChecks}
 use lib.Dec.{eqb}
 use Rattle.lists.specs.declared.Found.{Found}
 use Rattle.lists.specs.declared.Found.the-variants.{At, Nothing}
 use Rattle.lists.specs.First.{first}
 use Rattle.lists.specs.Count.{pick}
-use Rattle.incremental.specs.Decision.{Decision, accept, check}
+use Rattle.incremental.specs.Decision.{Decision, accept, check, _>>_}
 use Rattle.trace.specs.declared.Links.{Links}
 use Rattle.trace.specs.declared.Pass.{Pass}
 use Rattle.trace.specs.declared.Pass.the-variants.{Astray, Shared, Clear}
 
 -- check 11 passed
-abbrev pub Sound : List ℕ → Type 0
-Sound s = (i : ℕ) → i < length s → (after s i ≡ end) ⊎ (after s i < length s)
+abbrev pub InRange : List ℕ → Type 0
+InRange s = (i : ℕ) → i < length s → (after s i ≡ end) ⊎ (after s i < length s)
 
 -- check 12 passed: no two entries name one entry
 abbrev pub Distinct : List ℕ → Type 0
@@ -35,13 +36,10 @@ firstCyclic s = first (cyclic s) (length s)
 
 -- the checks from 13 on, and from 12 on
 abbrev pub cycleChecks : List ℕ → Decision ℕ
-cycleChecks s = check 13 (firstCyclic s) (accept (chains s))
+cycleChecks s = check 13 (cyclicFault s) >> accept (chains s)
 
 abbrev pub sharedChecks : List ℕ → Decision ℕ
-sharedChecks s = check 12 (firstShared s) (cycleChecks s)
-
-abbrev pub entryChecks : List ℕ → Decision ℕ
-entryChecks s = check 11 (firstAstray s) (sharedChecks s)
+sharedChecks s = check 12 (sharedFault s) >> cycleChecks s
 
 -- what one pass for checks 11 and 12 says: f and g are what they look for, and n is the number of entries that end a chain
 abbrev pub passOf : Found → Found → ℕ → Pass
@@ -50,18 +48,18 @@ passOf Nothing (At i) n = Shared i
 passOf Nothing Nothing n = Clear n
 
 -- the buffer has a place for each entry, and check 11 has passed
-pub record Ready (s buffer : List ℕ) : Type 0 where
+pub record LinkedBuffer (s buffer : List ℕ) : Type 0 where
   pub room : length s ≤ length buffer
-  pub sound : Sound s
+  pub sound : InRange s
 
 -- the buffer has a place for each entry, and every place is filled
-pub record Blank (s buffer : List ℕ) : Type 0 where
+pub record FilledBuffer (s buffer : List ℕ) : Type 0 where
   pub room : length s ≤ length buffer
   pub clear : buffer ≡ filled (length buffer)
 
 -- the same, and check 11 has passed
-pub record Cleared (s buffer : List ℕ) : Type 0 where
-  pub ready : Ready s buffer
+pub record FilledLinked (s buffer : List ℕ) : Type 0 where
+  pub ready : LinkedBuffer s buffer
   pub clear : buffer ≡ filled (length buffer)
 
 -- how many entries have the end as next
@@ -76,20 +74,27 @@ pub record Stored (i j least : ℕ) (before : List ℕ) (r : ℕ) (buffer : List
 -- what the pass for checks 11 and 12 found, and the table of predecessors
 pub record Passed (s : List ℕ) (m : ℕ) (r : Pass) (buffer : List ℕ) : Type 0 where
   pub found : r ≡ passOf (firstAstray s) (firstShared s) (ends s)
-  pub holds : Sound s → buffer ≡ predecessors s m
+  pub holds : InRange s → buffer ≡ predecessors s m
 
 -- checks 11 and 12 have passed: n entries end a chain, and the buffer is the table of predecessors
-pub record Clean (s : List ℕ) (n : ℕ) (buffer : List ℕ) : Type 0 where
+pub record TableBuilt (s : List ℕ) (n : ℕ) (buffer : List ℕ) : Type 0 where
   pub room : length s ≤ length buffer
-  pub sound : Sound s
+  pub sound : InRange s
   pub once : (j : ℕ) → j < length s → namers s (length s) j ≤ 1
   pub counted : n ≡ ends s
   pub table : buffer ≡ predecessors s (length buffer)
 
 -- a decision as an answer, and the buffer after it
-pub record Answered (d : Decision ℕ) (s : List ℕ) (m : ℕ) (r : Links) (buffer : List ℕ) : Type 0 where
+pub record LinkDecision (d : Decision ℕ) (s : List ℕ) (m : ℕ) (r : Links) (buffer : List ℕ) : Type 0 where
   pub answer : linksOf r ≡ d
   pub holds : buffer ≡ held d s m
+
+-- check 13, and checks 11 to 13, with a buffer of m places
+abbrev pub CyclesAnswered : List ℕ → ℕ → Links → List ℕ → Type 0
+CyclesAnswered s m r buffer = LinkDecision (cycleChecks s) s m r buffer
+
+abbrev pub LinksAnswered : List ℕ → ℕ → Links → List ℕ → Type 0
+LinksAnswered s m r buffer = LinkDecision (linkChecks s) s m r buffer
 
 -- every next index is above its own; the end is above all
 abbrev pub Forward : List ℕ → Type 0

@@ -7,7 +7,9 @@ ghost use lib.ListN.{length};
 ghost use Rattle.lists.specs.Private.{foundBelow};
 ghost use Rattle.little_endian.specs.Number.{le};
 ghost use Rattle.trace.specs.Links.{end, nexts, filled, predecessors, LinkAnswer};
-ghost use Rattle.trace.specs.Private.{Distinct, Forward, firstCyclic, cycleChecks, entryChecks, Ready, Blank, Cleared, Clean, Stored, Passed, Answered};
+ghost use Rattle.trace.specs.Private.{Distinct, Forward, firstCyclic, LinkedBuffer, FilledBuffer, FilledLinked};
+ghost use Rattle.trace.specs.Private.{TableBuilt, Stored, Passed, CyclesAnswered, LinksAnswered};
+use incremental::Fault;
 use incremental::Refusal;
 use lists::Found;
 
@@ -27,11 +29,11 @@ enum Pass {
     Clear(usize),
 }
 
-// The next index of entry i.
-fn next_at(section: &[u8], i: u32) -> u32
-    ensures { λ r. ⌜ r ≡ le 4 (now (section .entry)) (12 * i) ⌝ }
+// The next index of entry i, of entries of that size.
+fn next_at(section: &[u8], size: u16, i: u32) -> u32
+    ensures { λ r. ⌜ r ≡ le 4 (now (section .entry)) (i * size) ⌝ }
 {
-    little_endian::u32_at(section, 12 * (i as usize))
+    little_endian::u32_at(section, i as usize * (size as usize))
 }
 
 // What a search over the entries found that stopped at entry i, or after the last entry.
@@ -75,15 +77,15 @@ fn store_predecessor(buffer: &mut [u32], i: u32, next: u32, least: u32) -> u32
 
 // Checks 11 and 12: the first entry astray, or else the smallest entry that two entries name, or else the number of entries that
 // end a chain. A filled buffer becomes the table of predecessors where no entry is astray.
-fn store_predecessors(section: &[u8], entries: u32, buffer: &mut [u32]) -> Pass
-    requires { ⌜ Blank (nexts (now section) entries) (now buffer) ⌝ }
-    ensures { λ r. ⌜ Passed (nexts (now (section .entry)) entries) (length (now (buffer .entry))) r (now (buffer .exit)) ⌝ }
+fn store_predecessors(section: &[u8], size: u16, entries: u32, buffer: &mut [u32]) -> Pass
+    requires { ⌜ FilledBuffer (nexts (now section) size entries) (now buffer) ⌝ }
+    ensures { λ r. ⌜ Passed (nexts (now (section .entry)) size entries) (length (now (buffer .entry))) r (now (buffer .exit)) ⌝ }
 {
     let mut least = entries;
     let mut ends: usize = 0;
     let mut i = 0;
     while i < entries {
-        let next = next_at(section, i);
+        let next = next_at(section, size, i);
         if next == END {
             ends += 1;
         } else {
@@ -101,19 +103,19 @@ fn store_predecessors(section: &[u8], entries: u32, buffer: &mut [u32]) -> Pass
 }
 
 // The table of predecessors, whatever the buffer held.
-fn build_table(section: &[u8], entries: u32, buffer: &mut [u32])
-    requires { ⌜ Ready (nexts (now section) entries) (now buffer) ⌝ }
-    ensures { λ _. ⌜ now (buffer .exit) ≡ predecessors (nexts (now (section .entry)) entries) (length (now (buffer .entry))) ⌝ }
+fn build_table(section: &[u8], size: u16, entries: u32, buffer: &mut [u32])
+    requires { ⌜ LinkedBuffer (nexts (now section) size entries) (now buffer) ⌝ }
+    ensures { λ _. ⌜ now (buffer .exit) ≡ predecessors (nexts (now (section .entry)) size entries) (length (now (buffer .entry))) ⌝ }
 {
     fill(buffer);
-    store_predecessors(section, entries, buffer);
+    store_predecessors(section, size, entries, buffer);
 }
 
 // Check 13: the smallest entry on a cycle. Each entry is walked over once: its place then holds the walk's first entry. A walk
 // that comes back to its own first entry has found the cycle; since no two entries name one, a walk meets no other entry of its own.
-fn first_cyclic(section: &[u8], entries: u32, marks: &mut [u32]) -> Found
-    requires { ⌜ Cleared (nexts (now section) entries) (now marks) × Distinct (nexts (now section) entries) ⌝ }
-    ensures { λ r. ⌜ r ≡ firstCyclic (nexts (now (section .entry)) entries) ⌝ }
+fn first_cyclic(section: &[u8], size: u16, entries: u32, marks: &mut [u32]) -> Found
+    requires { ⌜ FilledLinked (nexts (now section) size entries) (now marks) × Distinct (nexts (now section) size entries) ⌝ }
+    ensures { λ r. ⌜ r ≡ firstCyclic (nexts (now (section .entry)) size entries) ⌝ }
 {
     let mut i = 0;
     'entries: while i < entries {
@@ -124,7 +126,7 @@ fn first_cyclic(section: &[u8], entries: u32, marks: &mut [u32]) -> Found
                 break;
             }
             marks[at] = i;
-            j = next_at(section, j);
+            j = next_at(section, size, j);
             if j == i {
                 break 'entries;
             }
@@ -135,20 +137,20 @@ fn first_cyclic(section: &[u8], entries: u32, marks: &mut [u32]) -> Found
 }
 
 // The same, whatever the buffer held.
-fn find_cycle(section: &[u8], entries: u32, buffer: &mut [u32]) -> Found
-    requires { ⌜ Ready (nexts (now section) entries) (now buffer) × Distinct (nexts (now section) entries) ⌝ }
-    ensures { λ r. ⌜ r ≡ firstCyclic (nexts (now (section .entry)) entries) ⌝ }
+fn find_cycle(section: &[u8], size: u16, entries: u32, buffer: &mut [u32]) -> Found
+    requires { ⌜ LinkedBuffer (nexts (now section) size entries) (now buffer) × Distinct (nexts (now section) size entries) ⌝ }
+    ensures { λ r. ⌜ r ≡ firstCyclic (nexts (now (section .entry)) size entries) ⌝ }
 {
     fill(buffer);
-    first_cyclic(section, entries, buffer)
+    first_cyclic(section, size, entries, buffer)
 }
 
 // Check 13, and the table of predecessors built again where it passes. `ends` is the number of entries that end a chain.
-fn check_cycles(section: &[u8], entries: u32, ends: usize, buffer: &mut [u32]) -> Links
-    requires { ⌜ Clean (nexts (now section) entries) ends (now buffer) ⌝ }
-    ensures { λ r. ⌜ Answered (cycleChecks (nexts (now (section .entry)) entries)) (nexts (now (section .entry)) entries) (length (now (buffer .entry))) r (now (buffer .exit)) ⌝ }
+fn check_cycles(section: &[u8], size: u16, entries: u32, ends: usize, buffer: &mut [u32]) -> Links
+    requires { ⌜ TableBuilt (nexts (now section) size entries) ends (now buffer) ⌝ }
+    ensures { λ r. ⌜ CyclesAnswered (nexts (now (section .entry)) size entries) (length (now (buffer .entry))) r (now (buffer .exit)) ⌝ }
 {
-    let found = find_cycle(section, entries, buffer);
+    let found = find_cycle(section, size, entries, buffer);
     if let Found::At(i) = found {
         fill(buffer);
         return Links::Refused(Refusal {
@@ -156,17 +158,17 @@ fn check_cycles(section: &[u8], entries: u32, ends: usize, buffer: &mut [u32]) -
             index: i,
         });
     }
-    build_table(section, entries, buffer);
+    build_table(section, size, entries, buffer);
     Links::Chains(ends)
 }
 
 // Whether every next index is above its own. Where it is, as in the files that Windows writes, no entry is on a cycle.
-fn leads_on(section: &[u8], entries: u32) -> bool
-    ensures { λ r. ⌜ (r ≡ true → Forward (nexts (now (section .entry)) entries)) ⌝ }
+fn leads_on(section: &[u8], size: u16, entries: u32) -> bool
+    ensures { λ r. ⌜ (r ≡ true → Forward (nexts (now (section .entry)) size entries)) ⌝ }
 {
     let mut i = 0;
     while i < entries {
-        if next_at(section, i) <= i {
+        if next_at(section, size, i) <= i {
             return false;
         }
         i += 1;
@@ -175,22 +177,22 @@ fn leads_on(section: &[u8], entries: u32) -> bool
 }
 
 // Check 13. Links that only lead on need no walk, and the table stands as it is.
-fn check_order(section: &[u8], entries: u32, ends: usize, buffer: &mut [u32]) -> Links
-    requires { ⌜ Clean (nexts (now section) entries) ends (now buffer) ⌝ }
-    ensures { λ r. ⌜ Answered (cycleChecks (nexts (now (section .entry)) entries)) (nexts (now (section .entry)) entries) (length (now (buffer .entry))) r (now (buffer .exit)) ⌝ }
+fn check_order(section: &[u8], size: u16, entries: u32, ends: usize, buffer: &mut [u32]) -> Links
+    requires { ⌜ TableBuilt (nexts (now section) size entries) ends (now buffer) ⌝ }
+    ensures { λ r. ⌜ CyclesAnswered (nexts (now (section .entry)) size entries) (length (now (buffer .entry))) r (now (buffer .exit)) ⌝ }
 {
-    if leads_on(section, entries) {
+    if leads_on(section, size, entries) {
         return Links::Chains(ends);
     }
-    check_cycles(section, entries, ends, buffer)
+    check_cycles(section, size, entries, ends, buffer)
 }
 
 // Checks 11 to 13 with a filled buffer.
-fn check_entries(section: &[u8], entries: u32, buffer: &mut [u32]) -> Links
-    requires { ⌜ Blank (nexts (now section) entries) (now buffer) ⌝ }
-    ensures { λ r. ⌜ Answered (entryChecks (nexts (now (section .entry)) entries)) (nexts (now (section .entry)) entries) (length (now (buffer .entry))) r (now (buffer .exit)) ⌝ }
+fn check_entries(section: &[u8], size: u16, entries: u32, buffer: &mut [u32]) -> Links
+    requires { ⌜ FilledBuffer (nexts (now section) size entries) (now buffer) ⌝ }
+    ensures { λ r. ⌜ LinksAnswered (nexts (now (section .entry)) size entries) (length (now (buffer .entry))) r (now (buffer .exit)) ⌝ }
 {
-    let pass = store_predecessors(section, entries, buffer);
+    let pass = store_predecessors(section, size, entries, buffer);
     match pass {
         Pass::Astray(i) => {
             fill(buffer);
@@ -206,22 +208,22 @@ fn check_entries(section: &[u8], entries: u32, buffer: &mut [u32]) -> Links
                 index: i,
             })
         }
-        Pass::Clear(ends) => check_order(section, entries, ends, buffer),
+        Pass::Clear(ends) => check_order(section, size, entries, ends, buffer),
     }
 }
 
 // Check 7, then checks 11 to 13 on the section's first `entries` entries. Where all pass, the buffer becomes the table of
 // predecessors, and else every place of it holds END.
-pub fn check_links(section: &[u8], entries: u32, predecessors: &mut [u32]) -> Links
-    ensures { λ r. ⌜ LinkAnswer (now (section .entry)) entries (length (now (predecessors .entry))) r (now (predecessors .exit)) ⌝ }
+pub fn check_links(section: &[u8], size: u16, entries: u32, predecessors: &mut [u32]) -> Links
+    ensures { λ r. ⌜ LinkAnswer (now (section .entry)) size entries (length (now (predecessors .entry))) r (now (predecessors .exit)) ⌝ }
 {
-    if predecessors.len() < entries as usize {
-        fill(predecessors);
+    let places = predecessors.len();
+    fill(predecessors);
+    if let Fault::At(i) = sections::places_fault(places, entries) {
         return Links::Refused(Refusal {
             number: 7,
-            index: 0,
+            index: i,
         });
     }
-    fill(predecessors);
-    check_entries(section, entries, predecessors)
+    check_entries(section, size, entries, predecessors)
 }

@@ -9,29 +9,23 @@ use native.Mathlib.Numerals.{add-one}
 use native.Mathlib.Omega.{arith}
 use lib.Dec.{leb}
 use lib.ListN.{length}
-use borrow.Author.Tests.{le-leb, lt-leb, eq-eqb, ne-eqb}
+use borrow.Author.Tests.{le-leb, lt-leb, le-ltb, lt-ltb, eq-eqb, ne-eqb}
 use Rattle.lists.specs.First.{first}
 use Rattle.lists.specs.declared.Found.the-variants.{At, Nothing}
 use Rattle.little_endian.specs.Number.{le, zeroUnit}
-use Rattle.layout.specs.Versions.{layoutOf}
-use Rattle.layout.specs.declared.Version.{Version}
-use Rattle.layout.specs.declared.Version.the-variants.{V17, V23, V26}
-use Rattle.incremental.specs.Decision.{Decision, accept, refuse, refusal, checkedOf}
-use Rattle.incremental.specs.declared.Checked.{Checked}
+use Rattle.layout.specs.Versions.{volumeEntry}
+use Rattle.layout.specs.declared.Layout.{Layout}
+use Rattle.incremental.specs.Decision.{Decision, accept, refuse, refusal, checkedOf, _>>_}
+use Rattle.incremental.proofs.Decision.{check-at, check-nowhere}
+use Rattle.incremental.specs.declared.Fault.{Fault}
+use Rattle.incremental.specs.declared.Fault.the-variants as fault
+use Rattle.sections.specs.Fields.{entriesFault}
 use Rattle.incremental.specs.declared.Refusal.{Refusal}
+use Rattle.incremental.specs.declared.Checked.{Checked}
 use Rattle.volumes.specs.declared.Step.{Step}
 use Rattle.volumes.specs.declared.Step.the-variants.{Next, Past, Unended}
-use Rattle.volumes.specs.Volumes.{entryAt, pathAt, pathCount, pathFits, pathUnits, referencesAt, referencesSize, referenceCount, referencesFit, stepAt, onStep, directoryCount, directoriesAt, directoryChecks, entryChecks, volumeChecks, volumesFrom, volumesChecks, also}
-
--- An entry starts where no sum with it wraps
-pub entry-low : (v : Version) (i : ℕ) → i < 2 ^ 32 → entryAt v i < 2 ^ 40
-entry-low V17 i h = omega arith
-entry-low V23 i h = omega arith
-entry-low V26 i h = omega arith
-
--- the same for code that has an entry's size at hand
-pub size-low : (v : Version) (i : ℕ) {size : ℕ} → size ≡ layoutOf v .volume → i < 2 ^ 32 → i * size < 2 ^ 40
-size-low v i e h = rw e (entry-low v i h)
+use Rattle.volumes.specs.Volumes.{pathAt, pathCount, pathFits, pathUnits, referencesAt, referencesSize, referenceCount, referencesFit, stepAt}
+use Rattle.volumes.specs.Volumes.{onStep, directoryCount, directoriesAt, directoryChecks, entryChecks, volumeChecks, volumesFrom, volumesChecks}
 
 -- The path
 pub path-none : (s : List ℕ) (e : ℕ) → pathCount s e ≡ 0 → true ≡ pathFits s e
@@ -64,7 +58,8 @@ unfolding referencesFit
 references-past s e h l =
     rw (ne-eqb (referencesSize s e) 0 (λ z. omega arith), le-leb 8 (referencesSize s e) h, lt-leb (referencesAt s e + referencesSize s e) (length s) l)
 
-pub references-inside : (s : List ℕ) (e : ℕ) {size n : ℕ} → size ≡ referencesSize s e → n ≡ referenceCount s e → 8 ≤ size → referencesAt s e + size ≤ length s → leb (8 + 8 * n) size ≡ referencesFit s e
+pub references-inside : (s : List ℕ) (e : ℕ) {size n : ℕ} → size ≡ referencesSize s e → n ≡ referenceCount s e → 8 ≤ size
+    → referencesAt s e + size ≤ length s → leb (8 + 8 * n) size ≡ referencesFit s e
 unfolding referencesFit
 references-inside s e {size} {n} z q h l =
     rw (← z, ← q, ne-eqb size 0 (λ w. omega arith), le-leb 8 size h, le-leb (referencesAt s e + size) (length s) l)
@@ -72,30 +67,32 @@ references-inside s e {size} {n} z q h l =
 -- One directory string
 pub step-short : (s : List ℕ) (at : ℕ) → length s < at + 2 → Past ≡ stepAt s at
 unfolding stepAt
-step-short s at h = rw (lt-leb (at + 2) (length s) h)
+step-short s at h = rw (lt-ltb (length s) (at + 2) h)
 
 pub step-past : (s : List ℕ) (at : ℕ) → at + 2 ≤ length s → length s < at + 4 + 2 * le 2 s at → Past ≡ stepAt s at
 unfolding stepAt
-step-past s at h l = rw (le-leb (at + 2) (length s) h, lt-leb (at + 4 + 2 * le 2 s at) (length s) l)
+step-past s at h l = rw (le-ltb (length s) (at + 2) h, lt-ltb (length s) (at + 4 + 2 * le 2 s at) l)
 
 pub step-unended : (s : List ℕ) (at last : ℕ) → last ≡ at + 2 + 2 * le 2 s at → last + 2 ≤ length s → (le 2 s last ≡ 0 → ⊥) → Unended ≡ stepAt s at
 unfolding stepAt
 step-unended s at last d h z =
     let z₁ : le 2 s (at + 2 + 2 * le 2 s at) ≡ 0 → ⊥ = rw (← d) z in
-    rw (le-leb (at + 2) (length s) (omega arith), le-leb (at + 4 + 2 * le 2 s at) (length s) (omega arith), ne-eqb (le 2 s (at + 2 + 2 * le 2 s at)) 0 z₁)
+    rw (le-ltb (length s) (at + 2) (omega arith), le-ltb (length s) (at + 4 + 2 * le 2 s at) (omega arith), ne-eqb (le 2 s (at + 2 + 2 * le 2 s at)) 0 z₁)
 
-pub step-next : (s : List ℕ) (at last : ℕ) → last ≡ at + 2 + 2 * le 2 s at → last + 2 ≤ length s → le 2 s last ≡ 0 → Next (record { at = last + 2 }) ≡ stepAt s at
+pub step-next : (s : List ℕ) (at last : ℕ) → last ≡ at + 2 + 2 * le 2 s at → last + 2 ≤ length s → le 2 s last ≡ 0
+    → Next (record { at = last + 2 }) ≡ stepAt s at
 unfolding stepAt
 step-next s at last d h z =
     let z₁ : le 2 s (at + 2 + 2 * le 2 s at) ≡ 0 = rw (← d) z in
     let n : last + 2 ≡ at + 4 + 2 * le 2 s at = omega arith in
-    rw (n, le-leb (at + 2) (length s) (omega arith), le-leb (at + 4 + 2 * le 2 s at) (length s) (omega arith), eq-eqb (le 2 s (at + 2 + 2 * le 2 s at)) 0 z₁)
+    rw (n, le-ltb (length s) (at + 2) (omega arith), le-ltb (length s) (at + 4 + 2 * le 2 s at) (omega arith), eq-eqb (le 2 s (at + 2 + 2 * le 2 s at)) 0 z₁)
 
 -- The directories, by a loop whose invariant is `directoryChecks s i n start ≡ directoryChecks s i (n - done) at`
 pub directories-start : (s : List ℕ) (i n at : ℕ) → directoryChecks s i n at ≡ directoryChecks s i (n - 0) at
 directories-start s i n at = rw (sub-zero n)
 
-pub directories-step : (s : List ℕ) (i n done at : ℕ) (x : Step) → done < n → stepAt s at ≡ x → directoryChecks s i (n - done) at ≡ onStep i x (λ next. directoryChecks s i (n - (done + 1)) next)
+pub directories-step : (s : List ℕ) (i n done at : ℕ) (x : Step) → done < n → stepAt s at ≡ x
+    → directoryChecks s i (n - done) at ≡ onStep i x (λ next. directoryChecks s i (n - (done + 1)) next)
 unfolding directoryChecks
 directories-step s i n done at x l e =
     let d : n - done ≡ suc (n - (done + 1)) = omega arith in
@@ -108,57 +105,61 @@ directories-end s i n done at l =
     rw d
 
 -- The volumes, by a loop whose invariant is `volumesFrom s v n 0 ≡ volumesFrom s v (n - i) i`
-pub volumes-start : (s : List ℕ) (v : Version) (n : ℕ) → volumesFrom s v n 0 ≡ volumesFrom s v (n - 0) 0
+pub volumes-start : (s : List ℕ) (v : Layout) (n : ℕ) → volumesFrom s v n 0 ≡ volumesFrom s v (n - 0) 0
 volumes-start s v n = rw (sub-zero n)
 
-pub volumes-next : (s : List ℕ) (v : Version) (n i : ℕ) → i < n → volumeChecks s v i ≡ accept tt → volumesFrom s v (n - i) i ≡ volumesFrom s v (n - (i + 1)) (i + 1)
+pub volumes-next : (s : List ℕ) (v : Layout) (n i : ℕ) → i < n → volumeChecks s v i ≡ accept tt
+    → volumesFrom s v (n - i) i ≡ volumesFrom s v (n - (i + 1)) (i + 1)
 unfolding volumesFrom
 volumes-next s v n i l e =
     let d : n - i ≡ suc (n - (i + 1)) = omega arith in
     rw (d, volumesFrom, e, add-one i)
 
-pub volumes-refused : (s : List ℕ) (v : Version) (n i : ℕ) (r : Refusal) → i < n → volumeChecks s v i ≡ refuse r → volumesFrom s v (n - i) i ≡ refuse r
+pub volumes-refused : (s : List ℕ) (v : Layout) (n i : ℕ) (r : Refusal) → i < n → volumeChecks s v i ≡ refuse r → volumesFrom s v (n - i) i ≡ refuse r
 unfolding volumesFrom
 volumes-refused s v n i r l e =
     let d : n - i ≡ suc (n - (i + 1)) = omega arith in
     rw (d, volumesFrom, e)
 
-pub volumes-end : (s : List ℕ) (v : Version) (n i : ℕ) → n ≤ i → volumesFrom s v (n - i) i ≡ accept tt
+pub volumes-end : (s : List ℕ) (v : Layout) (n i : ℕ) → n ≤ i → volumesFrom s v (n - i) i ≡ accept tt
 unfolding volumesFrom
 volumes-end s v n i l =
     let d : n - i ≡ 0 = omega arith in
     rw d
 
--- Check 8
-pub volumes-crowded : (s : List ℕ) (v : Version) (n : ℕ) → length s < n * layoutOf v .volume → volumesChecks s v n ≡ refuse (refusal 8 0)
+-- Check 8: where it passes, checks 14 and 15 decide
+pub volumes-crowded : (s : List ℕ) (v : Layout) (n k : ℕ) (r : Fault) → r ≡ entriesFault n (volumeEntry v) (length s) → r ≡ fault.At k
+    → refuse (refusal 8 k) ≡ volumesChecks s v n
 unfolding volumesChecks
-volumes-crowded s v n h = rw (lt-leb (n * layoutOf v .volume) (length s) h)
+volumes-crowded s v n k r e q = check-at 8 k _ r _ e q
 
--- where the entries fit the section, checks 14 and 15 decide
-pub volumes-room : (s : List ℕ) (v : Version) (n : ℕ) → n * layoutOf v .volume ≤ length s → volumesChecks s v n ≡ volumesFrom s v n 0
+pub volumes-room : (s : List ℕ) (v : Layout) (n : ℕ) (r : Fault) → r ≡ entriesFault n (volumeEntry v) (length s) → r ≡ fault.Nowhere
+    → volumesChecks s v n ≡ volumesFrom s v n 0
 unfolding volumesChecks
-volumes-room s v n h = rw (le-leb (n * layoutOf v .volume) (length s) h)
+volumes-room s v n r e q = sym (check-nowhere 8 _ r _ _ e q refl)
 
 -- the volumes from i pass exactly when each of them does
-each-passes : (s : List ℕ) (v : Version) (n i : ℕ) → volumesFrom s v n i ≡ accept tt → (k : ℕ) → k < n → volumeChecks s v (i + k) ≡ accept tt
+each-passes : (s : List ℕ) (v : Layout) (n i : ℕ) → volumesFrom s v n i ≡ accept tt → (k : ℕ) → k < n → volumeChecks s v (i + k) ≡ accept tt
 unfolding volumesFrom
 each-passes s v zero i e k l = absurd (omega arith)
 each-passes s v (suc n) i e k l = go (volumeChecks s v i) refl k l (each-passes s v n (suc i))
   where
-    go : (d : Decision Unit) → volumeChecks s v i ≡ d → (k : ℕ) → k < suc n → (volumesFrom s v n (suc i) ≡ accept tt → (k : ℕ) → k < n → volumeChecks s v (suc i + k) ≡ accept tt) → volumeChecks s v (i + k) ≡ accept tt
+    go : (d : Decision Unit) → volumeChecks s v i ≡ d → (k : ℕ) → k < suc n
+        → (volumesFrom s v n (suc i) ≡ accept tt → (k : ℕ) → k < n → volumeChecks s v (suc i + k) ≡ accept tt)
+        → volumeChecks s v (i + k) ≡ accept tt
     go (accept t) q zero l ih = rw (add-zero i) q
     go (accept t) q (suc k) l ih =
-        let z : also (volumeChecks s v i) (volumesFrom s v n (suc i)) ≡ accept tt = e in
+        let z : (volumeChecks s v i >> volumesFrom s v n (suc i)) ≡ accept tt = e in
         let w : volumesFrom s v n (suc i) ≡ accept tt = rw q at z in
         let j : suc i + k ≡ i + suc k = omega arith in
         rw (← j) (ih w k (omega arith))
     go (refuse r) q k l ih =
-        let z : also (volumeChecks s v i) (volumesFrom s v n (suc i)) ≡ accept tt = e in
+        let z : (volumeChecks s v i >> volumesFrom s v n (suc i)) ≡ accept tt = e in
         let w : refuse r ≡ accept tt = rw q at z in
         let f : _≡_ {A = ℕ} 0 1 = cc in
         absurd (omega arith)
 
-all-pass : (s : List ℕ) (v : Version) (n i : ℕ) → ((k : ℕ) → k < n → volumeChecks s v (i + k) ≡ accept tt) → volumesFrom s v n i ≡ accept tt
+all-pass : (s : List ℕ) (v : Layout) (n i : ℕ) → ((k : ℕ) → k < n → volumeChecks s v (i + k) ≡ accept tt) → volumesFrom s v n i ≡ accept tt
 unfolding volumesFrom
 all-pass s v zero i f = refl
 all-pass s v (suc n) i f =
@@ -166,16 +167,18 @@ all-pass s v (suc n) i f =
     let b = all-pass s v n (suc i) (λ k l. let j : suc i + k ≡ i + suc k = omega arith in rw j (f (suc k) (omega arith))) in
     rw (volumesFrom, a) b
 
-pub volumes-each : (s : List ℕ) (v : Version) (n : ℕ) → (volumesFrom s v n 0 ≡ accept tt) ↔ ((i : ℕ) → i < n → volumeChecks s v i ≡ accept tt)
+pub volumes-each : (s : List ℕ) (v : Layout) (n : ℕ) → (volumesFrom s v n 0 ≡ accept tt) ↔ ((i : ℕ) → i < n → volumeChecks s v i ≡ accept tt)
 volumes-each s v n =
     ((λ e i l. rw zero-add at (each-passes s v n 0 e i l)), λ f. all-pass s v n 0 (λ k l. rw (zero-add k) (f k l)))
 
 -- The units of a path, by a loop that stops at the first zero unit
-pub units-hit : (s : List ℕ) (e k : ℕ) {start count : ℕ} → start ≡ pathAt s e → count ≡ pathCount s e → first (λ k. zeroUnit s (start + 2 * k)) count ≡ At k → k ≡ pathUnits s e
+pub units-hit : (s : List ℕ) (e k : ℕ) {start count : ℕ} → start ≡ pathAt s e → count ≡ pathCount s e
+    → first (λ k. zeroUnit s (start + 2 * k)) count ≡ At k → k ≡ pathUnits s e
 unfolding pathUnits
 units-hit s e k a n h = rw (← a, ← n, h)
 
-pub units-none : (s : List ℕ) (e : ℕ) {start count : ℕ} → start ≡ pathAt s e → count ≡ pathCount s e → first (λ k. zeroUnit s (start + 2 * k)) count ≡ Nothing → count ≡ pathUnits s e
+pub units-none : (s : List ℕ) (e : ℕ) {start count : ℕ} → start ≡ pathAt s e → count ≡ pathCount s e
+    → first (λ k. zeroUnit s (start + 2 * k)) count ≡ Nothing → count ≡ pathUnits s e
 unfolding pathUnits
 units-none s e a n h = rw (← a, ← n, h)
 
@@ -188,10 +191,12 @@ pub entry-references : (s : List ℕ) (i e : ℕ) → pathFits s e ≡ true → 
 unfolding entryChecks
 entry-references s i e p q = rw (p, q)
 
-pub entry-directories : (s : List ℕ) (i e : ℕ) → pathFits s e ≡ true → referencesFit s e ≡ true → directoryChecks s i (directoryCount s e) (directoriesAt s e) ≡ entryChecks s i e
+pub entry-directories : (s : List ℕ) (i e : ℕ) → pathFits s e ≡ true → referencesFit s e ≡ true
+    → directoryChecks s i (directoryCount s e) (directoriesAt s e) ≡ entryChecks s i e
 unfolding entryChecks
 entry-directories s i e p q = rw (p, q)
 
 -- one volume, for code that has an entry's size at hand
-pub volume-checked : (s : List ℕ) (v : Version) (i : ℕ) {size : ℕ} (r : Checked) → size ≡ layoutOf v .volume → checkedOf r ≡ entryChecks s i (i * size) → volumeChecks s v i ≡ checkedOf r
-volume-checked s v i r e q = let z : checkedOf r ≡ entryChecks s i (i * layoutOf v .volume) = rw (← e) q in sym z
+pub volume-checked : (s : List ℕ) (v : Layout) (i : ℕ) {size : ℕ} (r : Checked) → size ≡ volumeEntry v → checkedOf r ≡ entryChecks s i (i * size)
+    → volumeChecks s v i ≡ checkedOf r
+volume-checked s v i r e q = let z : checkedOf r ≡ entryChecks s i (i * volumeEntry v) = rw (← e) q in sym z

@@ -1,22 +1,23 @@
 -- WHAT A SOUND VOLUME IS: document 01's rules on one volume, and that checks 14 and 15 pass exactly where they hold.
 use mathlib.Core.Path.{_≡_, refl, sym, _∙_, ap}
-use mathlib.Core.Bool.{Bool, true, false, _&&_, _||_}
+use mathlib.Core.Bool.{Bool, true, false, not, _&&_, _||_}
 use mathlib.Core.List.{List}
 use mathlib.Core.Logic.{_⊎_, inl, inr, _↔_}
 use Prim.Native.Nat.{ℕ, zero, suc, _+_, _*_, _≤_, _<_}
 use native.Mathlib.Omega.{arith}
-use lib.Dec.{leb, eqb}
+use lib.Dec.{leb, ltb, eqb}
 use lib.ListN.{length}
-use borrow.Author.Tests.{leb-true, le-leb, eqb-true, eq-eqb, ne-eqb}
+use borrow.Author.Tests.{leb-true, le-leb, le-ltb, ltb-false, eqb-true, eq-eqb, ne-eqb}
 use Rattle.lists.specs.Count.{pick}
 use Rattle.lists.proofs.Count.{true-false}
 use Rattle.little_endian.specs.Number.{le, zeroUnit}
-use Rattle.layout.specs.declared.Version.{Version}
-use Rattle.incremental.specs.Decision.{Decision, accept}
+use Rattle.layout.specs.declared.Layout.{Layout}
+use Rattle.incremental.specs.Decision.{Decision, accept, faultAt, check, _>>_}
 use Rattle.volumes.specs.declared.Cursor.{Cursor}
 use Rattle.volumes.specs.declared.Step.{Step}
 use Rattle.volumes.specs.declared.Step.the-variants.{Next, Past, Unended}
-use Rattle.volumes.specs.Volumes.{entryAt, pathAt, pathCount, pathFits, referencesAt, referencesSize, referenceCount, referencesFit, stepAt, onStep, directoryChecks, entryChecks, unless, volumesFrom}
+use Rattle.volumes.specs.Volumes.{entryAt, pathAt, pathCount, pathFits, referencesAt, referencesSize, referenceCount}
+use Rattle.volumes.specs.Volumes.{referencesFit, stepAt, onStep, directoryChecks, entryChecks, volumesFrom}
 use Rattle.volumes.proofs.Laws.{entry-directories, volumes-each}
 use Rattle.volumes.specs.SoundVolume.{SoundReferences, SoundDirectory, directoryAt, SoundVolume}
 
@@ -63,25 +64,25 @@ is-references s e (inr r) =
 -- a step that goes on has passed a directory string
 step-is : (s : List ℕ) (at : ℕ) (next : Cursor) → stepAt s at ≡ Next next → SoundDirectory s at × (next .at ≡ at + 2 + 2 * le 2 s at + 2)
 unfolding stepAt
-step-is s at next = go (leb (at + 2) (length s)) (leb (at + 4 + 2 * le 2 s at) (length s)) (zeroUnit s (at + 2 + 2 * le 2 s at)) refl refl
+step-is s at next = go (ltb (length s) (at + 2)) (ltb (length s) (at + 4 + 2 * le 2 s at)) (zeroUnit s (at + 2 + 2 * le 2 s at)) refl refl
   where
-    go : (a b c : Bool) → leb (at + 4 + 2 * le 2 s at) (length s) ≡ b → zeroUnit s (at + 2 + 2 * le 2 s at) ≡ c
-        → pick a (pick b (pick c (Next (record { at = at + 4 + 2 * le 2 s at })) Unended) Past) Past ≡ Next next
+    go : (a b c : Bool) → ltb (length s) (at + 4 + 2 * le 2 s at) ≡ b → zeroUnit s (at + 2 + 2 * le 2 s at) ≡ c
+        → pick a Past (pick b Past (pick c (Next (record { at = at + 4 + 2 * le 2 s at })) Unended)) ≡ Next next
         → SoundDirectory s at × (next .at ≡ at + 2 + 2 * le 2 s at + 2)
-    go true true true q x e =
+    go false false true q x e =
         let n : at + 4 + 2 * le 2 s at ≡ next .at = ap (λ (c : Cursor). c .at) (cc) in
-        let h : at + 4 + 2 * le 2 s at ≤ length s = leb-true _ _ q in
+        let h : at + 4 + 2 * le 2 s at ≤ length s = ltb-false _ _ q in
         (record { inside = omega arith; ended = eqb-true _ _ x }, omega arith)
-    go true true false q x e = let z : _≡_ {A = ℕ} 0 1 = cc in absurd (omega arith)
-    go true false c q x e = let z : _≡_ {A = ℕ} 0 1 = cc in absurd (omega arith)
-    go false b c q x e = let z : _≡_ {A = ℕ} 0 1 = cc in absurd (omega arith)
+    go false false false q x e = let z : _≡_ {A = ℕ} 0 1 = cc in absurd (omega arith)
+    go false true c q x e = let z : _≡_ {A = ℕ} 0 1 = cc in absurd (omega arith)
+    go true b c q x e = let z : _≡_ {A = ℕ} 0 1 = cc in absurd (omega arith)
 
 is-step : (s : List ℕ) (at : ℕ) → SoundDirectory s at → stepAt s at ≡ Next (record { at = at + 2 + 2 * le 2 s at + 2 })
 unfolding stepAt
 is-step s at d =
     let n : at + 2 + 2 * le 2 s at + 2 ≡ at + 4 + 2 * le 2 s at = omega arith in
     let h = d .inside in
-    rw (n, le-leb (at + 2) (length s) (omega arith), le-leb (at + 4 + 2 * le 2 s at) (length s) (omega arith), eq-eqb _ _ (d .ended))
+    rw (n, le-ltb (length s) (at + 2) (omega arith), le-ltb (length s) (at + 4 + 2 * le 2 s at) (omega arith), eq-eqb _ _ (d .ended))
 
 directories-are : (s : List ℕ) (i n at : ℕ) → directoryChecks s i n at ≡ accept tt → (k : ℕ) → k < n → SoundDirectory s (directoryAt s at k)
 unfolding directoryChecks
@@ -89,7 +90,8 @@ directories-are s i zero at e k l = absurd (omega arith)
 directories-are s i (suc n) at e k l = go (stepAt s at) refl e k l (directories-are s i n)
   where
     go : (x : Step) → stepAt s at ≡ x → onStep i x (λ next. directoryChecks s i n next) ≡ accept tt → (k : ℕ) → k < suc n
-        → ((next : ℕ) → directoryChecks s i n next ≡ accept tt → (k : ℕ) → k < n → SoundDirectory s (directoryAt s next k)) → SoundDirectory s (directoryAt s at k)
+        → ((next : ℕ) → directoryChecks s i n next ≡ accept tt → (k : ℕ) → k < n → SoundDirectory s (directoryAt s next k))
+        → SoundDirectory s (directoryAt s at k)
     go (Next c) q h zero l ih = step-is s at c q .0
     go (Next c) q h (suc k) l ih = rw (step-is s at c q .1) at (ih (c .at) h k (omega arith))
     go Past q h k l ih = let z : _≡_ {A = ℕ} 0 1 = cc in absurd (omega arith)
@@ -102,15 +104,15 @@ are-directories s i (suc n) at f =
     rw (directoryChecks, is-step s at (f 0 (omega arith))) (are-directories s i n (at + 2 + 2 * le 2 s at + 2) (λ k l. f (suc k) (omega arith)))
 
 -- ---- one volume
-unless-passes : (i : ℕ) (b : Bool) (later : Decision Unit) → unless 14 i b later ≡ accept tt → (b ≡ true) × (later ≡ accept tt)
-unless-passes i true later e = (refl, e)
-unless-passes i false later e = let z : _≡_ {A = ℕ} 0 1 = cc in absurd (omega arith)
+check-passes : (i : ℕ) (b : Bool) (later : Decision Unit) → (check 14 (faultAt i (not b)) >> later) ≡ accept tt → (b ≡ true) × (later ≡ accept tt)
+check-passes i true later e = (refl, e)
+check-passes i false later e = let z : _≡_ {A = ℕ} 0 1 = cc in absurd (omega arith)
 
 volume-is : (s : List ℕ) (i e : ℕ) → entryChecks s i e ≡ accept tt → SoundVolume s e
 unfolding entryChecks
 volume-is s i e h =
-    let a = unless-passes i (pathFits s e) _ h in
-    let b = unless-passes i (referencesFit s e) _ (a .1) in
+    let a = check-passes i (pathFits s e) _ h in
+    let b = check-passes i (referencesFit s e) _ (a .1) in
     record { path = path-is s e (a .0); references = references-is s e (b .0); directories = directories-are s i _ _ (b .1) }
 
 is-volume : (s : List ℕ) (i e : ℕ) → SoundVolume s e → entryChecks s i e ≡ accept tt
@@ -121,7 +123,7 @@ pub sound-volume : (s : List ℕ) (i e : ℕ) → (entryChecks s i e ≡ accept 
 sound-volume s i e = (volume-is s i e, is-volume s i e)
 
 -- the volumes pass checks 14 and 15 exactly when each of them is sound
-pub volumes-sound : (s : List ℕ) (v : Version) (n : ℕ) → (volumesFrom s v n 0 ≡ accept tt) ↔ ((i : ℕ) → i < n → SoundVolume s (entryAt v i))
+pub volumes-sound : (s : List ℕ) (v : Layout) (n : ℕ) → (volumesFrom s v n 0 ≡ accept tt) ↔ ((i : ℕ) → i < n → SoundVolume s (entryAt v i))
 volumes-sound s v n = (
   (λ e i l. volume-is s i (entryAt v i) (volumes-each s v n .0 e i l)),
   (λ f. volumes-each s v n .1 (λ i l. is-volume s i (entryAt v i) (f i l))),

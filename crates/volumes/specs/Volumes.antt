@@ -1,8 +1,8 @@
 -- Document 01's "Volumes" on a volumes section: checks 8, 14 and 15, and one volume's facts.
-use mathlib.Core.Bool.{Bool, true, false, _&&_, _||_}
+use mathlib.Core.Bool.{Bool, not, _&&_, _||_}
 use mathlib.Core.List.{List, [], _∷_}
 use Prim.Native.Nat.{ℕ, zero, suc, _+_, _*_}
-use lib.Dec.{leb, eqb}
+use lib.Dec.{leb, ltb, eqb}
 use lib.ListN.{length}
 use Rattle.lists.specs.First.{first}
 use Rattle.lists.specs.Answer.{Said}
@@ -10,17 +10,18 @@ use Rattle.lists.specs.Count.{pick}
 use Rattle.lists.specs.declared.Found.{Found}
 use Rattle.lists.specs.declared.Found.the-variants.{At, Nothing}
 use Rattle.little_endian.specs.Number.{le, zeroUnit}
-use Rattle.layout.specs.Versions.{layoutOf}
-use Rattle.layout.specs.declared.Version.{Version}
-use Rattle.incremental.specs.Decision.{Decision, accept, refuse, refusal}
+use Rattle.layout.specs.Versions.{volumeEntry}
+use Rattle.layout.specs.declared.Layout.{Layout}
+use Rattle.incremental.specs.Decision.{Decision, accept, refuse, refusal, faultAt, check, _>>=_, _>>_}
+use Rattle.sections.specs.Fields.{entriesFault}
 use Rattle.volumes.specs.declared.Step.{Step}
 use Rattle.volumes.specs.declared.Step.the-variants.{Next, Past, Unended}
 use Rattle.volumes.specs.declared.Volume.{Volume}
 use Rattle.volumes.specs.declared.Reference.{Reference}
 
 -- where volume entry i starts in the section
-abbrev pub entryAt : Version → ℕ → ℕ
-entryAt v i = i * layoutOf v .volume
+abbrev pub entryAt : Layout → ℕ → ℕ
+entryAt l i = i * volumeEntry l
 
 -- the fields of the volume entry at e
 abbrev pub pathAt : List ℕ → ℕ → ℕ
@@ -66,13 +67,10 @@ referencesFit s e =
 -- the directory string at a position: 2 bytes of length, that many units, a zero unit; then the position after it
 unfoldable pub stepAt : List ℕ → ℕ → Step
 stepAt s at =
-    pick (leb (at + 2) (length s))
-    (pick (leb (at + 4 + 2 * le 2 s at) (length s))
-    (pick (zeroUnit s (at + 2 + 2 * le 2 s at))
-    (Next (record { at = at + 4 + 2 * le 2 s at }))
-    Unended)
-    Past)
-    Past
+    pick (ltb (length s) (at + 2)) Past
+    (pick (ltb (length s) (at + 4 + 2 * le 2 s at)) Past
+    (pick (zeroUnit s (at + 2 + 2 * le 2 s at)) (Next (record { at = at + 4 + 2 * le 2 s at }))
+    Unended))
 
 -- what each case says: 0 and the position after the string, 14 or 15
 abbrev pub stepSaid : Step → Said
@@ -91,34 +89,28 @@ unfoldable pub directoryChecks : List ℕ → ℕ → ℕ → ℕ → Decision U
 directoryChecks s i zero at = accept tt
 directoryChecks s i (suc n) at = onStep i (stepAt s at) (λ next. directoryChecks s i n next)
 
--- refusal n with an index, unless the test holds
-abbrev pub unless : ℕ → ℕ → Bool → Decision Unit → Decision Unit
-unless n i true later = later
-unless n i false later = refuse (refusal n i)
+-- those of the volume entry at e
+abbrev pub directoriesOf : List ℕ → ℕ → ℕ → Decision Unit
+directoriesOf s i e = directoryChecks s i (directoryCount s e) (directoriesAt s e)
 
 -- 14 and 15 on volume i, whose entry is at e: path, references, directories
 unfoldable pub entryChecks : List ℕ → ℕ → ℕ → Decision Unit
-entryChecks s i e =
-    unless 14 i (pathFits s e)
-    (unless 14 i (referencesFit s e)
-    (directoryChecks s i (directoryCount s e) (directoriesAt s e)))
+entryChecks s i e = do
+  check 14 (faultAt i (not (pathFits s e)))
+  check 14 (faultAt i (not (referencesFit s e)))
+  directoriesOf s i e
 
-abbrev pub volumeChecks : List ℕ → Version → ℕ → Decision Unit
-volumeChecks s v i = entryChecks s i (entryAt v i)
-
--- one decision after another
-abbrev pub also : Decision Unit → Decision Unit → Decision Unit
-also (accept t) later = later
-also (refuse r) later = refuse r
+abbrev pub volumeChecks : List ℕ → Layout → ℕ → Decision Unit
+volumeChecks s l i = entryChecks s i (entryAt l i)
 
 -- the n volumes from volume i in turn
-unfoldable pub volumesFrom : List ℕ → Version → ℕ → ℕ → Decision Unit
-volumesFrom s v zero i = accept tt
-volumesFrom s v (suc n) i = also (volumeChecks s v i) (volumesFrom s v n (suc i))
+unfoldable pub volumesFrom : List ℕ → Layout → ℕ → ℕ → Decision Unit
+volumesFrom s l zero i = accept tt
+volumesFrom s l (suc n) i = volumeChecks s l i >> volumesFrom s l n (suc i)
 
--- 14 and 15 on n volumes, after check 8: count times entry size doesn't exceed the section size
-unfoldable pub volumesChecks : List ℕ → Version → ℕ → Decision Unit
-volumesChecks s v n = unless 8 0 (leb (n * layoutOf v .volume) (length s)) (volumesFrom s v n 0)
+-- 14 and 15 on n volumes, after check 8
+unfoldable pub volumesChecks : List ℕ → Layout → ℕ → Decision Unit
+volumesChecks s l n = check 8 (entriesFault n (volumeEntry l) (length s)) >> volumesFrom s l n 0
 
 -- the units of the path before its first zero unit, or all of them
 abbrev pub orAll : Found → ℕ → ℕ

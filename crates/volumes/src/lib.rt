@@ -5,11 +5,12 @@ ghost use lib.Dec.{eqb};
 ghost use Rattle.lists.specs.Answer.{Answers};
 ghost use Rattle.lists.specs.Count.{pick};
 ghost use Rattle.incremental.specs.Decision.{checkedOf, refusal};
-ghost use Rattle.volumes.specs.Volumes.{stepAt, stepSaid, entryAt, volumeChecks, volumesChecks, volumeOf, referenceOf, pathFits, pathAt, pathCount, pathUnits, referenceCount, referencesFit, directoryChecks, directoryCount, directoriesAt, entryChecks};
+ghost use Rattle.volumes.specs.Volumes.{stepAt, stepSaid, entryAt, volumeChecks, volumesChecks, volumeOf, referenceOf, pathFits};
+ghost use Rattle.volumes.specs.Volumes.{pathAt, pathCount, pathUnits, referenceCount, referencesFit, directoriesOf, entryChecks};
 use incremental::Checked;
+use incremental::Fault;
 use incremental::Refusal;
 use layout::Layout;
-use layout::Version;
 use lists::Found;
 
 // A position in a run of directory strings.
@@ -75,17 +76,16 @@ fn refused(number: u32, i: u32) -> Checked
     })
 }
 
-// Where volume entry i starts: below 2^40, so that no sum with it wraps.
-fn entry_at(version: Version, i: u32) -> usize
-    ensures { λ r. ⌜ (r ≡ entryAt version i) × (r < 2 ^ 40) ⌝ }
+// Where volume entry i starts: below 2^48, so that no sum with it wraps.
+fn entry_at(l: Layout, i: u32) -> usize
+    ensures { λ r. ⌜ (r ≡ entryAt l i) × (r < 2 ^ 48) ⌝ }
 {
-    let layout = Layout::of(version);
-    i as usize * layout.volume
+    i as usize * (l.volume_entry as usize)
 }
 
 // Whether the path is empty or ends within the section.
 fn path_fits(section: &[u8], entry: usize) -> bool
-    requires { ⌜ entry < 2 ^ 40 ⌝ }
+    requires { ⌜ entry < 2 ^ 48 ⌝ }
     ensures { λ r. ⌜ r ≡ pathFits (now (section .entry)) entry ⌝ }
 {
     let count = little_endian::u32_at(section, entry + 4) as usize;
@@ -98,7 +98,7 @@ fn path_fits(section: &[u8], entry: usize) -> bool
 
 // The number of file references: 0 where their data has no bytes.
 fn reference_count(section: &[u8], entry: usize) -> u32
-    requires { ⌜ entry < 2 ^ 40 ⌝ }
+    requires { ⌜ entry < 2 ^ 48 ⌝ }
     ensures { λ r. ⌜ r ≡ referenceCount (now (section .entry)) entry ⌝ }
 {
     if little_endian::u32_at(section, entry + 24) == 0 {
@@ -110,7 +110,7 @@ fn reference_count(section: &[u8], entry: usize) -> u32
 
 // Whether the data of the file references is empty, or lies within the section and holds as many as it says.
 fn references_fit(section: &[u8], entry: usize) -> bool
-    requires { ⌜ entry < 2 ^ 40 ⌝ }
+    requires { ⌜ entry < 2 ^ 48 ⌝ }
     ensures { λ r. ⌜ r ≡ referencesFit (now (section .entry)) entry ⌝ }
 {
     let size = little_endian::u32_at(section, entry + 24) as usize;
@@ -131,8 +131,8 @@ fn references_fit(section: &[u8], entry: usize) -> bool
 // A step over each directory string of volume i. Each step goes on by at least 4 bytes, so the section's end stops a count
 // that is too high.
 fn check_directories(section: &[u8], i: u32, entry: usize) -> Checked
-    requires { ⌜ entry < 2 ^ 40 ⌝ }
-    ensures { λ r. ⌜ checkedOf r ≡ directoryChecks (now (section .entry)) i (directoryCount (now (section .entry)) entry) (directoriesAt (now (section .entry)) entry) ⌝ }
+    requires { ⌜ entry < 2 ^ 48 ⌝ }
+    ensures { λ r. ⌜ checkedOf r ≡ directoriesOf (now (section .entry)) i entry ⌝ }
 {
     let count = little_endian::u32_at(section, entry + 32);
     let start = little_endian::u32_at(section, entry + 28) as usize;
@@ -153,7 +153,7 @@ fn check_directories(section: &[u8], i: u32, entry: usize) -> Checked
 
 // Path, references, directories of volume i, in this order.
 fn check_entry(section: &[u8], i: u32, entry: usize) -> Checked
-    requires { ⌜ entry < 2 ^ 40 ⌝ }
+    requires { ⌜ entry < 2 ^ 48 ⌝ }
     ensures { λ r. ⌜ checkedOf r ≡ entryChecks (now (section .entry)) i entry ⌝ }
 {
     if !path_fits(section, entry) {
@@ -166,24 +166,26 @@ fn check_entry(section: &[u8], i: u32, entry: usize) -> Checked
 }
 
 // Checks 14 and 15 on volume i.
-pub fn check_volume(section: &[u8], version: Version, i: u32) -> Checked
-    ensures { λ r. ⌜ checkedOf r ≡ volumeChecks (now (section .entry)) version i ⌝ }
+pub fn check_volume(section: &[u8], l: Layout, i: u32) -> Checked
+    ensures { λ r. ⌜ checkedOf r ≡ volumeChecks (now (section .entry)) l i ⌝ }
 {
-    check_entry(section, i, entry_at(version, i))
+    check_entry(section, i, entry_at(l, i))
 }
 
 // Check 8, then checks 14 and 15 on each of `count` volumes.
-pub fn check_volumes(section: &[u8], version: Version, count: u32) -> Checked
-    ensures { λ r. ⌜ checkedOf r ≡ volumesChecks (now (section .entry)) version count ⌝ }
+pub fn check_volumes(section: &[u8], l: Layout, count: u32) -> Checked
+    ensures { λ r. ⌜ checkedOf r ≡ volumesChecks (now (section .entry)) l count ⌝ }
 {
-    let layout = Layout::of(version);
-    let size = layout.volume;
-    if section.len() < count as usize * size {
-        return refused(8, 0);
+    let size = l.volume_entry;
+    if let Fault::At(k) = sections::entries_fault(count, size, section.len()) {
+        return Checked::Refused(Refusal {
+            number: 8,
+            index: k,
+        });
     }
     let mut i = 0;
     while i < count {
-        let checked = check_entry(section, i, i as usize * size);
+        let checked = check_entry(section, i, i as usize * (size as usize));
         if let Checked::Refused(refusal) = checked {
             return Checked::Refused(refusal);
         }
@@ -194,7 +196,7 @@ pub fn check_volumes(section: &[u8], version: Version, count: u32) -> Checked
 
 // Where the path starts: 0 where it is empty.
 fn path_start(section: &[u8], entry: usize) -> usize
-    requires { ⌜ entry < 2 ^ 40 ⌝ }
+    requires { ⌜ entry < 2 ^ 48 ⌝ }
     ensures { λ r. ⌜ r ≡ pick (eqb (pathCount (now (section .entry)) entry) 0) 0 (pathAt (now (section .entry)) entry) ⌝ }
 {
     if little_endian::u32_at(section, entry + 4) == 0 {
@@ -205,7 +207,7 @@ fn path_start(section: &[u8], entry: usize) -> usize
 
 // The path's units before its first zero unit, or all of them.
 fn path_units(section: &[u8], entry: usize) -> usize
-    requires { ⌜ entry < 2 ^ 40 ⌝ }
+    requires { ⌜ entry < 2 ^ 48 ⌝ }
     ensures { λ r. ⌜ r ≡ pathUnits (now (section .entry)) entry ⌝ }
 {
     let start = little_endian::u32_at(section, entry);
@@ -217,10 +219,10 @@ fn path_units(section: &[u8], entry: usize) -> usize
 }
 
 // The facts of volume i, and of reference k of volume i.
-pub fn volume_at(section: &[u8], version: Version, i: u32) -> Volume
-    ensures { λ r. ⌜ r ≡ volumeOf (now (section .entry)) (entryAt version i) ⌝ }
+pub fn volume_at(section: &[u8], l: Layout, i: u32) -> Volume
+    ensures { λ r. ⌜ r ≡ volumeOf (now (section .entry)) (entryAt l i) ⌝ }
 {
-    let entry = entry_at(version, i);
+    let entry = entry_at(l, i);
     Volume {
         created: little_endian::u64_at(section, entry + 8),
         serial: little_endian::u32_at(section, entry + 16),
@@ -231,10 +233,10 @@ pub fn volume_at(section: &[u8], version: Version, i: u32) -> Volume
     }
 }
 
-pub fn reference_at(section: &[u8], version: Version, i: u32, k: u32) -> Reference
-    ensures { λ r. ⌜ r ≡ referenceOf (now (section .entry)) (entryAt version i) k ⌝ }
+pub fn reference_at(section: &[u8], l: Layout, i: u32, k: u32) -> Reference
+    ensures { λ r. ⌜ r ≡ referenceOf (now (section .entry)) (entryAt l i) k ⌝ }
 {
-    let entry = entry_at(version, i);
+    let entry = entry_at(l, i);
     let start = little_endian::u32_at(section, entry + 20) as usize;
     let at = start + 8 + 8 * (k as usize);
     Reference {

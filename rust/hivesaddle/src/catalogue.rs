@@ -3,7 +3,7 @@
 use crate::{raw, Refusal};
 
 /// Bytes of a catalogue line, its line feed included.
-pub const CATALOGUE_LINE_LENGTH: usize = 25;
+pub const CATALOGUE_LINE_LENGTH: usize = raw::HS_CATALOGUE_LINE_LENGTH;
 
 /// What a catalogue line says of one file.
 #[derive(Clone, Copy, Debug, PartialEq, Eq)]
@@ -40,26 +40,26 @@ pub fn catalogue_read(line: &[u8]) -> Result<CatalogueFields, Refusal> {
     })
 }
 
-/// Writes the line into the first 25 bytes of the place. Fields that can't
-/// form a line and a shorter place give refusal 19, and nothing is written.
+/// Writes the line into the first 25 bytes of the output. Fields that can't
+/// form a line and a shorter output give refusal 19, and nothing is written.
 ///
 /// ```
 /// use hivesaddle::{catalogue_write, CatalogueFields};
 /// let fields = CatalogueFields { size: 148, stored_hash: 65, run_count: 1, version: 17 };
-/// let mut place = [b'.'; 26];
-/// catalogue_write(fields, &mut place).unwrap();
-/// assert_eq!(&place, b"000094000000410000000111\n.");
-/// assert_eq!(catalogue_write(fields, &mut place[..24]).unwrap_err().number, 19);
+/// let mut output = [b'.'; 26];
+/// catalogue_write(fields, &mut output).unwrap();
+/// assert_eq!(&output, b"000094000000410000000111\n.");
+/// assert_eq!(catalogue_write(fields, &mut output[..24]).unwrap_err().number, 19);
 /// ```
-pub fn catalogue_write(fields: CatalogueFields, place: &mut [u8]) -> Result<(), Refusal> {
+pub fn catalogue_write(fields: CatalogueFields, output: &mut [u8]) -> Result<(), Refusal> {
     let number = unsafe {
         raw::hs_catalogue_write(
             fields.size,
             fields.stored_hash,
             fields.run_count,
             fields.version,
-            place.as_mut_ptr(),
-            place.len(),
+            output.as_mut_ptr(),
+            output.len(),
         )
     };
     match number {

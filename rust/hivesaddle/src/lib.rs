@@ -7,6 +7,7 @@
 //! stand, and is handed over as bytes, low byte first.
 
 mod catalogue;
+mod constants;
 mod hashes;
 mod queries;
 pub mod raw;
@@ -22,11 +23,12 @@ pub use queries::{
 };
 pub use readers::{read_file, read_file_alloc, read_prefix, FileContents, Record, Verdict};
 
-/// What a working place holds where no entry is named, and everywhere after
-/// an answer that is no acceptance.
-pub const NONE: u32 = u32::MAX;
+/// What a slot of `predecessors` holds where it has no entry, and every slot
+/// after an answer that is no acceptance.
+pub const NONE: u32 = raw::HS_NONE;
 
-/// A numbered refusal and the place it speaks of.
+/// A numbered refusal and what it is about. The README says what to do about
+/// each number.
 #[derive(Clone, Copy, Debug, PartialEq, Eq)]
 pub struct Refusal {
     /// The number of the check that was not passed.

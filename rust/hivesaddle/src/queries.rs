@@ -1,6 +1,6 @@
-//! Questions about one entry, the path search, and the number of working
-//! places. All of them work on a prefix of a file too, and hand back parts of
-//! the bytes they were lent.
+//! Queries about one entry, the path search, and the number of slots that
+//! `predecessors` needs. All of them work on a prefix of a file too, and hand
+//! back parts of the borrowed bytes.
 
 use crate::raw;
 
@@ -41,9 +41,9 @@ pub struct FoundPath {
     pub report: Report,
 }
 
-/// How many places [`crate::read_prefix`] and [`crate::read_file`] need for
-/// this file: its trace count. None where checks 1 to 6 do not pass on these
-/// bytes; both then answer the same with any number of places.
+/// How many slots of `predecessors` [`crate::read_prefix`] and
+/// [`crate::read_file`] need for this file: its trace count. None where checks 1 to 6 do not pass on these
+/// bytes; both then answer the same with any number of slots.
 ///
 /// Only the head is looked at, so a prefix that has all of it is enough. The
 /// number is at most 1,398,088: check 5 keeps the trace entries, 12 bytes each,
@@ -199,10 +199,10 @@ fn yes(answer: u32) -> bool {
 
 fn report(number: u64) -> Report {
     match number {
-        0 => Report::NoneToMake,
-        1 => Report::VistaOnly,
-        2 => Report::Only2008,
-        3 => Report::Both,
+        raw::HS_REPORT_NONE => Report::NoneToMake,
+        raw::HS_REPORT_VISTA => Report::VistaOnly,
+        raw::HS_REPORT_2008 => Report::Only2008,
+        raw::HS_REPORT_BOTH => Report::Both,
         other => unreachable!("no such report: {other}"),
     }
 }

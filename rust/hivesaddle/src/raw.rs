@@ -1,7 +1,9 @@
-//! The C functions as they stand. A list is a pointer and then a count; a
-//! null pointer is allowed with a count of 0.
+//! The C functions and constants as they stand. A list is a pointer and then a
+//! count; a null pointer is allowed with a count of 0.
 //!
 //! `out` takes as many values as fit; the rest of it stays as it was.
+
+pub use crate::constants::*;
 
 extern "C" {
     pub fn hs_hash_xp(numbers: *const u32, count: usize) -> u32;
@@ -30,10 +32,8 @@ extern "C" {
 }
 
 extern "C" {
-    /// 0 accepted, 1 refused, 2 more bytes wanted. `out`: refusal number,
-    /// refusal index, bytes wanted, version, declared size, name units, stored
-    /// hash, run time, run count, metrics count, trace count, volume count,
-    /// chain count.
+    /// [`HS_ACCEPTED`], [`HS_REFUSED`] or [`HS_WANTED`]. `out`: the numbers
+    /// from [`HS_NUMBER`] to [`HS_CHAIN_COUNT`], [`HS_READER_OUT`] in all.
     pub fn hs_read_prefix(
         file: *const u8,
         length: usize,
@@ -42,7 +42,7 @@ extern "C" {
         out: *mut u64,
         out_length: usize,
     ) -> u32;
-    /// As `hs_read_prefix`, but never 2.
+    /// As `hs_read_prefix`, but never [`HS_WANTED`].
     pub fn hs_read_file(
         file: *const u8,
         length: usize,
@@ -51,7 +51,8 @@ extern "C" {
         out: *mut u64,
         out_length: usize,
     ) -> u32;
-    /// 1 for a yes and 0 for a no. `out`: the places that both need.
+    /// 1 for a yes and 0 for a no. `out`: the slots of
+    /// `predecessors` that both need.
     pub fn hs_places(file: *const u8, length: usize, out: *mut u64, out_length: usize) -> u32;
 }
 
@@ -86,7 +87,7 @@ extern "C" {
         out: *mut u64,
         out_length: usize,
     ) -> u32;
-    /// `out`: entry index, report (0 none to make, 1 Vista only, 2 2008 only,
-    /// 3 both).
+    /// `out`: entry index, report (from [`HS_REPORT_NONE`] to
+    /// [`HS_REPORT_BOTH`]).
     pub fn hs_find_path(file: *const u8, length: usize, out: *mut u64, out_length: usize) -> u32;
 }

@@ -1,6 +1,7 @@
-//! The part reader, which looks at a prefix, and the whole reader.
+//! The prefix reader and the whole-file reader.
 
-use crate::{places, raw, Refusal};
+use crate::raw::*;
+use crate::{places, Refusal};
 
 /// What an accepted file says of itself.
 #[derive(Clone, Copy, Debug, PartialEq, Eq)]
@@ -20,7 +21,7 @@ pub struct Record {
     pub chain_count: u32,
 }
 
-/// The part reader's answer on a prefix.
+/// What [`read_prefix`] says of a prefix.
 #[derive(Clone, Copy, Debug, PartialEq, Eq)]
 pub enum Verdict {
     Accepted(Record),
@@ -33,36 +34,34 @@ pub enum Verdict {
 #[derive(Clone, Debug, PartialEq, Eq)]
 pub struct FileContents {
     pub record: Record,
-    /// One place for each trace entry: place j holds the entry that names j as
-    /// next, and [`crate::NONE`] where none does.
+    /// One slot for each trace entry: slot j holds its predecessor, the entry
+    /// that names j as next, and [`crate::NONE`] where it has none.
     pub predecessors: Vec<u32>,
 }
-
-/// Numbers in `out`.
-const OUT_LENGTH: usize = 13;
 
 /// Looks at the first bytes of a file. What it accepts or refuses stands,
 /// whatever bytes follow.
 ///
-/// `predecessors` needs one place for each trace entry. After an acceptance
-/// place j holds the entry that names j as next, and [`crate::NONE`] where
-/// none does; after anything else every place holds [`crate::NONE`].
+/// `predecessors` needs one slot for each trace entry. After an acceptance
+/// slot j holds the predecessor of entry j, the one that names j as next, and
+/// [`crate::NONE`] where it has none; after anything else every slot holds
+/// [`crate::NONE`].
 ///
 /// ```
 /// use hivesaddle::{read_prefix, Verdict};
-/// let mut places = [0; 4];
-/// assert_eq!(read_prefix(b"", &mut places), Verdict::Wanted(4));
-/// assert_eq!(places, [hivesaddle::NONE; 4]);
-/// assert_eq!(read_prefix(b"\x11\0\0\0SCCA", &mut places), Verdict::Wanted(16));
-/// match read_prefix(b"\x18\0\0\0", &mut places) {
+/// let mut predecessors = [0; 4];
+/// assert_eq!(read_prefix(b"", &mut predecessors), Verdict::Wanted(4));
+/// assert_eq!(predecessors, [hivesaddle::NONE; 4]);
+/// assert_eq!(read_prefix(b"\x11\0\0\0SCCA", &mut predecessors), Verdict::Wanted(16));
+/// match read_prefix(b"\x18\0\0\0", &mut predecessors) {
 ///     Verdict::Refused(refusal) => assert_eq!((refusal.number, refusal.index), (1, 0)),
 ///     other => panic!("{other:?}"),
 /// }
 /// ```
 pub fn read_prefix(prefix: &[u8], predecessors: &mut [u32]) -> Verdict {
-    let mut out = [0; OUT_LENGTH];
+    let mut out = [0; HS_READER_OUT];
     let answer = unsafe {
-        raw::hs_read_prefix(
+        hs_read_prefix(
             prefix.as_ptr(),
             prefix.len(),
             predecessors.as_mut_ptr(),
@@ -75,7 +74,7 @@ pub fn read_prefix(prefix: &[u8], predecessors: &mut [u32]) -> Verdict {
 }
 
 /// Looks at a complete file. `predecessors` is as for [`read_prefix`];
-/// [`places`] says how many it needs, and [`read_file_alloc`] allocates them.
+/// [`places`] says how many slots it needs, and [`read_file_alloc`] allocates them.
 ///
 /// ```
 /// let mut file = [0; 148];
@@ -94,9 +93,9 @@ pub fn read_prefix(prefix: &[u8], predecessors: &mut [u32]) -> Verdict {
 /// assert_eq!(hivesaddle::read_file(&file[..147], &mut []).unwrap_err().number, 16);
 /// ```
 pub fn read_file(file: &[u8], predecessors: &mut [u32]) -> Result<Record, Refusal> {
-    let mut out = [0; OUT_LENGTH];
+    let mut out = [0; HS_READER_OUT];
     let answer = unsafe {
-        raw::hs_read_file(
+        hs_read_file(
             file.as_ptr(),
             file.len(),
             predecessors.as_mut_ptr(),
@@ -108,14 +107,14 @@ pub fn read_file(file: &[u8], predecessors: &mut [u32]) -> Result<Record, Refusa
     match verdict(answer, &out) {
         Verdict::Accepted(record) => Ok(record),
         Verdict::Refused(refusal) => Err(refusal),
-        Verdict::Wanted(bytes) => unreachable!("the whole reader asked for {bytes} bytes"),
+        Verdict::Wanted(bytes) => unreachable!("the whole-file reader asked for {bytes} bytes"),
     }
 }
 
-/// [`read_file`] with as many places as the file needs, so that refusal 7 never
+/// [`read_file`] with as many slots as the file needs, so that refusal 7 never
 /// comes. Any other answer is the one that [`read_file`] gives.
 ///
-/// The places are allocated before the trace section is looked at. There are
+/// The slots are allocated before the trace section is looked at. There are
 /// at most 1,398,088, see [`places`], so no file takes more than 5.6 MB.
 ///
 /// ```
@@ -143,27 +142,29 @@ pub fn read_file_alloc(file: &[u8]) -> Result<FileContents, Refusal> {
     Ok(FileContents { record, predecessors })
 }
 
-fn verdict(answer: u32, out: &[u64; OUT_LENGTH]) -> Verdict {
+fn verdict(answer: u32, out: &[u64; HS_READER_OUT]) -> Verdict {
     match answer {
-        0 => Verdict::Accepted(record(out)),
-        1 => Verdict::Refused(Refusal { number: out[0] as u32, index: out[1] }),
-        2 => Verdict::Wanted(out[2]),
+        HS_ACCEPTED => Verdict::Accepted(record(out)),
+        HS_REFUSED => {
+            Verdict::Refused(Refusal { number: out[HS_NUMBER] as u32, index: out[HS_INDEX] })
+        }
+        HS_WANTED => Verdict::Wanted(out[HS_BYTES_WANTED]),
         other => unreachable!("no such answer: {other}"),
     }
 }
 
 /// Each field but the run time is a number of at most 32 bits.
-fn record(out: &[u64; OUT_LENGTH]) -> Record {
+fn record(out: &[u64; HS_READER_OUT]) -> Record {
     Record {
-        version: out[3] as u32,
-        declared_size: out[4] as u32,
-        name_units: out[5] as u32,
-        stored_hash: out[6] as u32,
-        run_time: out[7],
-        run_count: out[8] as u32,
-        metrics_count: out[9] as u32,
-        trace_count: out[10] as u32,
-        volume_count: out[11] as u32,
-        chain_count: out[12] as u32,
+        version: out[HS_VERSION] as u32,
+        declared_size: out[HS_DECLARED_SIZE] as u32,
+        name_units: out[HS_NAME_UNITS] as u32,
+        stored_hash: out[HS_STORED_HASH] as u32,
+        run_time: out[HS_RUN_TIME],
+        run_count: out[HS_RUN_COUNT] as u32,
+        metrics_count: out[HS_METRICS_COUNT] as u32,
+        trace_count: out[HS_TRACE_COUNT] as u32,
+        volume_count: out[HS_VOLUME_COUNT] as u32,
+        chain_count: out[HS_CHAIN_COUNT] as u32,
     }
 }

@@ -134,7 +134,7 @@ const DAMAGE: [Damage; 35] = [
     ("10-name-too-short", |file, at| set_32(file, at.name_length, 5)),
     ("11-next-is-count", |file, at| set_32(file, at.next(3), SMALL.trace as u32)),
     ("12-named-twice", |file, at| set_32(file, at.next(3), 1)),
-    ("13-ring", |file, at| set_32(file, at.next(39), 33)),
+    ("13-cycle", |file, at| set_32(file, at.next(39), 33)),
     ("13-own-next", |file, at| {
         set_32(file, at.next(38), END);
         set_32(file, at.next(39), 39);

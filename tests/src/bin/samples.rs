@@ -41,7 +41,7 @@ fn write_all(folder: &Path) -> io::Result<()> {
         ("size.pf", wrong_size),
         ("names.pf", name_outside),
         ("strings.pf", zero_in_a_name),
-        ("ring.pf", ring),
+        ("cycle.pf", cycle),
         ("volume.pf", path_outside),
     ];
     for (name, damage) in faults {
@@ -75,7 +75,7 @@ fn zero_in_a_name(file: &mut [u8]) {
 }
 
 /// The last trace entry names the first of its chain.
-fn ring(file: &mut [u8]) {
+fn cycle(file: &mut [u8]) {
     let last = section(file, TRACE).end() - TRACE_ENTRY;
     let first = TYPICAL.trace * (TYPICAL.files - 1) / TYPICAL.files;
     set_32(file, last as usize, first as u32);

@@ -5,7 +5,7 @@ use crate::reference::checks::{entry_start, name_of_entry};
 use crate::reference::head::{known_layout, metrics_count, number_32, section, STRINGS};
 use crate::reference::layout::layout_of;
 
-/// One before, at and one after every reach, every section's start and end,
+/// One before, at and one after every required length, every section's start and end,
 /// and the declared size; and the whole.
 pub fn cuts(sample: &Sample) -> Vec<usize> {
     let length = sample.bytes.len();
@@ -40,7 +40,7 @@ fn middles(file: &[u8]) -> Vec<u64> {
 }
 
 /// Around the end of every metrics entry and of every name, for a sound file.
-pub fn question_cuts(sample: &Sample) -> Vec<usize> {
+pub fn query_cuts(sample: &Sample) -> Vec<usize> {
     let file = &sample.bytes[..];
     let mut list = Vec::new();
     for i in 0..metrics_count(file) {

@@ -7,7 +7,7 @@ use crate::reference::head::*;
 use crate::reference::layout::{END, LARGEST_SIZE, TRACE_ENTRY};
 use crate::reference::volumes;
 
-/// The checks that can be aimed at, 7 by the working places.
+/// The checks that can be aimed at, 7 by the number of slots.
 pub const AIMS: std::ops::RangeInclusive<u64> = 1..=15;
 
 /// Damages the file so that the check of this number has a fault to find.
@@ -243,7 +243,7 @@ fn link_shared(random: &mut Random, file: &mut [u8]) {
     set_link(file, other, named);
 }
 
-/// A ring of some entries; nothing else names them any more.
+/// A cycle of some entries; nothing else names them any more.
 fn link_ring(random: &mut Random, file: &mut [u8]) {
     let count = trace_count(file);
     if count == 0 {
@@ -251,14 +251,14 @@ fn link_ring(random: &mut Random, file: &mut [u8]) {
     }
     let mut order: Vec<u64> = (0..count).collect();
     random.shuffle(&mut order);
-    let ring = &order[..random.between(1, count as usize)];
+    let cycle = &order[..random.between(1, count as usize)];
     for entry in 0..count {
-        if ring.contains(&(link(file, entry) as u64)) {
+        if cycle.contains(&(link(file, entry) as u64)) {
             set_link(file, entry, END);
         }
     }
-    for (place, &entry) in ring.iter().enumerate() {
-        set_link(file, entry, ring[(place + 1) % ring.len()] as u32);
+    for (place, &entry) in cycle.iter().enumerate() {
+        set_link(file, entry, cycle[(place + 1) % cycle.len()] as u32);
     }
 }
 

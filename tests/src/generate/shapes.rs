@@ -1,4 +1,4 @@
-//! Lists of next links: chains, rings, entries named twice, wild links.
+//! Lists of next links: chains, cycles, entries named twice, wild links.
 
 use crate::random::Random;
 use crate::reference::layout::END;
@@ -27,7 +27,7 @@ fn next_list(places: &mut [usize], choices: usize) -> bool {
     false
 }
 
-/// Chains and rings over all entries, and in some lists entries named twice or
+/// Chains and cycles over all entries, and in some lists entries named twice or
 /// wild links besides.
 pub fn mixed(random: &mut Random, most: usize) -> Vec<u32> {
     let count = random.between(1, most);
@@ -56,33 +56,33 @@ fn order(random: &mut Random, count: usize) -> Vec<u32> {
     order
 }
 
-/// The order cut into runs, each a chain or a ring.
+/// The order cut into runs, each a chain or a cycle.
 fn runs(random: &mut Random, order: &[u32]) -> Vec<u32> {
     let mut links = vec![END; order.len()];
-    let ring_in = *random.pick(&[0, 0, 1, 2, 4, 8]);
+    let cycle_in = *random.pick(&[0, 0, 1, 2, 4, 8]);
     let longest = *random.pick(&[1, 2, 5, order.len()]);
     let mut rest = order;
     while !rest.is_empty() {
         let length = random.between(1, longest.min(rest.len()));
         let (run, behind) = rest.split_at(length);
-        let ring = ring_in > 0 && random.one_in(ring_in);
-        link_run(&mut links, run, ring);
+        let cycle = cycle_in > 0 && random.one_in(cycle_in);
+        link_run(&mut links, run, cycle);
         rest = behind;
     }
     links
 }
 
-pub fn link_run(links: &mut [u32], run: &[u32], ring: bool) {
+pub fn link_run(links: &mut [u32], run: &[u32], cycle: bool) {
     for pair in run.windows(2) {
         links[pair[0] as usize] = pair[1];
     }
-    if ring {
+    if cycle {
         links[run[run.len() - 1] as usize] = run[0];
     }
 }
 
 /// Several entries named by two or three. Half the time only ends of chains
-/// are changed for it, so that every ring stays.
+/// are changed for it, so that every cycle stays.
 fn name_again(random: &mut Random, links: &mut [u32]) {
     let ends_only = random.one_in(2);
     for _ in 0..random.between(1, 4) {

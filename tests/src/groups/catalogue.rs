@@ -1,7 +1,7 @@
 //! Catalogue lines, read and written.
 
 use super::Run;
-use crate::lent::{lent_bytes, lent_u64};
+use crate::boundary::{guarded_bytes, guarded_u64};
 use crate::random::Random;
 use crate::reference::catalogue::{self as reference, Fields};
 use crate::reference::layout::{LARGEST_SIZE, LAYOUTS};
@@ -38,7 +38,7 @@ fn named_points(tally: &mut Tally) {
 fn null_pointers(tally: &mut Tally) {
     unsafe {
         tally.named("no line, no out", &18, &raw::hs_catalogue_read(null(), 0, null_mut(), 0));
-        tally.named("no place", &19, &raw::hs_catalogue_write(148, 65, 1, 17, null_mut(), 0));
+        tally.named("no output", &19, &raw::hs_catalogue_write(148, 65, 1, 17, null_mut(), 0));
     }
 }
 
@@ -174,7 +174,7 @@ fn wrong_versions(random: &mut Random, tally: &mut Tally) {
     }
 }
 
-/// Written into places of 0 to 60 bytes.
+/// Written into outputs of 0 to 60 bytes.
 fn written(random: &mut Random, fields: &Fields, tally: &mut Tally) {
     for length in 0..=60 {
         write(random, fields, length, tally);
@@ -190,35 +190,35 @@ fn read(random: &mut Random, line: &[u8], out_length: usize, tally: &mut Tally) 
         Some(fields) => (0, [fields.size, fields.stored_hash, fields.run_count, fields.version]),
         None => (18, [0; 4]),
     };
-    let mut out = lent_u64(random, out_length);
+    let mut out = guarded_u64(random, out_length);
     let expected = out.after_writing(&values);
-    let lent = line.to_vec();
-    let place = out.place();
+    let copy = line.to_vec();
+    let inner = out.inner();
     let given = unsafe {
-        raw::hs_catalogue_read(lent.as_ptr(), lent.len(), place.as_mut_ptr(), place.len())
+        raw::hs_catalogue_read(copy.as_ptr(), copy.len(), inner.as_mut_ptr(), inner.len())
     };
     tally.same("read", &number, &given, || hex(line));
-    tally.same("read, out", &expected[..], out.whole(), || hex(line));
-    tally.same("line unchanged", line, &lent, || hex(line));
+    tally.same("read, out", &expected[..], out.all(), || hex(line));
+    tally.same("line unchanged", line, &copy, || hex(line));
 }
 
 fn write(random: &mut Random, fields: &Fields, length: usize, tally: &mut Tally) {
     let line = reference::write(fields).filter(|line| line.len() <= length);
     let number = if line.is_some() { 0 } else { 19 };
-    let mut output = lent_bytes(random, length);
+    let mut output = guarded_bytes(random, length);
     let expected = output.after_writing(&line.unwrap_or_default());
-    let place = output.place();
+    let inner = output.inner();
     let given = unsafe {
         raw::hs_catalogue_write(
             fields.size as u32,
             fields.stored_hash as u32,
             fields.run_count as u32,
             fields.version as u32,
-            place.as_mut_ptr(),
-            place.len(),
+            inner.as_mut_ptr(),
+            inner.len(),
         )
     };
     let input = || format!("{fields:?} into {length} bytes");
     tally.same("write", &number, &given, input);
-    tally.same("write, place", &expected[..], output.whole(), input);
+    tally.same("write, output", &expected[..], output.all(), input);
 }

@@ -64,7 +64,7 @@ fn example_of_the_source(tally: &mut Tally) {
     );
     tally.named("example hash by bytes", &EXPECTED, &by_bytes);
     tally.named("example hash by units differs", &true, &(by_units != EXPECTED));
-    let units = reference::xp(&reference::units(&text));
+    let units = reference::hash_xp(&reference::units(&text));
     tally.named("example hash by units", &units, &by_units);
 }
 
@@ -170,12 +170,12 @@ fn mixed_numbers(random: &mut Random, length: usize) -> Vec<u32> {
 }
 
 fn list(numbers: &[u32], tally: &mut Tally) {
-    let lent = numbers.to_vec();
+    let copy = numbers.to_vec();
     let input = || hex_numbers(numbers);
-    tally.same("XP", &reference::xp(numbers), &hivesaddle::hash_xp(&lent), input);
-    tally.same("Vista", &reference::vista(numbers), &hivesaddle::hash_vista(&lent), input);
-    tally.same("2008", &reference::of_2008(numbers), &hivesaddle::hash_2008(&lent), input);
-    tally.same("numbers unchanged", numbers, &lent, input);
+    tally.same("XP", &reference::hash_xp(numbers), &hivesaddle::hash_xp(&copy), input);
+    tally.same("Vista", &reference::hash_vista(numbers), &hivesaddle::hash_vista(&copy), input);
+    tally.same("2008", &reference::hash_2008(numbers), &hivesaddle::hash_2008(&copy), input);
+    tally.same("numbers unchanged", numbers, &copy, input);
 }
 
 fn texts(random: &mut Random, scale: usize, tally: &mut Tally) {
@@ -202,13 +202,13 @@ fn mixed_text(random: &mut Random, length: usize) -> Vec<u8> {
 }
 
 fn text(text: &[u8], tally: &mut Tally) {
-    let lent = text.to_vec();
+    let copy = text.to_vec();
     let units = reference::units(text);
     let input = || hex(text);
-    let (xp, vista, of_2008) =
-        (reference::xp(&units), reference::vista(&units), reference::of_2008(&units));
-    tally.same("XP by units", &xp, &hivesaddle::hash_xp_units(&lent), input);
-    tally.same("Vista by units", &vista, &hivesaddle::hash_vista_units(&lent), input);
-    tally.same("2008 by units", &of_2008, &hivesaddle::hash_2008_units(&lent), input);
-    tally.same("text unchanged", text, &lent, input);
+    let (xp, vista, hash_2008) =
+        (reference::hash_xp(&units), reference::hash_vista(&units), reference::hash_2008(&units));
+    tally.same("XP by units", &xp, &hivesaddle::hash_xp_units(&copy), input);
+    tally.same("Vista by units", &vista, &hivesaddle::hash_vista_units(&copy), input);
+    tally.same("2008 by units", &hash_2008, &hivesaddle::hash_2008_units(&copy), input);
+    tally.same("text unchanged", text, &copy, input);
 }

@@ -1,7 +1,7 @@
 //! Next links of the trace section, in whole files built around it.
 
 use super::Run;
-use crate::beside::{both, one, PART, WHOLE};
+use crate::boundary::{compare_both, compare_reader, PREFIX_READER, WHOLE_READER};
 use crate::generate::shapes::{every_list, link_run, mixed};
 use crate::generate::{around_links, Counts};
 use crate::random::Random;
@@ -56,7 +56,7 @@ impl Links<'_> {
         }
     }
 
-    /// With just enough places, with more and with too few; and cut before the
+    /// With just enough slots, with more and with too few; and cut before the
     /// section's last byte.
     fn list(&mut self, layout: &Layout, links: &[u32]) {
         let file = self.file_around(layout, links);
@@ -74,7 +74,7 @@ impl Links<'_> {
     }
 
     fn reading(&mut self, bytes: &[u8], places: usize) -> Answer {
-        both(&mut self.random, self.tally, bytes, places).part
+        compare_both(&mut self.random, self.tally, bytes, places).prefix
     }
 
     /// Half the time there is nothing else in the file.
@@ -104,14 +104,14 @@ impl Links<'_> {
         let failed = self.tally.failed;
         for more in [0, 1, 4_096] {
             let answer = long.answer(&file, LONG + more);
-            one(&mut self.random, self.tally, &PART, &answer, &file);
-            one(&mut self.random, self.tally, &WHOLE, &answer, &file);
+            compare_reader(&mut self.random, self.tally, &PREFIX_READER, &answer, &file);
+            compare_reader(&mut self.random, self.tally, &WHOLE_READER, &answer, &file);
         }
         for places in [0, LONG - 1] {
             let verdict = Verdict::Refused(Refusal { number: 7, index: 0 });
-            let answer = Answer { verdict, buffer: vec![END; places] };
-            one(&mut self.random, self.tally, &PART, &answer, &file);
-            one(&mut self.random, self.tally, &WHOLE, &answer, &file);
+            let answer = Answer { verdict, predecessors: vec![END; places] };
+            compare_reader(&mut self.random, self.tally, &PREFIX_READER, &answer, &file);
+            compare_reader(&mut self.random, self.tally, &WHOLE_READER, &answer, &file);
         }
         if self.tally.failed > failed {
             println!("  which is a long list: {}, {order}", long.name);
@@ -129,23 +129,23 @@ struct Long {
 
 impl Long {
     fn answer(&self, file: &[u8], places: usize) -> Answer {
-        let mut buffer = vec![END; places];
+        let mut predecessors = vec![END; places];
         let verdict = match self.says {
             Err((number, index)) => Verdict::Refused(Refusal { number, index }),
             Ok(chain_count) => {
                 for (entry, &link) in self.links.iter().enumerate() {
                     if link != END {
-                        buffer[link as usize] = entry as u32;
+                        predecessors[link as usize] = entry as u32;
                     }
                 }
                 Verdict::Accepted(Record { chain_count, ..record(file) })
             }
         };
-        Answer { verdict, buffer }
+        Answer { verdict, predecessors }
     }
 }
 
-/// The order is that of the entries along the chain or ring.
+/// The order is that of the entries along the chain or cycle.
 fn long_lists(order: &[u32]) -> Vec<Long> {
     let count = order.len();
     let middle = count / 2;
@@ -161,26 +161,26 @@ fn long_lists(order: &[u32]) -> Vec<Long> {
     let pairs: Vec<(&[u32], bool)> = order.chunks(2).map(|run| (run, false)).collect();
     let late_ring = [(&order[..middle], false), (&order[middle..], true)];
     let early_ring = [(&order[..middle], true), (&order[middle..], false)];
-    let rings: Vec<(&[u32], bool)> = order.chunks(1_000).map(|run| (run, true)).collect();
+    let cycles: Vec<(&[u32], bool)> = order.chunks(1_000).map(|run| (run, true)).collect();
     vec![
         Long { name: "one chain", links: chain.clone(), says: Ok(1) },
         Long { name: "chains of one", links: vec![END; count], says: Ok(count as u64) },
         Long { name: "chains of two", links: linked(&pairs), says: Ok(count as u64 / 2) },
         Long { name: "long chains", links: linked(&thousands), says: Ok(count as u64 / 1_000) },
-        Long { name: "one ring", links: linked(&[(order, true)]), says: Err((13, 0)) },
-        Long { name: "many rings", links: linked(&rings), says: Err((13, 0)) },
+        Long { name: "one cycle", links: linked(&[(order, true)]), says: Err((13, 0)) },
+        Long { name: "many cycles", links: linked(&cycles), says: Err((13, 0)) },
         Long {
-            name: "a ring behind a chain",
+            name: "a cycle behind a chain",
             links: linked(&late_ring),
             says: Err((13, least(&order[middle..]))),
         },
         Long {
-            name: "a chain behind a ring",
+            name: "a chain behind a cycle",
             links: linked(&early_ring),
             says: Err((13, least(&order[..middle]))),
         },
         Long {
-            name: "a ring of one at a chain's end",
+            name: "a cycle of one at a chain's end",
             links: linked(&[(&order[..count - 1], false), (&order[count - 1..], true)]),
             says: Err((13, last as u64)),
         },
@@ -199,8 +199,8 @@ fn long_lists(order: &[u32]) -> Vec<Long> {
 
 fn linked(runs: &[(&[u32], bool)]) -> Vec<u32> {
     let mut links = vec![END; LONG];
-    for (run, ring) in runs {
-        link_run(&mut links, run, *ring);
+    for (run, cycle) in runs {
+        link_run(&mut links, run, *cycle);
     }
     links
 }
@@ -214,10 +214,10 @@ struct Seen {
     wild_and_shared: u64,
     one_shared: u64,
     some_shared: u64,
-    shared_and_ring: u64,
-    ring_alone: u64,
-    ring_and_chains: u64,
-    some_rings: u64,
+    shared_and_cycle: u64,
+    cycle_alone: u64,
+    cycle_and_chains: u64,
+    some_cycles: u64,
 }
 
 impl Seen {
@@ -231,7 +231,7 @@ impl Seen {
             Verdict::Refused(Refusal { number: 11, .. }) if shared > 0 => &mut self.wild_and_shared,
             Verdict::Refused(Refusal { number: 11, .. }) => &mut self.wild,
             Verdict::Refused(Refusal { number: 12, .. }) => {
-                self.shared_and_ring += (rings(links) > 0) as u64;
+                self.shared_and_cycle += (cycles(links) > 0) as u64;
                 if shared > 1 {
                     &mut self.some_shared
                 } else {
@@ -239,11 +239,11 @@ impl Seen {
                 }
             }
             Verdict::Refused(Refusal { number: 13, .. }) => {
-                self.some_rings += (rings(links) > 1) as u64;
+                self.some_cycles += (cycles(links) > 1) as u64;
                 if heads > 0 {
-                    &mut self.ring_and_chains
+                    &mut self.cycle_and_chains
                 } else {
-                    &mut self.ring_alone
+                    &mut self.cycle_alone
                 }
             }
             _ => return,
@@ -259,10 +259,10 @@ impl Seen {
             ("a wild link and an entry named twice", self.wild_and_shared),
             ("one entry named twice", self.one_shared),
             ("several entries named twice", self.some_shared),
-            ("an entry named twice and a ring", self.shared_and_ring),
-            ("rings alone", self.ring_alone),
-            ("rings and chains", self.ring_and_chains),
-            ("several rings", self.some_rings),
+            ("an entry named twice and a cycle", self.shared_and_cycle),
+            ("cycles alone", self.cycle_alone),
+            ("cycles and chains", self.cycle_and_chains),
+            ("several cycles", self.some_cycles),
         ];
         let counts: Vec<String> =
             kinds.iter().map(|(name, count)| format!("{name}: {count}")).collect();
@@ -283,8 +283,8 @@ fn times_named(links: &[u32]) -> Vec<u32> {
     times
 }
 
-/// The number of rings: each is counted at its least entry.
-fn rings(links: &[u32]) -> usize {
+/// The number of cycles: each is counted at its least entry.
+fn cycles(links: &[u32]) -> usize {
     (0..links.len()).filter(|&entry| is_least_of_a_ring(links, entry)).count()
 }
 

@@ -57,7 +57,7 @@ fn lengths(random: &mut Random, tally: &mut Tally) {
 }
 
 /// As many trace entries as the input can hold; then a head that declares as
-/// many as there are places, and one more.
+/// many as there are slots, and one more.
 fn places(random: &mut Random, tally: &mut Tally) {
     for layout in &LAYOUTS {
         let trace = (LONGEST_INPUT - layout.head_end as usize - 100) / 12;

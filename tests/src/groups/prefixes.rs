@@ -1,19 +1,15 @@
-//! What the part reader says early stands: pairs of prefixes and pairs of
-//! working buffers, with the library's own answers and nothing beside them.
+//! What the prefix reader says early stands: pairs of prefixes and pairs of
+//! buffers, with the library's own answers and nothing beside them.
 
 use super::Run;
-use crate::calls::{Outcome, Places, PART_READER, READER_OUT};
+use crate::boundary::{inner_of, Outcome, Outputs};
 use crate::generate::cuts::cuts;
 use crate::generate::damage::{damage, edits};
 use crate::generate::{any, rich, Sample};
-use crate::lent::lent_part;
 use crate::random::Random;
 use crate::reference::head::declared_size;
 use crate::tally::{hex, Tally};
-
-const WANTED: u32 = 2;
-/// Where `out` holds the bytes wanted.
-const BYTES_WANTED: usize = 2;
+use hivesaddle::raw::{hs_read_prefix, HS_BYTES_WANTED, HS_READER_OUT, HS_WANTED};
 
 pub fn run(run: &Run, tally: &mut Tally) {
     let mut random = run.random("prefixes");
@@ -81,7 +77,7 @@ fn every_pair(random: &mut Random, sample: &Sample, tally: &mut Tally) {
 
 fn reading(random: &mut Random, sample: &Sample, length: usize, places: usize) -> Reading {
     let prefix = &sample.bytes[..length];
-    let mut read = || Places::new(random, READER_OUT, places).call(PART_READER, prefix);
+    let mut read = || Outputs::new(random, HS_READER_OUT, places).call(hs_read_prefix, prefix);
     Reading { length, first: read(), second: read() }
 }
 
@@ -89,25 +85,25 @@ fn reading(random: &mut Random, sample: &Sample, length: usize, places: usize) -
 fn pair(sample: &Sample, places: usize, shorter: &Reading, longer: &Reading, tally: &mut Tally) {
     let input = || {
         let lengths = (shorter.length, longer.length);
-        format!("prefixes {lengths:?}, {places} places, {}", hex(&sample.bytes))
+        format!("prefixes {lengths:?}, {places} slots, {}", hex(&sample.bytes))
     };
     let (one, other) = (&shorter.first, &longer.second);
-    if one.code == WANTED {
-        let wanted = lent_part(&one.out)[BYTES_WANTED];
+    if one.code == HS_WANTED {
+        let wanted = inner_of(&one.out)[HS_BYTES_WANTED];
         let exceeds = wanted > shorter.length as u64;
         let stands = same_answer(one, other) == ((longer.length as u64) < wanted);
         tally.same("a request", &(true, true), &(exceeds, stands), input);
     } else {
-        let buffers = lent_part(&one.buffer) == lent_part(&other.buffer);
+        let buffers = inner_of(&one.predecessors) == inner_of(&other.predecessors);
         tally.same("an answer", &(true, true), &(same_answer(one, other), buffers), input);
     }
     if complete(&sample.bytes[..longer.length]) {
-        tally.holds("no request", other.code != WANTED, input);
+        tally.holds("no request", other.code != HS_WANTED, input);
     }
 }
 
 fn same_answer(one: &Outcome, other: &Outcome) -> bool {
-    one.code == other.code && lent_part(&one.out) == lent_part(&other.out)
+    one.code == other.code && inner_of(&one.out) == inner_of(&other.out)
 }
 
 /// At least sixteen bytes, and as many as the declared size.

@@ -1,15 +1,15 @@
-//! Questions about one entry, the number of working places and the path search
+//! Queries about one entry, the number of slots and the path search
 //! beside the reference.
 
 use super::Run;
-use crate::generate::cuts::{cuts, question_cuts};
+use crate::boundary::guarded_u64;
+use crate::generate::cuts::{cuts, query_cuts};
 use crate::generate::damage::{damage, edits};
 use crate::generate::{any, rich, Sample};
-use crate::lent::lent_u64;
 use crate::random::Random;
 use crate::reference::head::{metrics_count, volume_count};
-use crate::reference::questions as reference;
-use crate::reference::questions::Part;
+use crate::reference::queries as reference;
+use crate::reference::queries::Part;
 use crate::reference::search::{find_path, Found, Report};
 use crate::tally::{hex, Tally};
 use hivesaddle::raw;
@@ -34,7 +34,7 @@ impl Queries<'_> {
         for _ in 0..rounds {
             let sample = any(&mut self.random);
             let mut lengths = cuts(&sample);
-            lengths.extend(question_cuts(&sample));
+            lengths.extend(query_cuts(&sample));
             for length in lengths {
                 self.prefix(&sample, length);
             }
@@ -42,7 +42,7 @@ impl Queries<'_> {
         }
     }
 
-    /// One fault or two, among them those that a question does not mind.
+    /// One fault or two, among them those that a query does not mind.
     fn damaged_files(&mut self, rounds: usize) {
         for _ in 0..rounds {
             let mut sample = rich(&mut self.random);
@@ -68,7 +68,7 @@ impl Queries<'_> {
         }
     }
 
-    /// All questions on the first bytes of the sample.
+    /// All queries on the first bytes of the sample.
     fn prefix(&mut self, sample: &Sample, length: usize) {
         let file = &sample.bytes[..length];
         self.places(file);
@@ -140,7 +140,7 @@ impl Queries<'_> {
         });
     }
 
-    /// One question: 1 and the numbers, or 0 and as many zeros.
+    /// One query: 1 and the numbers, or 0 and as many zeros.
     fn ask<const N: usize>(
         &mut self,
         what: &str,
@@ -153,10 +153,10 @@ impl Queries<'_> {
             true => self.random.below(N + 4),
             false => N,
         };
-        let mut out = lent_u64(&mut self.random, out_length);
+        let mut out = guarded_u64(&mut self.random, out_length);
         let expected = out.after_writing(&numbers.unwrap_or([0; N]));
-        let code = call(out.place());
-        let given = (code, out.whole());
+        let code = call(out.inner());
+        let given = (code, out.all());
         let input = || format!("{which} of {}", hex(file));
         self.tally.same(what, &(u32::from(numbers.is_some()), &expected[..]), &given, input);
     }
@@ -266,20 +266,20 @@ fn place_of(file: &[u8], part: &[u8]) -> Part {
 
 fn found_numbers(found: Found) -> [u64; 2] {
     let report = match found.report {
-        Report::NoneToMake => 0,
-        Report::VistaOnly => 1,
-        Report::Only2008 => 2,
-        Report::Both => 3,
+        Report::NoneToMake => raw::HS_REPORT_NONE,
+        Report::VistaOnly => raw::HS_REPORT_VISTA,
+        Report::Only2008 => raw::HS_REPORT_2008,
+        Report::Both => raw::HS_REPORT_BOTH,
     };
     [found.entry, report]
 }
 
 fn report_number(report: hivesaddle::Report) -> u64 {
     match report {
-        hivesaddle::Report::NoneToMake => 0,
-        hivesaddle::Report::VistaOnly => 1,
-        hivesaddle::Report::Only2008 => 2,
-        hivesaddle::Report::Both => 3,
+        hivesaddle::Report::NoneToMake => raw::HS_REPORT_NONE,
+        hivesaddle::Report::VistaOnly => raw::HS_REPORT_VISTA,
+        hivesaddle::Report::Only2008 => raw::HS_REPORT_2008,
+        hivesaddle::Report::Both => raw::HS_REPORT_BOTH,
     }
 }
 
@@ -299,7 +299,7 @@ impl Count {
     }
 }
 
-/// How often each question had a yes and a no for its answer.
+/// How often each query had a yes and a no for its answer.
 #[derive(Default)]
 struct Seen {
     places: Count,
@@ -324,7 +324,7 @@ impl Seen {
             .iter()
             .map(|(name, count)| format!("{name} {}/{}", count.yes, count.no))
             .collect();
-        println!("queries: yes/no by question: {}", shown.join(", "));
+        println!("queries: yes/no by query: {}", shown.join(", "));
         for (name, count) in counts {
             let both = count.yes > 1_000 && count.no > 1_000;
             tally.named(&format!("{name}: both answers have come up"), &true, &both);

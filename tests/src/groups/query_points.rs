@@ -1,9 +1,9 @@
-//! Questions on small files put together by hand, with answers by hand.
+//! Queries on small files put together by hand, with answers by hand.
 
 use crate::generate::bare::{bare, with_links, HEADS};
 use crate::generate::{set_16, set_32};
 use crate::reference::layout::END;
-use crate::reference::questions;
+use crate::reference::queries;
 use crate::tally::Tally;
 use hivesaddle::raw;
 use hivesaddle::{
@@ -59,7 +59,7 @@ fn with_names(version: u32, names: &[(u32, u32)], strings: &[u8]) -> Vec<u8> {
 /// The library and the reference both have to give the number.
 fn needs(tally: &mut Tally, name: &str, file: &[u8], number: Option<u64>) {
     tally.named(name, &number, &places(file).map(|places| places as u64));
-    tally.named(name, &number, &questions::places(file));
+    tally.named(name, &number, &queries::places(file));
 }
 
 /// Three trace entries right behind the head, up to S.
@@ -148,18 +148,18 @@ fn places_allocated(tally: &mut Tally) {
     let sound: [(&[u32], &[u32]); 3] =
         [(&[], &[]), (&[END], &[END]), (&[3, END, END, 1], &[END, 3, END, 0])];
     for (links, predecessors) in sound {
-        let name = format!("links {links:?}, places allocated");
+        let name = format!("links {links:?}, slots allocated");
         tally.named(&name, &Ok(predecessors.to_vec()), &contents(links).map(table));
         let count = contents(links).map(|contents| contents.record.trace_count as usize);
         tally.named(&name, &Ok(links.len()), &count);
     }
-    tally.named("a ring, places allocated", &refusal(13, 0), &contents(&[1, 0]).map(table));
+    tally.named("a cycle, slots allocated", &refusal(13, 0), &contents(&[1, 0]).map(table));
     let mut file = with_links(&[END, END]);
     file.push(0);
-    tally.named("too long, places allocated", &refusal(17, 0), &read_file_alloc(&file).map(table));
+    tally.named("too long, slots allocated", &refusal(17, 0), &read_file_alloc(&file).map(table));
     let cut = read_file_alloc(&file[..171]).map(table);
-    tally.named("too short, places allocated", &refusal(16, 0), &cut);
-    tally.named("nothing, places allocated", &refusal(16, 0), &read_file_alloc(&[]).map(table));
+    tally.named("too short, slots allocated", &refusal(16, 0), &cut);
+    tally.named("nothing, slots allocated", &refusal(16, 0), &read_file_alloc(&[]).map(table));
 }
 
 fn program_names(tally: &mut Tally) {
@@ -229,7 +229,7 @@ fn paths(tally: &mut Tally) {
     }
 }
 
-/// Entries that can't be shown on the bytes lent are passed over.
+/// Entries that can't be shown on the bytes there are are passed over.
 fn path_on_a_prefix(tally: &mut Tally) {
     let mut file = with_names(17, &[(4, 1), (0, 1), (9, 1)], b"A\0\0\0A\0\0\0?");
     set_32(&mut file, 76, XP_A);

@@ -1,8 +1,7 @@
 //! Points on either edge, with answers taken from the papers by hand. The
 //! library and the reference both have to give them.
 
-use crate::beside::{Reader, PART, WHOLE};
-use crate::calls::{numbers_of, Places, PART_READER, READER_OUT, WHOLE_READER};
+use crate::boundary::{numbers_of, Outputs, Reader, PREFIX_READER, WHOLE_READER};
 use crate::generate::bare::{bare, bare_record, one_volume, with_links, HEADS};
 use crate::generate::{set_16, set_32};
 use crate::random::Random;
@@ -10,6 +9,7 @@ use crate::reference::checks::Refusal;
 use crate::reference::layout::END;
 use crate::reference::readers::{Answer, Record, Verdict};
 use crate::tally::Tally;
+use hivesaddle::raw::{hs_read_prefix, HS_ACCEPTED, HS_READER_OUT, HS_REFUSED, HS_WANTED};
 use std::ptr::{null, null_mut};
 
 pub fn run(tally: &mut Tally) {
@@ -32,26 +32,26 @@ fn refused(number: u64, index: u64) -> Verdict {
     Verdict::Refused(Refusal { number, index })
 }
 
-/// A verdict on a file without links: every place is filled.
+/// A verdict on a file without links: every slot is filled.
 fn check(tally: &mut Tally, name: &str, reader: Reader, bytes: &[u8], verdict: Verdict) {
-    let answer = Answer { verdict, buffer: vec![END; 8] };
-    check_buffer(tally, name, reader, bytes, &answer);
+    let answer = Answer { verdict, predecessors: vec![END; 8] };
+    check_answer(tally, name, reader, bytes, &answer);
 }
 
-fn check_buffer(tally: &mut Tally, name: &str, reader: Reader, bytes: &[u8], answer: &Answer) {
-    let places = answer.buffer.len();
-    let lent = Places::new(&mut Random::new(1), READER_OUT, places);
-    let expected = lent.expected(answer);
-    tally.named(name, &expected, &lent.call(reader.library, bytes));
+fn check_answer(tally: &mut Tally, name: &str, reader: Reader, bytes: &[u8], answer: &Answer) {
+    let places = answer.predecessors.len();
+    let outputs = Outputs::new(&mut Random::new(1), HS_READER_OUT, places);
+    let expected = outputs.expected(answer);
+    tally.named(name, &expected, &outputs.call(reader.library, bytes));
     tally.named(name, answer, &(reader.reference)(bytes, places));
 }
 
 fn part(tally: &mut Tally, name: &str, bytes: &[u8], verdict: Verdict) {
-    check(tally, name, PART, bytes, verdict);
+    check(tally, name, PREFIX_READER, bytes, verdict);
 }
 
 fn whole(tally: &mut Tally, name: &str, bytes: &[u8], verdict: Verdict) {
-    check(tally, name, WHOLE, bytes, verdict);
+    check(tally, name, WHOLE_READER, bytes, verdict);
 }
 
 fn first_bytes(tally: &mut Tally) {
@@ -68,9 +68,9 @@ fn first_bytes(tally: &mut Tally) {
         (76, 148),
         (147, 148),
     ];
-    for (length, reach) in wanted {
-        let name = format!("{length} bytes want {reach}");
-        part(tally, &name, &file[..length], Verdict::Wanted(reach));
+    for (length, required) in wanted {
+        let name = format!("{length} bytes want {required}");
+        part(tally, &name, &file[..length], Verdict::Wanted(required));
         whole(tally, &name, &file[..length], refused(16, 0));
     }
     part(tally, "version 24 in four bytes", &[24, 0, 0, 0], refused(1, 0));
@@ -127,7 +127,7 @@ struct Alone {
     count: u32,
     bytes: u32,
     /// The check that finds something else to refuse once it lies inside: one
-    /// entry has no strings for its name, and one link of 0 is a ring.
+    /// entry has no strings for its name, and one link of 0 is a cycle.
     otherwise: Option<u64>,
 }
 
@@ -246,8 +246,8 @@ fn strings_edges(tally: &mut Tally) {
     for (name, offset, units, strings) in sound {
         let file = one_name(offset, units, strings);
         part(tally, name, &file, accepted(&file));
-        let reach = file.len();
-        part(tally, name, &file[..reach - 1], Verdict::Wanted(reach as u64));
+        let required = file.len();
+        part(tally, name, &file[..required - 1], Verdict::Wanted(required as u64));
         part(tally, name, &file[..167], Verdict::Wanted(168));
     }
     let unsound: [(&str, u32, u32, &[u8], u64); 9] = [
@@ -313,17 +313,17 @@ fn sound_links(tally: &mut Tally, links: &[u32], chains: u64, predecessors: &[u3
     let record =
         Record { trace_count: links.len() as u64, chain_count: chains, ..bare_record(&file) };
     for more in [0, 1, 5] {
-        let mut buffer = predecessors.to_vec();
-        buffer.extend(vec![END; more]);
-        let answer = Answer { verdict: Verdict::Accepted(record), buffer };
-        let name = format!("links {links:?}, {more} places more");
-        check_buffer(tally, &name, PART, &file, &answer);
-        check_buffer(tally, &name, WHOLE, &file, &answer);
+        let mut predecessors = predecessors.to_vec();
+        predecessors.extend(vec![END; more]);
+        let answer = Answer { verdict: Verdict::Accepted(record), predecessors };
+        let name = format!("links {links:?}, {more} slots more");
+        check_answer(tally, &name, PREFIX_READER, &file, &answer);
+        check_answer(tally, &name, WHOLE_READER, &file, &answer);
     }
-    let answer = Answer { verdict: refused(7, 0), buffer: vec![END; links.len() - 1] };
-    let name = format!("links {links:?}, one place short");
-    check_buffer(tally, &name, PART, &file, &answer);
-    check_buffer(tally, &name, WHOLE, &file[..148], &answer);
+    let answer = Answer { verdict: refused(7, 0), predecessors: vec![END; links.len() - 1] };
+    let name = format!("links {links:?}, one slot short");
+    check_answer(tally, &name, PREFIX_READER, &file, &answer);
+    check_answer(tally, &name, WHOLE_READER, &file[..148], &answer);
 }
 
 /// Trace damage that has arrived does not answer before the names are decided.
@@ -337,10 +337,10 @@ fn order_of_answers(tally: &mut Tally) {
     set_32(&mut file, 104, 4);
     file[160 + 12] = 1;
     file[180..184].copy_from_slice(b"A\0\0\0");
-    part(tally, "a ring, and no metrics yet", &file[..160], Verdict::Wanted(180));
-    part(tally, "a ring, and no strings yet", &file[..180], Verdict::Wanted(184));
-    part(tally, "a ring, and all there", &file, refused(13, 0));
-    whole(tally, "a ring, and no strings", &file[..180], refused(16, 0));
+    part(tally, "a cycle, and no metrics yet", &file[..160], Verdict::Wanted(180));
+    part(tally, "a cycle, and no strings yet", &file[..180], Verdict::Wanted(184));
+    part(tally, "a cycle, and all there", &file, refused(13, 0));
+    whole(tally, "a cycle, and no strings", &file[..180], refused(16, 0));
 }
 
 /// The section is 40 bytes and the data.
@@ -384,8 +384,8 @@ fn volumes(tally: &mut Tally) {
         let name = format!("volume {fields:?}, fault {number}");
         let file = one_volume(fields, data);
         part(tally, &name, &file, refused(number, 0));
-        let reach = file.len() as u64;
-        part(tally, &name, &file[..file.len() - 1], Verdict::Wanted(reach));
+        let required = file.len() as u64;
+        part(tally, &name, &file[..file.len() - 1], Verdict::Wanted(required));
     }
     volumes_in_turn(tally);
     not_waited_for(tally);
@@ -461,23 +461,23 @@ fn largest_files(tally: &mut Tally) {
         ..bare_record(&file)
     };
     let predecessor = |entry: u32| if entry % 8 == 0 { END } else { entry - 1 };
-    let buffer = (0..entries).map(predecessor).collect();
-    let answer = Answer { verdict: Verdict::Accepted(record), buffer };
-    check_buffer(tally, "the largest file", WHOLE, &file, &answer);
+    let predecessors = (0..entries).map(predecessor).collect();
+    let answer = Answer { verdict: Verdict::Accepted(record), predecessors };
+    check_answer(tally, "the largest file", WHOLE_READER, &file, &answer);
     set_32(&mut file, 12, 16_777_216);
-    check(tally, "one too large", WHOLE, &file, refused(3, 0));
+    check(tally, "one too large", WHOLE_READER, &file, refused(3, 0));
 }
 
 fn null_pointers(tally: &mut Tally) {
-    for (name, reader, code) in [("part", PART_READER, 2), ("whole", WHOLE_READER, 1)] {
-        let given = unsafe { reader(null(), 0, null_mut(), 0, null_mut(), 0) };
-        tally.named(&format!("{name} reader, null pointers"), &code, &given);
+    for (reader, code) in [(PREFIX_READER, HS_WANTED), (WHOLE_READER, HS_REFUSED)] {
+        let given = unsafe { (reader.library)(null(), 0, null_mut(), 0, null_mut(), 0) };
+        tally.named(&format!("{}, null pointers", reader.name), &code, &given);
     }
     let file = bare(17, 0);
-    let given = unsafe { PART_READER(file.as_ptr(), file.len(), null_mut(), 0, null_mut(), 0) };
-    tally.named("no places, no out", &0, &given);
+    let given = unsafe { hs_read_prefix(file.as_ptr(), file.len(), null_mut(), 0, null_mut(), 0) };
+    tally.named("no slots, no out", &HS_ACCEPTED, &given);
     let expected = numbers_of(&Verdict::Wanted(4));
-    let mut out = [9; READER_OUT];
-    let code = unsafe { PART_READER(null(), 0, null_mut(), 0, out.as_mut_ptr(), out.len()) };
+    let mut out = [9; HS_READER_OUT];
+    let code = unsafe { hs_read_prefix(null(), 0, null_mut(), 0, out.as_mut_ptr(), out.len()) };
     tally.named("no bytes", &expected, &(code, out));
 }

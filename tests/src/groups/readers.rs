@@ -1,14 +1,14 @@
-//! The part reader and the whole reader beside the reference.
+//! `read_prefix` and `read_file` beside the reference.
 
 use super::Run;
-use crate::beside::both;
-use crate::calls::{numbers_of, READER_OUT};
+use crate::boundary::compare_both;
 use crate::generate::cuts::cuts;
 use crate::generate::damage::{damage, edits, AIMS};
 use crate::generate::{any, rich, sound, Counts, Sample};
 use crate::random::Random;
-use crate::reference::questions;
-use crate::reference::readers::{part_reader, whole_reader, Answer, Verdict};
+use crate::reference::checks::Refusal;
+use crate::reference::queries;
+use crate::reference::readers::{read_file, read_prefix, Answer, Record, Verdict};
 use crate::tally::{hex, Tally};
 
 pub fn run(run: &Run, tally: &mut Tally) {
@@ -46,7 +46,7 @@ impl Readers<'_> {
         }
     }
 
-    /// At every cut, with too few places, just enough, and more.
+    /// At every cut, with too few slots, just enough, and more.
     fn sound_files(&mut self, rounds: usize) {
         for _ in 0..rounds {
             let mut sample = any(&mut self.random);
@@ -156,18 +156,18 @@ impl Readers<'_> {
     /// Both readers on the first bytes of the sample. The bytes behind them
     /// are there, for a reader that would look at them.
     fn prefix(&mut self, sample: &Sample, length: usize, places: usize) {
-        let answers = both(&mut self.random, self.tally, &sample.bytes[..length], places);
-        self.seen.answer(&answers.part);
+        let answers = compare_both(&mut self.random, self.tally, &sample.bytes[..length], places);
+        self.seen.answer(&answers.prefix);
         self.seen.answer(&answers.whole);
         self.allocated(&sample.bytes[..length]);
     }
 
-    /// The safe call that finds its own places. Where their number is not
-    /// known the answer is that of any buffer.
+    /// The safe call that allocates `predecessors`. Where its length is not
+    /// known the answer is that of any length.
     fn allocated(&mut self, file: &[u8]) {
-        let places = questions::places(file);
+        let places = queries::places(file);
         let other = self.random.below(9);
-        let answer = whole_reader(file, places.map_or(other, |places| places as usize));
+        let answer = read_file(file, places.map_or(other, |places| places as usize));
         let (verdict, table) = match hivesaddle::read_file_alloc(file) {
             Ok(contents) => {
                 (hivesaddle::Verdict::Accepted(contents.record), Some(contents.predecessors))
@@ -176,8 +176,9 @@ impl Readers<'_> {
         };
         let input = || hex(file);
         let given = safe_verdict(verdict);
-        self.tally.same("read_file_alloc", &numbers_of(&answer.verdict), &given, input);
-        let expected = matches!(answer.verdict, Verdict::Accepted(_)).then_some(answer.buffer);
+        self.tally.same("read_file_alloc", &answer.verdict, &given, input);
+        let expected =
+            matches!(answer.verdict, Verdict::Accepted(_)).then_some(answer.predecessors);
         self.tally.same("read_file_alloc, table", &expected, &table, input);
     }
 
@@ -186,48 +187,42 @@ impl Readers<'_> {
     fn rest_of(&mut self, sample: &Sample) {
         let before = sample.bytes.clone();
         let places = sample.places;
-        let part = part_reader(&before, places);
-        let whole = whole_reader(&before, places);
-        let mut buffer = self.random.numbers(places);
-        let given = safe_verdict(hivesaddle::read_prefix(&sample.bytes, &mut buffer));
-        let input = || format!("{places} places, {}", hex(&before));
-        self.tally.same("read_prefix", &numbers_of(&part.verdict), &given, input);
-        self.tally.same("read_prefix, buffer", &part.buffer, &buffer, input);
-        let given = match hivesaddle::read_file(&sample.bytes, &mut buffer) {
+        let prefix = read_prefix(&before, places);
+        let whole = read_file(&before, places);
+        let mut predecessors = self.random.numbers(places);
+        let given = safe_verdict(hivesaddle::read_prefix(&sample.bytes, &mut predecessors));
+        let input = || format!("{places} slots, {}", hex(&before));
+        self.tally.same("read_prefix", &prefix.verdict, &given, input);
+        self.tally.same("read_prefix, predecessors", &prefix.predecessors, &predecessors, input);
+        let given = match hivesaddle::read_file(&sample.bytes, &mut predecessors) {
             Ok(record) => safe_verdict(hivesaddle::Verdict::Accepted(record)),
             Err(refusal) => safe_verdict(hivesaddle::Verdict::Refused(refusal)),
         };
-        self.tally.same("read_file", &numbers_of(&whole.verdict), &given, input);
-        self.tally.same("read_file, buffer", &whole.buffer, &buffer, input);
+        self.tally.same("read_file", &whole.verdict, &given, input);
+        self.tally.same("read_file, predecessors", &whole.predecessors, &predecessors, input);
         self.tally.same("file unchanged", &before, &sample.bytes, input);
     }
 }
 
-/// The safe call's answer, as the numbers of the C call.
-pub fn safe_verdict(verdict: hivesaddle::Verdict) -> (u32, [u64; READER_OUT]) {
-    let mut out = [0; READER_OUT];
+/// The safe call's answer, as the reference would say it.
+fn safe_verdict(verdict: hivesaddle::Verdict) -> Verdict {
     match verdict {
-        hivesaddle::Verdict::Accepted(record) => {
-            out[3] = record.version as u64;
-            out[4] = record.declared_size as u64;
-            out[5] = record.name_units as u64;
-            out[6] = record.stored_hash as u64;
-            out[7] = record.run_time;
-            out[8] = record.run_count as u64;
-            out[9] = record.metrics_count as u64;
-            out[10] = record.trace_count as u64;
-            out[11] = record.volume_count as u64;
-            out[12] = record.chain_count as u64;
-            (0, out)
-        }
+        hivesaddle::Verdict::Accepted(record) => Verdict::Accepted(Record {
+            version: record.version.into(),
+            declared_size: record.declared_size.into(),
+            name_units: record.name_units.into(),
+            stored_hash: record.stored_hash.into(),
+            run_time: record.run_time,
+            run_count: record.run_count.into(),
+            metrics_count: record.metrics_count.into(),
+            trace_count: record.trace_count.into(),
+            volume_count: record.volume_count.into(),
+            chain_count: record.chain_count.into(),
+        }),
         hivesaddle::Verdict::Refused(refusal) => {
-            (out[0], out[1]) = (refusal.number as u64, refusal.index);
-            (1, out)
+            Verdict::Refused(Refusal { number: refusal.number.into(), index: refusal.index })
         }
-        hivesaddle::Verdict::Wanted(bytes) => {
-            out[2] = bytes;
-            (2, out)
-        }
+        hivesaddle::Verdict::Wanted(bytes) => Verdict::Wanted(bytes),
     }
 }
 
@@ -294,7 +289,7 @@ impl Seen {
 }
 
 fn hit(sample: &Sample, number: u64) -> u64 {
-    match part_reader(&sample.bytes, sample.places).verdict {
+    match read_prefix(&sample.bytes, sample.places).verdict {
         Verdict::Refused(refusal) if refusal.number == number => 1,
         _ => 0,
     }

@@ -2,7 +2,7 @@
 //! numbers for a part, parts that overlap, and sections cut.
 
 use super::Run;
-use crate::beside::both;
+use crate::boundary::compare_both;
 use crate::generate::bare::{bare, one_volume_of};
 use crate::generate::damage::{directory_ends, volume_start};
 use crate::generate::{set_16, set_32, sound_of, Counts};
@@ -38,7 +38,7 @@ struct Volumes<'a> {
 
 impl Volumes<'_> {
     fn file(&mut self, file: &[u8]) {
-        let answer = both(&mut self.random, self.tally, file, 0).part;
+        let answer = compare_both(&mut self.random, self.tally, file, 0).prefix;
         self.seen.answer(file, &answer);
     }
 
@@ -47,7 +47,7 @@ impl Volumes<'_> {
         self.file(file);
         let end = section(file, VOLUMES).end() as usize;
         if end <= file.len() {
-            both(&mut self.random, self.tally, &file[..end - 1], 0);
+            compare_both(&mut self.random, self.tally, &file[..end - 1], 0);
         }
     }
 

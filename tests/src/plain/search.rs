@@ -7,7 +7,7 @@ use hivesaddle::{FoundPath, Report};
 pub fn find_path(file: &[u8]) -> Option<FoundPath> {
     let (layout, sections) = opening(file).ok()?;
     let [metrics, _, strings, _] = &sections;
-    let (entries, strings) = (lent(file, metrics), lent(file, strings));
+    let (entries, strings) = (there(file, metrics), there(file, strings));
     let (version, stored) = (number(file, 0), number(file, 76) as u32);
     for (entry, bytes) in entries.chunks_exact(layout.metrics_entry).enumerate() {
         let Some(name) = name(strings, bytes, layout) else {
@@ -30,7 +30,7 @@ fn opening(file: &[u8]) -> Result<(&'static Layout, [Section; 4]), Refusal> {
 }
 
 /// As much of a section as there is.
-fn lent<'a>(file: &'a [u8], section: &Section) -> &'a [u8] {
+fn there<'a>(file: &'a [u8], section: &Section) -> &'a [u8] {
     match section.length {
         0 => &[],
         _ => &file[section.start.min(file.len())..section.end().min(file.len())],
@@ -48,9 +48,9 @@ fn name<'a>(strings: &'a [u8], entry: &[u8], layout: &Layout) -> Option<&'a [u8]
 
 fn matches(name: &[u8], version: usize, stored: u32) -> Option<Report> {
     match version {
-        17 => (xp(name)? == stored).then_some(Report::NoneToMake),
-        26 => (of_2008(name)? == stored).then_some(Report::NoneToMake),
-        _ => match (steps(name, SEED)? == stored, of_2008(name)? == stored) {
+        17 => (hash_xp(name)? == stored).then_some(Report::NoneToMake),
+        26 => (hash_2008(name)? == stored).then_some(Report::NoneToMake),
+        _ => match (steps(name, SEED)? == stored, hash_2008(name)? == stored) {
             (true, true) => Some(Report::Both),
             (true, false) => Some(Report::VistaOnly),
             (false, true) => Some(Report::Only2008),
@@ -80,12 +80,12 @@ fn steps(name: &[u8], from: u32) -> Option<u32> {
     (!zero).then_some(h)
 }
 
-fn xp(name: &[u8]) -> Option<u32> {
+fn hash_xp(name: &[u8]) -> Option<u32> {
     let h = steps(name, 0)?.wrapping_mul(314_159_269);
     Some((h as i32).unsigned_abs() % 1_000_000_007)
 }
 
-fn of_2008(name: &[u8]) -> Option<u32> {
+fn hash_2008(name: &[u8]) -> Option<u32> {
     let (mut h, mut zero) = (SEED, false);
     let mut rest = name;
     while rest.len() > 16 {

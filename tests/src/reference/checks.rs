@@ -1,4 +1,4 @@
-//! Checks 1 to 15 with their reaches, in the order of the paper's table.
+//! Checks 1 to 15 with their required lengths, in the order of the paper's table.
 
 use super::head::*;
 use super::layout::LARGEST_SIZE;
@@ -15,63 +15,75 @@ pub struct Refusal {
 #[derive(Clone, Copy, Debug, PartialEq, Eq)]
 pub enum Stop {
     Refused(Refusal),
-    /// More bytes are wanted: exactly the reach.
+    /// More bytes are wanted: exactly the required length.
     Wanted(u64),
 }
 
-/// Bytes, and the places of the working buffer.
-pub struct Lent<'a> {
+/// Bytes, and how many slots `predecessors` has.
+pub struct Input<'a> {
     pub bytes: &'a [u8],
     pub places: u64,
 }
 
 struct Check {
     number: u64,
-    /// The prefix length at which the check is decided. The checks before it
-    /// are passed.
-    reach: fn(&[u8]) -> u64,
-    /// The refusal, if there is one. As many bytes as the reach are there.
-    fault: fn(&Lent) -> Option<Refusal>,
+    /// The prefix length at which the check is decided, the paper's reach. The
+    /// checks before it are passed.
+    required: fn(&[u8]) -> u64,
+    /// The refusal, if there is one. As many bytes as required are there.
+    fault: fn(&Input) -> Option<Refusal>,
 }
 
 /// Checks 14 and 15 are one pass over the volumes.
 const CHECKS: [Check; 14] = [
-    Check { number: 1, reach: |_| 4, fault: |lent| at_zero(1, unknown_version(lent)) },
-    Check { number: 2, reach: |_| 8, fault: |lent| at_zero(2, wrong_signature(lent)) },
-    Check { number: 3, reach: |_| 16, fault: |lent| at_zero(3, wrong_size(lent)) },
-    Check { number: 4, reach: |_| 76, fault: |lent| at_zero(4, endless_name(lent)) },
-    Check { number: 5, reach: head_end, fault: |lent| at(5, section_outside(lent)) },
-    Check { number: 6, reach: head_end, fault: |lent| at(6, section_shared(lent)) },
-    Check { number: 7, reach: head_end, fault: |lent| at_zero(7, too_few_places(lent)) },
-    Check { number: 8, reach: head_end, fault: |lent| at_zero(8, too_many_volumes(lent)) },
-    Check { number: 9, reach: reach_of_9, fault: |lent| at(9, name_outside(lent)) },
-    Check { number: 10, reach: reach_of_10, fault: |lent| at(10, name_unsound(lent)) },
-    Check { number: 11, reach: reach_of_trace, fault: |lent| at(11, trace::wild(lent.bytes)) },
-    Check { number: 12, reach: reach_of_trace, fault: |lent| at(12, trace::shared(lent.bytes)) },
-    Check { number: 13, reach: reach_of_trace, fault: |lent| at(13, trace::ring(lent.bytes)) },
-    Check { number: 14, reach: reach_of_volumes, fault: |lent| volumes::first_fault(lent.bytes) },
+    Check { number: 1, required: |_| 4, fault: |input| at_zero(1, unknown_version(input)) },
+    Check { number: 2, required: |_| 8, fault: |input| at_zero(2, wrong_signature(input)) },
+    Check { number: 3, required: |_| 16, fault: |input| at_zero(3, wrong_size(input)) },
+    Check { number: 4, required: |_| 76, fault: |input| at_zero(4, endless_name(input)) },
+    Check { number: 5, required: head_end, fault: |input| at(5, section_outside(input)) },
+    Check { number: 6, required: head_end, fault: |input| at(6, section_shared(input)) },
+    Check { number: 7, required: head_end, fault: |input| at_zero(7, too_few_slots(input)) },
+    Check { number: 8, required: head_end, fault: |input| at_zero(8, too_many_volumes(input)) },
+    Check { number: 9, required: metrics_required, fault: |input| at(9, name_outside(input)) },
+    Check { number: 10, required: names_required, fault: |input| at(10, name_unsound(input)) },
+    Check { number: 11, required: trace_required, fault: |input| at(11, trace::wild(input.bytes)) },
+    Check {
+        number: 12,
+        required: trace_required,
+        fault: |input| at(12, trace::shared(input.bytes)),
+    },
+    Check {
+        number: 13,
+        required: trace_required,
+        fault: |input| at(13, trace::cycle(input.bytes)),
+    },
+    Check {
+        number: 14,
+        required: volumes_required,
+        fault: |input| volumes::first_fault(input.bytes),
+    },
 ];
 
 /// The first of all checks that isn't passed.
-pub fn first_stop(lent: &Lent) -> Option<Stop> {
-    CHECKS.iter().find_map(|check| stop(check, lent))
+pub fn first_stop(input: &Input) -> Option<Stop> {
+    CHECKS.iter().find_map(|check| stop(check, input))
 }
 
 /// Whether the checks of these numbers pass. They are taken in order, each
 /// needing those before it.
-pub fn pass(lent: &Lent, numbers: &[u64]) -> bool {
+pub fn pass(input: &Input, numbers: &[u64]) -> bool {
     CHECKS
         .iter()
         .filter(|check| numbers.contains(&check.number))
-        .all(|check| stop(check, lent).is_none())
+        .all(|check| stop(check, input).is_none())
 }
 
-fn stop(check: &Check, lent: &Lent) -> Option<Stop> {
-    let reach = (check.reach)(lent.bytes);
-    if (lent.bytes.len() as u64) < reach {
-        return Some(Stop::Wanted(reach));
+fn stop(check: &Check, input: &Input) -> Option<Stop> {
+    let required = (check.required)(input.bytes);
+    if (input.bytes.len() as u64) < required {
+        return Some(Stop::Wanted(required));
     }
-    (check.fault)(lent).map(Stop::Refused)
+    (check.fault)(input).map(Stop::Refused)
 }
 
 fn at_zero(number: u64, fault: bool) -> Option<Refusal> {
@@ -82,56 +94,56 @@ fn at(number: u64, index: Option<u64>) -> Option<Refusal> {
     index.map(|index| Refusal { number, index })
 }
 
-fn reach_of_9(file: &[u8]) -> u64 {
+fn metrics_required(file: &[u8]) -> u64 {
     section_end(file, METRICS)
 }
 
-fn reach_of_10(file: &[u8]) -> u64 {
+fn names_required(file: &[u8]) -> u64 {
     if metrics_count(file) == 0 {
         return head_end(file);
     }
     section_end(file, METRICS).max(section_end(file, STRINGS))
 }
 
-fn reach_of_trace(file: &[u8]) -> u64 {
+fn trace_required(file: &[u8]) -> u64 {
     section_end(file, TRACE)
 }
 
-fn reach_of_volumes(file: &[u8]) -> u64 {
+fn volumes_required(file: &[u8]) -> u64 {
     if volume_count(file) == 0 {
         return head_end(file);
     }
     section_end(file, VOLUMES)
 }
 
-fn unknown_version(lent: &Lent) -> bool {
-    layout(lent.bytes).is_none()
+fn unknown_version(input: &Input) -> bool {
+    layout(input.bytes).is_none()
 }
 
-fn wrong_signature(lent: &Lent) -> bool {
-    lent.bytes[4..8] != [0x53, 0x43, 0x43, 0x41]
+fn wrong_signature(input: &Input) -> bool {
+    input.bytes[4..8] != [0x53, 0x43, 0x43, 0x41]
 }
 
-fn wrong_size(lent: &Lent) -> bool {
-    let size = declared_size(lent.bytes);
-    size < head_end(lent.bytes) || size > LARGEST_SIZE
+fn wrong_size(input: &Input) -> bool {
+    let size = declared_size(input.bytes);
+    size < head_end(input.bytes) || size > LARGEST_SIZE
 }
 
-fn endless_name(lent: &Lent) -> bool {
-    name_units(lent.bytes).is_none()
+fn endless_name(input: &Input) -> bool {
+    name_units(input.bytes).is_none()
 }
 
-fn section_outside(lent: &Lent) -> Option<u64> {
+fn section_outside(input: &Input) -> Option<u64> {
     (1..=4).find(|&which| {
-        let section = section(lent.bytes, which);
-        let starts_early = section.start < head_end(lent.bytes);
-        let ends_late = section.end() > declared_size(lent.bytes);
+        let section = section(input.bytes, which);
+        let starts_early = section.start < head_end(input.bytes);
+        let ends_late = section.end() > declared_size(input.bytes);
         !section.is_empty() && (starts_early || ends_late)
     })
 }
 
-fn section_shared(lent: &Lent) -> Option<u64> {
-    (2..=4).find(|&which| (1..which).any(|lower| share_a_byte(lent.bytes, which, lower)))
+fn section_shared(input: &Input) -> Option<u64> {
+    (2..=4).find(|&which| (1..which).any(|lower| share_a_byte(input.bytes, which, lower)))
 }
 
 fn share_a_byte(file: &[u8], one: u64, other: u64) -> bool {
@@ -141,13 +153,13 @@ fn share_a_byte(file: &[u8], one: u64, other: u64) -> bool {
     !one.is_empty() && !other.is_empty() && first_shared < after_shared
 }
 
-fn too_few_places(lent: &Lent) -> bool {
-    lent.places < trace_count(lent.bytes)
+fn too_few_slots(input: &Input) -> bool {
+    input.places < trace_count(input.bytes)
 }
 
-fn too_many_volumes(lent: &Lent) -> bool {
-    let wanted = volume_count(lent.bytes) * known_layout(lent.bytes).volume_entry;
-    wanted > section(lent.bytes, VOLUMES).length
+fn too_many_volumes(input: &Input) -> bool {
+    let wanted = volume_count(input.bytes) * known_layout(input.bytes).volume_entry;
+    wanted > section(input.bytes, VOLUMES).length
 }
 
 /// Where metrics entry i says that its name is, in the strings section.
@@ -176,14 +188,14 @@ pub fn name_of_entry(file: &[u8], i: u64) -> Name {
     }
 }
 
-fn name_outside(lent: &Lent) -> Option<u64> {
-    let strings = section(lent.bytes, STRINGS).length;
-    (0..metrics_count(lent.bytes)).find(|&i| name_of_entry(lent.bytes, i).end() > strings)
+fn name_outside(input: &Input) -> Option<u64> {
+    let strings = section(input.bytes, STRINGS).length;
+    (0..metrics_count(input.bytes)).find(|&i| name_of_entry(input.bytes, i).end() > strings)
 }
 
-fn name_unsound(lent: &Lent) -> Option<u64> {
-    (0..metrics_count(lent.bytes))
-        .find(|&i| !name_is_sound(lent.bytes, &name_of_entry(lent.bytes, i)))
+fn name_unsound(input: &Input) -> Option<u64> {
+    (0..metrics_count(input.bytes))
+        .find(|&i| !name_is_sound(input.bytes, &name_of_entry(input.bytes, i)))
 }
 
 /// No zero among its units, and a zero unit directly after them. The name

@@ -3,7 +3,7 @@
 const MODULUS: i128 = 4_294_967_296;
 
 /// XP: from 0, with the end step.
-pub fn xp(numbers: &[u32]) -> u32 {
+pub fn hash_xp(numbers: &[u32]) -> u32 {
     let h = plain_steps(0, numbers);
     xp_end_step((h * 314159269).rem_euclid(MODULUS))
 }
@@ -16,12 +16,12 @@ pub fn xp_end_step(after: i128) -> u32 {
 }
 
 /// Vista: from 314159, no end step.
-pub fn vista(numbers: &[u32]) -> u32 {
+pub fn hash_vista(numbers: &[u32]) -> u32 {
     plain_steps(314159, numbers) as u32
 }
 
 /// 2008: eight numbers at a time while more than eight remain.
-pub fn of_2008(numbers: &[u32]) -> u32 {
+pub fn hash_2008(numbers: &[u32]) -> u32 {
     let mut h: i128 = 314159;
     let mut rest = numbers;
     while rest.len() > 8 {
@@ -55,12 +55,12 @@ mod points {
 
     #[test]
     fn of_nothing_and_of_short_names() {
-        assert_eq!(xp(&[]), 0);
-        assert_eq!(vista(&[]), 314159);
-        assert_eq!(vista(&[65]), 11623948);
-        assert_eq!(of_2008(&[65]), 11623948);
-        assert_eq!(vista(&[65, 66]), 430086142);
-        assert_eq!(xp(&[65]), 54483988);
+        assert_eq!(hash_xp(&[]), 0);
+        assert_eq!(hash_vista(&[]), 314159);
+        assert_eq!(hash_vista(&[65]), 11623948);
+        assert_eq!(hash_2008(&[65]), 11623948);
+        assert_eq!(hash_vista(&[65, 66]), 430086142);
+        assert_eq!(hash_xp(&[65]), 54483988);
     }
 
     #[test]

@@ -50,7 +50,7 @@ pub const LAYOUTS: [Layout; 3] = [
 pub const LARGEST_SIZE: u64 = 16_777_215;
 /// Bytes of a trace entry, in every version.
 pub const TRACE_ENTRY: u64 = 12;
-/// The end of a chain, and a working place that names no entry.
+/// The end of a chain, and a slot that holds no entry.
 pub const END: u32 = 4_294_967_295;
 
 pub fn layout_of(version: u32) -> Option<&'static Layout> {

@@ -1,10 +1,10 @@
 //! What the program writes for the bytes on its standard input.
 
 use super::head::{name_unit, name_units};
-use super::readers::{whole_reader, Record, Verdict};
+use super::readers::{read_file, Record, Verdict};
 use super::search::{find_path, Found, Report};
 
-/// The longest input, and the working places of the program.
+/// The longest input, and the slots of the program.
 pub const LONGEST_INPUT: usize = 49_151;
 pub const PLACES: usize = 4_096;
 
@@ -12,10 +12,10 @@ pub fn listing(input: &[u8]) -> String {
     if input.len() > LONGEST_INPUT {
         return "too long\n".to_string();
     }
-    match whole_reader(input, PLACES).verdict {
+    match read_file(input, PLACES).verdict {
         Verdict::Accepted(record) => lines(input, &record),
         Verdict::Refused(refusal) => format!("refused {} {}\n", refusal.number, refusal.index),
-        Verdict::Wanted(_) => unreachable!("the whole reader asks for nothing"),
+        Verdict::Wanted(_) => unreachable!("the whole-file reader asks for nothing"),
     }
 }
 

@@ -1,5 +1,6 @@
 //! The requirements, put into Rust plainly and in their own order. Nothing
-//! here is meant to be fast, and nothing here calls the library.
+//! here is meant to be fast, and nothing here calls the library. The names
+//! are those of the glossary in docs/ARCHITECTURE.md.
 
 pub mod catalogue;
 pub mod checks;
@@ -7,7 +8,7 @@ pub mod hashes;
 pub mod head;
 pub mod layout;
 pub mod listing;
-pub mod questions;
+pub mod queries;
 pub mod readers;
 pub mod search;
 pub mod trace;

@@ -1,6 +1,7 @@
-//! The part reader, the whole reader and the working buffer.
+//! The prefix reader, the whole-file reader and `predecessors`: the paper's part
+//! reader, whole reader and working buffer.
 
-use super::checks::{first_stop, Lent, Refusal, Stop};
+use super::checks::{first_stop, Input, Refusal, Stop};
 use super::head::*;
 use super::layout::END;
 use super::trace;
@@ -26,27 +27,27 @@ pub enum Verdict {
     Wanted(u64),
 }
 
-/// A verdict, and the working buffer afterwards.
+/// A verdict, and `predecessors` afterwards.
 #[derive(Clone, Debug, PartialEq, Eq)]
 pub struct Answer {
     pub verdict: Verdict,
-    pub buffer: Vec<u32>,
+    pub predecessors: Vec<u32>,
 }
 
-pub fn part_reader(prefix: &[u8], places: usize) -> Answer {
-    let lent = Lent { bytes: prefix, places: places as u64 };
-    match first_stop(&lent) {
+pub fn read_prefix(prefix: &[u8], places: usize) -> Answer {
+    let input = Input { bytes: prefix, places: places as u64 };
+    match first_stop(&input) {
         None => Answer {
             verdict: Verdict::Accepted(record(prefix)),
-            buffer: trace::predecessors(prefix, places),
+            predecessors: trace::predecessors(prefix, places),
         },
         Some(Stop::Refused(refusal)) => no_acceptance(Verdict::Refused(refusal), places),
         Some(Stop::Wanted(bytes)) => no_acceptance(Verdict::Wanted(bytes), places),
     }
 }
 
-pub fn whole_reader(file: &[u8], places: usize) -> Answer {
-    let answer = part_reader(file, places);
+pub fn read_file(file: &[u8], places: usize) -> Answer {
+    let answer = read_prefix(file, places);
     let number = match answer.verdict {
         Verdict::Refused(_) => return answer,
         Verdict::Wanted(_) => 16,
@@ -60,7 +61,7 @@ pub fn whole_reader(file: &[u8], places: usize) -> Answer {
 }
 
 fn no_acceptance(verdict: Verdict, places: usize) -> Answer {
-    Answer { verdict, buffer: vec![END; places] }
+    Answer { verdict, predecessors: vec![END; places] }
 }
 
 /// What an accepted file says of itself.

@@ -1,8 +1,8 @@
 //! The path search.
 
-use super::hashes::{of_2008, units, vista, xp};
+use super::hashes::{hash_2008, hash_vista, hash_xp, units};
 use super::head::*;
-use super::questions::{head_and_sections_pass, name_of_shown_entry};
+use super::queries::{head_and_sections_pass, name_of_shown_entry};
 
 #[derive(Clone, Copy, Debug, PartialEq, Eq)]
 pub enum Report {
@@ -35,9 +35,9 @@ fn matches(file: &[u8], text: &[u8]) -> Option<Report> {
     let numbers = units(text);
     let stored = stored_hash(file) as u32;
     match known_layout(file).version {
-        17 => (xp(&numbers) == stored).then_some(Report::NoneToMake),
-        26 => (of_2008(&numbers) == stored).then_some(Report::NoneToMake),
-        _ => match (vista(&numbers) == stored, of_2008(&numbers) == stored) {
+        17 => (hash_xp(&numbers) == stored).then_some(Report::NoneToMake),
+        26 => (hash_2008(&numbers) == stored).then_some(Report::NoneToMake),
+        _ => match (hash_vista(&numbers) == stored, hash_2008(&numbers) == stored) {
             (true, true) => Some(Report::Both),
             (true, false) => Some(Report::VistaOnly),
             (false, true) => Some(Report::Only2008),

@@ -37,7 +37,7 @@ fn times_named(file: &[u8]) -> Vec<u64> {
 
 /// Check 13: the smallest entry that a walk from it comes back to. A walk
 /// that has not come back after as many steps as entries never does.
-pub fn ring(file: &[u8]) -> Option<u64> {
+pub fn cycle(file: &[u8]) -> Option<u64> {
     let links = links(file);
     (0..links.len() as u64).find(|&entry| comes_back(&links, entry))
 }
@@ -61,7 +61,7 @@ pub fn chain_count(file: &[u8]) -> u64 {
     times_named(file).iter().filter(|&&times| times == 0).count() as u64
 }
 
-/// Place j holds the entry that names j as next, or the end mark.
+/// Slot j holds the entry that names j as next, or the end mark.
 pub fn predecessors(file: &[u8], places: usize) -> Vec<u32> {
     let mut table = vec![END; places];
     for (entry, link) in links(file).into_iter().enumerate() {

@@ -1,3 +1,4 @@
+-- The version that was looked up decides.
 use Rattle.catalogue.proofs.Line.{form-known, form-unknown}
 use mathlib.Core.Path.{sym, _∙_}
 use borrow.Author.Needs.{needs}
@@ -18,8 +19,9 @@ enum-told c = search needs
 
 returns : tie.Need-returns
 returns c =
-    c .size-in-range .ensures
-    ∙ sym (form-known (c .before .before .before .before .before .args .fields) _ _ (c .before .before .before .before .of .ensures .answer) (c .before .before .v .given .1))
+    let known = c .before .before in
+    let of = known .before .before in
+    c .size-in-range .ensures ∙ sym (form-known (of .before .args .fields) _ _ (of .of .ensures .answer) (known .v .given .1))
 
 returns-2 : tie.Need-returns-2
 returns-2 c = sym (form-unknown (c .before .before .before .args .fields) _ (c .before .before .of .ensures .answer) (c .enum-told .given .1))

@@ -1,3 +1,4 @@
+-- No frame, a frame whose fields form no line, and a good line: a law of `reading` for each.
 use Rattle.catalogue.proofs.Line.{read-formed, read-unformed, read-no-frame, frame-true}
 use mathlib.Core.Path.{sym, _∙_}
 use borrow.Author.Tests.{not-true, not-false}
@@ -20,12 +21,14 @@ can-form-requires c κs = search needs
 returns-2 : tie.Need-returns-2
 returns-2 c =
     let b = c .before .before .before in
-    read-formed _ _ _ (sym (b .before .is-frame .ensures) ∙ not-false _ (b .if1 .left)) (c .before .before .fields-of .ensures) (c .before .can-form .ensures) (c .if2 .taken)
+    let frame = sym (b .before .is-frame .ensures) ∙ not-false _ (b .if1 .left) in
+    read-formed _ _ _ frame (c .before .before .fields-of .ensures) (c .before .can-form .ensures) (c .if2 .taken)
 
 returns-3 : tie.Need-returns-3
 returns-3 c =
     let b = c .before .before .before in
-    read-unformed _ _ _ (sym (b .before .is-frame .ensures) ∙ not-false _ (b .if1 .left)) (c .before .before .fields-of .ensures) (c .before .can-form .ensures) (c .if2 .left)
+    let frame = sym (b .before .is-frame .ensures) ∙ not-false _ (b .if1 .left) in
+    read-unformed _ _ _ frame (c .before .before .fields-of .ensures) (c .before .can-form .ensures) (c .if2 .left)
 
 pub read-line-spec : {M : Type 1} → statement M
 read-line-spec =

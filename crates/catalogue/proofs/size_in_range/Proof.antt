@@ -1,8 +1,9 @@
+-- Two comparisons, as the definition has them.
 use Prim.Native.Nat.{_≤_, _<_}
 use mathlib.Core.Path.{ap}
 use native.Mathlib.Omega.{arith}
 use borrow.Author.Tests.{le-leb, lt-leb}
-use Rattle.layout.specs.Versions.{layoutOf}
+use Rattle.layout.specs.Versions.{layoutOf, headEnd}
 use Rattle.layout.specs.declared.Layout.{Layout}
 use borrow.Author.Needs.{needs}
 use Rattle.catalogue.proofs.size_in_range.Statement.{statement}
@@ -11,19 +12,22 @@ use Rattle.catalogue.proofs.size_in_range.Tie as tie
 of-requires : tie.Need-of-requires
 of-requires c κs = search needs
 
+cast-if1 : tie.Need-cast-if1
+cast-if1 c = search needs
+
 returns : tie.Need-returns
 returns c =
     let a = c .before .before .before .args in
-    let h = ap (λ (l : Layout). l .head) (c .before .before .of .ensures) in
-    let z : a .size < layoutOf (a .version) .head = omega arith in
+    let h = ap (λ (l : Layout). headEnd l) (c .before .before .of .ensures) in
+    let z : a .size < headEnd (layoutOf (a .version)) = omega arith in
     rw (lt-leb _ _ z)
 
 returns-2 : tie.Need-returns-2
 returns-2 c =
     let a = c .before .before .before .args in
-    let h = ap (λ (l : Layout). l .head) (c .before .before .of .ensures) in
-    let z : layoutOf (a .version) .head ≤ a .size = omega arith in
+    let h = ap (λ (l : Layout). headEnd l) (c .before .before .of .ensures) in
+    let z : headEnd (layoutOf (a .version)) ≤ a .size = omega arith in
     rw (le-leb _ _ z)
 
 pub size-in-range-spec : {M : Type 1} → statement M
-size-in-range-spec = tie.close (tie.spec of-requires returns returns-2)
+size-in-range-spec = tie.close (tie.spec of-requires cast-if1 returns returns-2)

@@ -1,3 +1,4 @@
+-- Too little room, fields that form no line, and a line: a law of `Writing` for each.
 use Rattle.catalogue.proofs.Line.{write-short, write-unformed, write-formed}
 use borrow.Author.Needs.{needs}
 use Rattle.catalogue.proofs.write_line.Statement.{statement}

@@ -1,3 +1,4 @@
+-- A line that reads gives 0 and its fields, any other gives 18 and zeros; `read-is` says that reading it means just that.
 use mathlib.Core.Path.{refl}
 use Rattle.hivesaddle.proofs.Output.{read-is}
 use borrow.Author.Needs.{needs}

@@ -1,3 +1,4 @@
+-- The writer's own contract speaks of the output; only its answer is left to turn into 0 or 19, case by case.
 use mathlib.Core.Path.{ap}
 use Rattle.catalogue.specs.Line.{writtenNumber}
 use Rattle.hivesaddle.proofs.Output.{writing-is}

@@ -1,3 +1,4 @@
+-- A found entry gives 1, its index and the report's number; no path gives 0 and zeros, as the definition of the answer has it.
 use mathlib.Core.Path.{refl}
 use Rattle.hivesaddle.proofs.Output.{answered-case}
 use Rattle.path_search.specs.Search.{pathSaid}
@@ -27,13 +28,26 @@ same-length : tie.Need-same-length
 same-length c = search needs
 
 returns : tie.Need-returns
-returns c = answered-case pathSaid (c .before .before .before .before .before .before .before .before .find-path .result) _ _ _ (c .before .before .before .before .before .before .before .before .before .before .before .args .out .now) _ (c .before .before .before .before .before .before .before .before .find-path .ensures) (c .before .before .before .before .before .before .index .given .1) refl (rw (c .before .before .before .report-number .ensures) at (c .before .before .put-two .ensures))
+returns c =
+    let put = c .before .before in
+    let report = put .before in
+    let arm = report .before .before .before in
+    let find = arm .before .before in
+    let start = find .before .before .before in
+    answered-case pathSaid (find .find-path .result) _ _ _ (start .args .out .now) _ (find .find-path .ensures) (arm .index .given .1) refl
+    (rw (report .report-number .ensures) at (put .put-two .ensures))
 
 same-length-2 : tie.Need-same-length-2
 same-length-2 c = search needs
 
 returns-2 : tie.Need-returns-2
-returns-2 c = answered-case pathSaid (c .before .before .before .before .before .before .find-path .result) _ _ _ (c .before .before .before .before .before .before .before .before .before .args .out .now) _ (c .before .before .before .before .before .before .find-path .ensures) (c .before .before .before .before .enum-told .given .1) refl (c .before .before .put-two2 .ensures)
+returns-2 c =
+    let put = c .before .before in
+    let told = put .before .before in
+    let find = told .before .before in
+    let start = find .before .before .before in
+    answered-case pathSaid (find .find-path .result) _ _ _ (start .args .out .now) _ (find .find-path .ensures) (told .enum-told .given .1) refl
+    (put .put-two2 .ensures)
 
 pub hs-find-path-spec : {M : Type 1} → statement M
 hs-find-path-spec =

@@ -1,3 +1,4 @@
+-- A known number of places gives 1 and that number; an unknown one gives 0 and a zero, as the definition of the answer has it.
 use Rattle.query.specs.Queries.{placesSaid}
 use mathlib.Core.Path.{refl}
 use Rattle.hivesaddle.proofs.Output.{answered-case}
@@ -27,13 +28,24 @@ same-length : tie.Need-same-length
 same-length c = search needs
 
 returns : tie.Need-returns
-returns c = answered-case placesSaid (c .before .before .before .before .before .before .before .places .result) _ _ _ (c .before .before .before .before .before .before .before .before .before .before .args .out .now) _ (c .before .before .before .before .before .before .before .places .ensures) (c .before .before .before .before .before .n .given .1) refl (c .before .before .put-one .ensures)
+returns c =
+    let put = c .before .before in
+    let arm = put .before .before .before in
+    let places = arm .before .before in
+    let start = places .before .before .before in
+    answered-case placesSaid (places .places .result) _ _ _ (start .args .out .now) _ (places .places .ensures) (arm .n .given .1) refl (put .put-one .ensures)
 
 same-length-2 : tie.Need-same-length-2
 same-length-2 c = search needs
 
 returns-2 : tie.Need-returns-2
-returns-2 c = answered-case placesSaid (c .before .before .before .before .before .before .places .result) _ _ _ (c .before .before .before .before .before .before .before .before .before .args .out .now) _ (c .before .before .before .before .before .before .places .ensures) (c .before .before .before .before .enum-told .given .1) refl (c .before .before .put-one2 .ensures)
+returns-2 c =
+    let put = c .before .before in
+    let told = put .before .before in
+    let places = told .before .before in
+    let start = places .before .before .before in
+    answered-case placesSaid (places .places .result) _ _ _ (start .args .out .now) _ (places .places .ensures) (told .enum-told .given .1) refl
+    (put .put-one2 .ensures)
 
 pub hs-places-spec : {M : Type 1} → statement M
 hs-places-spec =

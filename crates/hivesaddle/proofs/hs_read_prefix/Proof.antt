@@ -16,7 +16,12 @@ same-length-2 : tie.Need-same-length-2
 same-length-2 c = search needs
 
 returns : tie.Need-returns
-returns c = let w = c .before .before .put-verdict .ensures in read-out _ _ (c .before .before .before .before .before .before .read-prefix .result) _ _ (c .before .before .before .before .before .before .before .before .before .before .before .args .out .now) _ (c .before .before .before .before .before .before .read-prefix .ensures) (w .0) (w .1)
+returns c =
+    let put = c .before .before in
+    let read = put .before .before .before .before in
+    let start = read .before .before .before .before .before in
+    let w = put .put-verdict .ensures in
+    read-out _ _ (read .read-prefix .result) _ _ (start .args .out .now) _ (read .read-prefix .ensures) (w .0) (w .1)
 
 pub hs-read-prefix-spec : {M : Type 1} → statement M
 hs-read-prefix-spec =

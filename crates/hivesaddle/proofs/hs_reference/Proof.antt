@@ -1,3 +1,4 @@
+-- A shown reference gives 1, its index and its sequence number; one that is not shown gives 0 and two zeros.
 use Rattle.query.specs.Queries.{referenceSaid}
 use mathlib.Core.Path.{refl}
 use Rattle.hivesaddle.proofs.Output.{answered-case}
@@ -27,13 +28,25 @@ same-length : tie.Need-same-length
 same-length c = search needs
 
 returns : tie.Need-returns
-returns c = answered-case referenceSaid (c .before .before .before .before .before .before .before .before .reference .result) _ _ _ (c .before .before .before .before .before .before .before .before .before .before .before .args .out .now) _ (c .before .before .before .before .before .before .before .before .reference .ensures) (c .before .before .before .before .before .before .r .given .1) refl (c .before .before .put-two .ensures)
+returns c =
+    let put = c .before .before in
+    let arm = put .before .before .before .before in
+    let reference = arm .before .before in
+    let start = reference .before .before .before in
+    answered-case referenceSaid (reference .reference .result) _ _ _ (start .args .out .now) _ (reference .reference .ensures)
+    (arm .r .given .1) refl (put .put-two .ensures)
 
 same-length-2 : tie.Need-same-length-2
 same-length-2 c = search needs
 
 returns-2 : tie.Need-returns-2
-returns-2 c = answered-case referenceSaid (c .before .before .before .before .before .before .reference .result) _ _ _ (c .before .before .before .before .before .before .before .before .before .args .out .now) _ (c .before .before .before .before .before .before .reference .ensures) (c .before .before .before .before .enum-told .given .1) refl (c .before .before .put-two2 .ensures)
+returns-2 c =
+    let put = c .before .before in
+    let told = put .before .before in
+    let reference = told .before .before in
+    let start = reference .before .before .before in
+    answered-case referenceSaid (reference .reference .result) _ _ _ (start .args .out .now) _ (reference .reference .ensures)
+    (told .enum-told .given .1) refl (put .put-two2 .ensures)
 
 pub hs-reference-spec : {M : Type 1} → statement M
 hs-reference-spec =

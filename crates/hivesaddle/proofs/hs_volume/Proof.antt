@@ -1,3 +1,4 @@
+-- A shown volume gives 1 and its facts; one that is not shown gives 0 and the facts that are all zeros.
 use Rattle.query.specs.Queries.{volumeSaid}
 use mathlib.Core.Path.{refl}
 use Rattle.hivesaddle.proofs.Output.{answered-case}
@@ -27,13 +28,26 @@ same-length : tie.Need-same-length
 same-length c = search needs
 
 returns : tie.Need-returns
-returns c = answered-case volumeSaid (c .before .before .before .before .before .before .before .volume .result) _ _ _ (c .before .before .before .before .before .before .before .before .before .before .args .out .now) _ (c .before .before .before .before .before .before .before .volume .ensures) (c .before .before .before .before .before .f .given .1) refl (c .before .before .put-facts .ensures)
+returns c =
+    let put = c .before .before in
+    let arm = put .before .before .before in
+    let volume = arm .before .before in
+    let start = volume .before .before .before in
+    answered-case volumeSaid (volume .volume .result) _ _ _ (start .args .out .now) _ (volume .volume .ensures) (arm .f .given .1) refl
+    (put .put-facts .ensures)
 
 same-length-2 : tie.Need-same-length-2
 same-length-2 c = search needs
 
 returns-2 : tie.Need-returns-2
-returns-2 c = answered-case volumeSaid (c .before .before .before .before .before .before .before .volume .result) _ _ _ (c .before .before .before .before .before .before .before .before .before .before .args .out .now) _ (c .before .before .before .before .before .before .before .volume .ensures) (c .before .before .before .before .before .enum-told .given .1) refl (rw (c .before .before .before .no-facts .ensures) at (c .before .before .put-facts2 .ensures))
+returns-2 c =
+    let put = c .before .before in
+    let blank = put .before in
+    let told = blank .before .before in
+    let volume = told .before .before in
+    let start = volume .before .before .before in
+    answered-case volumeSaid (volume .volume .result) _ _ _ (start .args .out .now) _ (volume .volume .ensures) (told .enum-told .given .1) refl
+    (rw (blank .no-facts .ensures) at (put .put-facts2 .ensures))
 
 pub hs-volume-spec : {M : Type 1} → statement M
 hs-volume-spec =

@@ -1,3 +1,4 @@
+-- After i turns the first i values stand over the output's start; the loop ends where the output or the values do.
 use mathlib.Core.Path.{_≡_, refl, sym, ap, _∙_}
 use mathlib.Core.Logic.{inl, inr}
 use Prim.Native.Nat.{ℕ, _+_, _-_, _≤_, _<_}
@@ -48,7 +49,9 @@ loop-again c =
       simp length-set (omega arith),
       omega arith,
       simp length-set (b .loop .inv .2),
-      rw (b .loop .inv .3, add-one i) (ap (λ (k : ℕ). set (paste (a .out .now) 0 (a .values .now) i) k (getD (a .values .now) i 0)) (sym e) ∙ paste-suc (a .out .now) 0 (a .values .now) i 0 l (omega arith)),
+      rw (b .loop .inv .3, add-one i)
+          (ap (λ (k : ℕ). set (paste (a .out .now) 0 (a .values .now) i) k (getD (a .values .now) i 0)) (sym e)
+          ∙ paste-suc (a .out .now) 0 (a .values .now) i 0 l (omega arith)),
     )
 
 same-length : tie.Need-same-length Inv-loop μ-loop

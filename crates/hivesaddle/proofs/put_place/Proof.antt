@@ -1,3 +1,4 @@
+-- A shown place gives 1, its offset and its length; one that is not shown gives 0 and two zeros.
 use mathlib.Core.Path.{refl}
 use Rattle.lists.proofs.Answers.{answers}
 use Rattle.query.specs.Queries.{placeSaid}
@@ -22,13 +23,23 @@ same-length : tie.Need-same-length
 same-length c = search needs
 
 returns : tie.Need-returns
-returns c = answered-case placeSaid _ _ (c .before .before .before .before .before .before .before .before .args .answer) _ (c .before .before .before .before .before .before .before .before .args .out .now) _ (answers placeSaid _ _ refl) (c .before .before .before .before .before .answer .given .1) refl (c .before .before .put-two .ensures)
+returns c =
+    let put = c .before .before in
+    let arm = put .before .before .before in
+    let start = arm .before .before .before in
+    answered-case placeSaid _ _ (start .args .answer) _ (start .args .out .now) _ (answers placeSaid _ _ refl) (arm .answer .given .1) refl
+    (put .put-two .ensures)
 
 same-length-2 : tie.Need-same-length-2
 same-length-2 c = search needs
 
 returns-2 : tie.Need-returns-2
-returns-2 c = answered-case placeSaid _ _ (c .before .before .before .before .before .before .before .args .answer) _ (c .before .before .before .before .before .before .before .args .out .now) _ (answers placeSaid _ _ refl) (c .before .before .before .before .enum-told .given .1) refl (c .before .before .put-two2 .ensures)
+returns-2 c =
+    let put = c .before .before in
+    let told = put .before .before in
+    let start = told .before .before .before in
+    answered-case placeSaid _ _ (start .args .answer) _ (start .args .out .now) _ (answers placeSaid _ _ refl) (told .enum-told .given .1) refl
+    (put .put-two2 .ensures)
 
 pub put-place-spec : {M : Type 1} → statement M
 put-place-spec =

@@ -1,3 +1,4 @@
+-- Each of the three verdicts has its own number and its own values; where no record is accepted the record's values are zeros.
 use mathlib.Core.Path.{refl}
 use Rattle.hivesaddle.proofs.Output.{verdict-out}
 use borrow.Author.Needs.{needs}
@@ -32,19 +33,33 @@ same-length : tie.Need-same-length
 same-length c = search needs
 
 returns : tie.Need-returns
-returns c = verdict-out _ _ _ (c .before .before .before .before .before .before .before .before .args .out .now) _ (c .before .before .before .before .before .v .given .1) refl (c .before .before .put-values .ensures)
+returns c =
+    let put = c .before .before in
+    let arm = put .before .before .before in
+    let start = arm .before .before .before in
+    verdict-out _ _ _ (start .args .out .now) _ (arm .v .given .1) refl (put .put-values .ensures)
 
 same-length-2 : tie.Need-same-length-2
 same-length-2 c = search needs
 
 returns-2 : tie.Need-returns-2
-returns-2 c = verdict-out _ _ _ (c .before .before .before .before .before .before .before .before .before .args .out .now) _ (c .before .before .before .before .before .before .v2 .given .1) refl (rw (c .before .before .before .no-record .ensures) at (c .before .before .put-values2 .ensures))
+returns-2 c =
+    let put = c .before .before in
+    let blank = put .before in
+    let arm = blank .before .before .before in
+    let start = arm .before .before .before in
+    verdict-out _ _ _ (start .args .out .now) _ (arm .v2 .given .1) refl (rw (blank .no-record .ensures) at (put .put-values2 .ensures))
 
 same-length-3 : tie.Need-same-length-3
 same-length-3 c = search needs
 
 returns-3 : tie.Need-returns-3
-returns-3 c = verdict-out _ _ _ (c .before .before .before .before .before .before .before .before .before .args .out .now) _ (c .before .before .before .before .before .before .v3 .given .1) refl (rw (c .before .before .before .no-record2 .ensures) at (c .before .before .put-values3 .ensures))
+returns-3 c =
+    let put = c .before .before in
+    let blank = put .before in
+    let arm = blank .before .before .before in
+    let start = arm .before .before .before in
+    verdict-out _ _ _ (start .args .out .now) _ (arm .v3 .given .1) refl (rw (blank .no-record2 .ensures) at (put .put-values3 .ensures))
 
 pub put-verdict-spec : {M : Type 1} → statement M
 put-verdict-spec =

@@ -1,3 +1,4 @@
+-- The case of the verdict decides which text is put; `listed` joins it with what the whole-file reader left in the working buffer.
 use native.Mathlib.Omega.{arith}
 use Rattle.listing_text.proofs.Bounds.{accepted-units}
 use Rattle.listing_text.proofs.Lines.{listed-too-long, listed-accepted, listed-refused, listed-wanted}
@@ -8,14 +9,25 @@ use Rattle.listing_text.proofs.list.Tie as tie
 fill-requires : tie.Need-fill-requires
 fill-requires c κs = search needs
 
-too-long-text-requires : tie.Need-too-long-text-requires
-too-long-text-requires c κs = search needs
+put-too-long-requires : tie.Need-put-too-long-requires
+put-too-long-requires c κs = search needs
 
 same-length : tie.Need-same-length
 same-length c = search needs
 
+same-length-2 : tie.Need-same-length-2
+same-length-2 c = search needs
+
 returns : tie.Need-returns
-returns c = listed-too-long _ _ (λ i. omega (arith, c .before .before .before .before .before .before .before .shared-slice-known .given i)) _ _ (c .before .before .before .before .before .if1 .taken) (c .before .before .before .fill .ensures) (c .too-long-text .ensures)
+returns c =
+    let text = c .before .before in
+    let filled = text .before .before .before .before in
+    let test = filled .before .before in
+    let known = test .before .before .before in
+    listed-too-long _ _ (λ i. omega (arith, known .shared-slice-known .given i)) _ _ _ _
+    (test .if1 .taken)
+    (filled .fill .ensures)
+    (text .put-too-long .ensures)
 
 read-file-requires : tie.Need-read-file-requires
 read-file-requires c κs = search needs
@@ -23,57 +35,91 @@ read-file-requires c κs = search needs
 enum-known-a : tie.Need-enum-known-a
 enum-known-a c = search needs
 
-accepted-text-requires : tie.Need-accepted-text-requires
-accepted-text-requires c κs = omega (arith, accepted-units _ _ _ _ _ (λ i. omega (arith, c .before .before .before .before .before .before .before .before .before .shared-slice-known .given i)) (c .before .before .before .before .before .read-file .ensures) (c .before .a .given .1))
+put-accepted-requires : tie.Need-put-accepted-requires
+put-accepted-requires c κs =
+    let a = c .before .before in
+    let read = a .before .before .before .before in
+    let known = read .before .before .before .before .before in
+    omega (
+      arith,
+      accepted-units _ _ _ _ _ (λ i. omega (arith, known .shared-slice-known .given i)) (read .read-file .ensures) (a .a .given .1),
+    )
 
 enum-known-r : tie.Need-enum-known-r
 enum-known-r c = search needs
 
-refused-text-requires : tie.Need-refused-text-requires
-refused-text-requires c κs = search needs
+put-refused-requires : tie.Need-put-refused-requires
+put-refused-requires c κs = search needs
 
 enum-told : tie.Need-enum-told
 enum-told c = search needs
 
-empty-requires : tie.Need-empty-requires
-empty-requires c κs = search needs
-
-same-length-2 : tie.Need-same-length-2
-same-length-2 c = search needs
-
-returns-2 : tie.Need-returns-2
-returns-2 c = listed-accepted _ _ (λ i. omega (arith, c .before .before .before .before .before .before .before .before .before .before .shared-slice-known .given i)) (c .before .before .before .before .before .before .before .before .if1 .left) _ _ (c .before .before .before .before .before .before .read-file .ensures) _ _ (c .before .before .a .given .1) (c .accepted-text .ensures)
-
 same-length-3 : tie.Need-same-length-3
 same-length-3 c = search needs
-
-returns-3 : tie.Need-returns-3
-returns-3 c = listed-refused _ _ (λ i. omega (arith, c .before .before .before .before .before .before .before .before .before .before .shared-slice-known .given i)) (c .before .before .before .before .before .before .before .before .if1 .left) _ _ (c .before .before .before .before .before .before .read-file .ensures) _ _ (c .before .before .r .given .1) (c .refused-text .ensures)
 
 same-length-4 : tie.Need-same-length-4
 same-length-4 c = search needs
 
+returns-2 : tie.Need-returns-2
+returns-2 c =
+    let text = c .before .before in
+    let case = text .before .before .before in
+    let read = case .before .before .before .before in
+    let test = read .before .before in
+    let known = test .before .before .before in
+    listed-accepted _ _ (λ i. omega (arith, known .shared-slice-known .given i)) (test .if1 .left) _ _
+    (read .read-file .ensures) _ _ _ _
+    (case .a .given .1)
+    (text .put-accepted .ensures)
+
+same-length-5 : tie.Need-same-length-5
+same-length-5 c = search needs
+
+same-length-6 : tie.Need-same-length-6
+same-length-6 c = search needs
+
+returns-3 : tie.Need-returns-3
+returns-3 c =
+    let text = c .before .before in
+    let case = text .before .before .before in
+    let read = case .before .before .before .before in
+    let test = read .before .before in
+    let known = test .before .before .before in
+    listed-refused _ _ (λ i. omega (arith, known .shared-slice-known .given i)) (test .if1 .left) _ _
+    (read .read-file .ensures) _ _ _ _
+    (case .r .given .1)
+    (text .put-refused .ensures)
+
+same-length-7 : tie.Need-same-length-7
+same-length-7 c = search needs
+
 returns-4 : tie.Need-returns-4
-returns-4 c = listed-wanted _ _ (λ i. omega (arith, c .before .before .before .before .before .before .before .before .before .shared-slice-known .given i)) (c .before .before .before .before .before .before .before .if1 .left) _ _ (c .before .before .before .before .before .read-file .ensures) _ _ (c .before .enum-told .given .1) (record { sound = c .empty .ensures .0; text = c .empty .ensures .1 })
+returns-4 c =
+    let read = c .before .before .before .before in
+    let test = read .before .before in
+    let known = test .before .before .before in
+    listed-wanted _ _ (λ i. omega (arith, known .shared-slice-known .given i)) (test .if1 .left) _ _ (read .read-file .ensures) _ _ (c .enum-told .given .1)
 
 pub list-spec : {M : Type 1} → statement M
 list-spec =
     tie.close
     (tie.spec
     fill-requires
-    too-long-text-requires
+    put-too-long-requires
     same-length
+    same-length-2
     returns
     read-file-requires
     enum-known-a
-    accepted-text-requires
+    put-accepted-requires
     enum-known-r
-    refused-text-requires
+    put-refused-requires
     enum-told
-    empty-requires
-    same-length-2
-    returns-2
     same-length-3
-    returns-3
     same-length-4
+    returns-2
+    same-length-5
+    same-length-6
+    returns-3
+    same-length-7
     returns-4)

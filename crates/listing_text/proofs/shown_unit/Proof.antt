@@ -1,3 +1,4 @@
+-- Two comparisons, as the definition has them.
 use borrow.Author.Tests.{le-leb, lt-leb}
 use borrow.Author.Needs.{needs}
 use Rattle.listing_text.proofs.shown_unit.Statement.{statement}

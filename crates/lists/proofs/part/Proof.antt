@@ -1,3 +1,4 @@
+-- An offset past the end gives no bytes, a length past the end gives the rest, and any other part lies whole within.
 use mathlib.Core.Path.{refl}
 use native.Mathlib.Omega.{arith}
 use Rattle.lists.proofs.Parts.{is-part-none, is-part-rest, is-part-whole}

@@ -1,3 +1,4 @@
+-- Each turn looks at one unit; those that were passed are not zero, so the first zero unit met is the answer.
 use mathlib.Core.Path.{_≡_, sym, _∙_}
 use Prim.Native.Nat.{_+_, _-_, _*_, _≤_}
 use native.Mathlib.Omega.{arith}

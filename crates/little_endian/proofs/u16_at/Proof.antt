@@ -1,3 +1,4 @@
+-- Bytes past the end count as zero: no byte there gives 0, one gives itself, and two are read whole.
 use Prim.Native.Nat.{_+_}
 use mathlib.Core.Path.{sym}
 use native.Mathlib.Omega.{arith}

@@ -1,3 +1,4 @@
+-- Six bytes are four low ones and two high ones; past the end all of them count as zero.
 use mathlib.Core.Path.{sym}
 use native.Mathlib.Omega.{arith}
 use Rattle.little_endian.proofs.Number.{le-split, le-past}

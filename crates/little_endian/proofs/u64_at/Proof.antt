@@ -1,3 +1,4 @@
+-- Bytes past the end count as zero; a number cut short is that of its two halves, each of which may be cut.
 use mathlib.Core.Path.{sym}
 use native.Mathlib.Omega.{arith}
 use Rattle.little_endian.proofs.Number.{le-split, le-past}

@@ -1,3 +1,4 @@
+-- Two bytes that are there: the second counts 256 times, and a byte is below 256, so 16 bits hold the sum.
 use Prim.Native.Nat.{_+_}
 use native.Mathlib.Omega.{arith}
 use Rattle.little_endian.specs.Number.{le}

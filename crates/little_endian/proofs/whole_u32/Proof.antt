@@ -1,3 +1,4 @@
+-- Four bytes are two halves of two bytes each, and the upper half counts 65536 times: `le-split` at two.
 use native.Mathlib.Omega.{arith}
 use Rattle.little_endian.proofs.Number.{le-split}
 use borrow.Author.Needs.{needs}

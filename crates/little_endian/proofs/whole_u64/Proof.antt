@@ -1,3 +1,4 @@
+-- Eight bytes are two halves of four bytes each, and the upper half counts 2^32 times: `le-split` at four.
 use native.Mathlib.Omega.{arith}
 use Rattle.little_endian.proofs.Number.{le-split}
 use borrow.Author.Needs.{needs}

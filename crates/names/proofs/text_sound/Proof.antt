@@ -1,3 +1,4 @@
+-- Eight units without a zero leave the rest to decide, a zero among them decides at once; fewer than eight go one by one.
 use mathlib.Core.Path.{_≡_, sym, _∙_}
 use Prim.Native.Nat.{_+_, _*_, _-_, _≤_}
 use native.Mathlib.Omega.{arith}

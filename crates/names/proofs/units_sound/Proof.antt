@@ -1,3 +1,4 @@
+-- The units passed so far are not zero; one that is refuses the text, and after the last one a zero must stand.
 use mathlib.Core.Path.{_≡_, sym, _∙_}
 use mathlib.Core.Bool.{false}
 use Prim.Native.Nat.{ℕ, _+_, _*_, _≤_, _<_, _-_}

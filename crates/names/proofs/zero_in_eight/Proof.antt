@@ -1,3 +1,4 @@
+-- Each of the eight calls says whether its unit is zero; their disjunction is the definition's, unit by unit.
 use borrow.Author.Needs.{needs}
 use Rattle.names.proofs.Laws.{zero-in-eight}
 use Rattle.names.proofs.zero_in_eight.Statement.{statement}

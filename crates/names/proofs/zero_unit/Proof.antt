@@ -1,3 +1,4 @@
+-- The unit is its low byte and 256 times its high byte, both of which are there; it is compared with zero.
 use Prim.Native.Nat.{_+_}
 use native.Mathlib.Omega.{arith}
 use borrow.Author.Needs.{needs}

@@ -1,3 +1,4 @@
+-- The sum and the product stay below 2^64, each is reduced to 32 bits, and subtraction wraps as in the definition.
 use borrow.Author.Needs.{needs}
 use Rattle.path_hash.specs.Hash.{eight, eightSum}
 use Rattle.path_hash.proofs.Laws.{wrapped}

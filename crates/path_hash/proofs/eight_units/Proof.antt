@@ -1,3 +1,4 @@
+-- The eight units from i are there, and each call reads one; the step at them is the definition's.
 use borrow.Author.Needs.{needs}
 use Rattle.path_hash.proofs.eight_units.Statement.{statement}
 use Rattle.path_hash.proofs.eight_units.Tie as tie

@@ -1,3 +1,4 @@
+-- An eight-number step equals eight plain steps, so after each turn the plain hash of the rest is the whole hash.
 use mathlib.Core.Path.{_≡_, sym, _∙_}
 use Prim.Native.Nat.{_+_, _-_, _≤_}
 use native.Mathlib.Omega.{arith}

@@ -1,3 +1,4 @@
+-- An eight-number step equals eight plain steps, so what hash the rest gives from here is that of the whole text.
 use mathlib.Core.Path.{_≡_, sym, _∙_}
 use Prim.Native.Nat.{_-_, _*_, _≤_}
 use native.Mathlib.Omega.{arith}

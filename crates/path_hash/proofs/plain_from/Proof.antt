@@ -1,3 +1,4 @@
+-- After i turns the plain hash of the numbers left, from the hash so far, is that of all of them.
 use borrow.Author.Needs.{needs}
 use mathlib.Core.Path.{_≡_, refl, sym, _∙_}
 use Prim.Native.Nat.{_-_, _≤_, _<_}

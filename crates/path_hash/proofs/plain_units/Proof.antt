@@ -1,3 +1,4 @@
+-- After each turn the plain hash of the units left, from the hash so far, is that of all from the start.
 use mathlib.Core.Path.{_≡_, refl, sym, _∙_}
 use Prim.Native.Nat.{_-_, _*_, _≤_, _<_}
 use native.Mathlib.Omega.{arith}

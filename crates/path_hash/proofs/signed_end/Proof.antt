@@ -1,3 +1,4 @@
+-- The definition's own test on the product: below 2^31 it is taken as it is, else by its magnitude.
 use mathlib.Core.Path.{ap}
 use Prim.Native.Nat.{ℕ, _%_}
 use native.Mathlib.Omega.{arith}

@@ -1,3 +1,4 @@
+-- Unit i is formed of the bytes at 2i and 2i + 1, both of which are there: `getD-units`.
 use Prim.Native.Nat.{_+_, _*_}
 use native.Mathlib.Omega.{arith}
 use Rattle.little_endian.specs.Number.{le}

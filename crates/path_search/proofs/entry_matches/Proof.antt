@@ -1,3 +1,4 @@
+-- A name that does not fit differs; one that fits is hashed first, and only where the hash is equal its soundness decides.
 use mathlib.Core.Path.{refl, sym, _∙_}
 use native.Mathlib.Omega.{arith}
 use borrow.Author.Tests.{not-true, not-false}
@@ -18,7 +19,7 @@ name-fits-requires c κs = search needs
 
 returns : tie.Need-returns
 returns c =
-    match-misfit _ _ _ _ _ (c .before .before .before .name-at .ensures) (c .before .before .name-units .ensures)
+    match-misfit _ _ _ _ _ _ (c .before .before .before .name-at .ensures) (c .before .before .name-units .ensures)
     (sym (c .before .name-fits .ensures) ∙ not-true _ (c .if1 .taken))
 
 cast-start : tie.Need-cast-start
@@ -58,12 +59,19 @@ enum-told c = search needs
 
 returns-2 : tie.Need-returns-2
 returns-2 c =
-    match-equals _ _ _ _ _ (c .before .before .before .before .before .before .before .before .before .name-at .ensures) (c .before .before .before .before .before .before .before .before .name-units .ensures) refl (c .before .before .before .before .name-matches .ensures) (c .before .before .report .given .1)
+    let arm = c .before .before in
+    let name = arm .before .before in
+    let name-units = name .before .before .before .before in
+    let name-at = name-units .before in
+    match-equals _ _ _ _ _ _ (name-at .name-at .ensures) (name-units .name-units .ensures) refl (name .name-matches .ensures) (arm .report .given .1)
     (c .where-sound .ensures)
 
 returns-3 : tie.Need-returns-3
 returns-3 c =
-    match-differs _ _ _ _ _ (c .before .before .before .before .before .before .before .name-at .ensures) (c .before .before .before .before .before .before .name-units .ensures) refl (c .before .before .name-matches .ensures) (c .enum-told .given .1)
+    let name = c .before .before in
+    let name-units = name .before .before .before .before in
+    let name-at = name-units .before in
+    match-differs _ _ _ _ _ _ (name-at .name-at .ensures) (name-units .name-units .ensures) refl (name .name-matches .ensures) (c .enum-told .given .1)
 
 pub entry-matches-spec : {M : Type 1} → statement M
 entry-matches-spec =

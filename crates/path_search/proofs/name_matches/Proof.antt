@@ -1,3 +1,4 @@
+-- Each version names its hash or hashes, which the calls compute; the comparison with the stored hash is the definition's.
 use Rattle.path_search.proofs.Laws.{by-version}
 use borrow.Author.Needs.{needs}
 use Rattle.path_search.proofs.name_matches.Statement.{statement}
@@ -6,8 +7,8 @@ use Rattle.path_search.proofs.name_matches.Tie as tie
 enum-told : tie.Need-enum-told
 enum-told c = search needs
 
-xp-hash-units-requires : tie.Need-xp-hash-units-requires
-xp-hash-units-requires c κs = search needs
+hash-xp-units-requires : tie.Need-hash-xp-units-requires
+hash-xp-units-requires c κs = search needs
 
 one-hash-requires : tie.Need-one-hash-requires
 one-hash-requires c κs = search needs
@@ -15,8 +16,8 @@ one-hash-requires c κs = search needs
 enum-told-2 : tie.Need-enum-told-2
 enum-told-2 c = search needs
 
-vista-hash-units-requires : tie.Need-vista-hash-units-requires
-vista-hash-units-requires c κs = search needs
+hash-vista-units-requires : tie.Need-hash-vista-units-requires
+hash-vista-units-requires c κs = search needs
 
 hash-2008-units-requires : tie.Need-hash-2008-units-requires
 hash-2008-units-requires c κs = search needs
@@ -47,10 +48,10 @@ name-matches-spec =
     tie.close
     (tie.spec
     enum-told
-    xp-hash-units-requires
+    hash-xp-units-requires
     one-hash-requires
     enum-told-2
-    vista-hash-units-requires
+    hash-vista-units-requires
     hash-2008-units-requires
     two-hashes-requires
     enum-told-3

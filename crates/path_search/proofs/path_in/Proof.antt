@@ -1,3 +1,4 @@
+use Rattle.head.proofs.Facts.{open-sound}
 use Rattle.path_search.proofs.Laws.{metrics-low, path-given}
 use borrow.Author.Needs.{needs}
 use Rattle.path_search.proofs.path_in.Statement.{statement}
@@ -13,7 +14,9 @@ u32-at-requires : tie.Need-u32-at-requires
 u32-at-requires c κs = search needs
 
 search-requires : tie.Need-search-requires
-search-requires c κs = metrics-low (c .before .before .before .before .before .before .before .args .o) _ (c .before .before .before .before .before .before .before .pre) (c .before .before .part-of .ensures .contents)
+search-requires c κs =
+    let s = c .before .before .before .before .before .before .before .before in
+    (metrics-low (s .args .o) _ (s .pre) (c .before .before .part-of .ensures .contents), open-sound _ (s .args .o) (s .pre))
 
 returns : tie.Need-returns
 returns c = search path-given

@@ -1,7 +1,8 @@
+-- The tests in the definition's order; a name that is shown lies in the strings section, so no sum wraps.
 use Prim.Native.Nat.{_+_, _≤_}
 use Rattle.layout.specs.Versions.{sizeLimit}
 use native.Mathlib.Omega.{arith}
-use Rattle.names.proofs.Laws.{entry-low, layout-of-sound}
+use Rattle.layout.proofs.Laws.{entry-low}
 use Rattle.query.proofs.Laws.{entries, name-low}
 use borrow.Author.Needs.{needs}
 use Rattle.query.proofs.entry_in.Statement.{statement}
@@ -16,14 +17,17 @@ returns c = search entries
 part-of-requires : tie.Need-part-of-requires
 part-of-requires c κs = search needs
 
-of-requires : tie.Need-of-requires
-of-requires c κs = search needs
-
 add-if2 : tie.Need-add-if2
 add-if2 c = search needs
 
+cast-if2 : tie.Need-cast-if2
+cast-if2 c = search needs
+
 mul-if2 : tie.Need-mul-if2
-mul-if2 c = omega (arith, entry-low (c .before .of .result) (c .before .before .before .before .before .before .before .before .args .i + 1) (layout-of-sound (c .before .before .before .before .before .before .before .before .args .o .version) (c .before .of .ensures)) (omega arith))
+mul-if2 c =
+    let start = c .before .before .before .before .before .before .before .before in
+    let a = start .args in
+    omega (arith, entry-low (a .i + 1) (a .o .layout .«metrics_entry») (omega arith) (omega arith))
 
 returns-2 : tie.Need-returns-2
 returns-2 c = search entries
@@ -42,7 +46,8 @@ enum-known-w c = search needs
 
 add-t19 : tie.Need-add-t19
 add-t19 c =
-    let o = c .before .before .before .before .before .before .before .before .before .before .before .before .before .before .before .before .before .args .o in
+    let start = c .before .before .before .before .before .before .before .before .before .before .before .before .before .before .before .before .before in
+    let o = start .args .o in
     let w = c .before .before .before .w .given .0 .0 in
     let h : o .head .strings .at + w .at ≤ sizeLimit = search name-low in
     omega arith
@@ -63,8 +68,8 @@ entry-in-spec =
     cast-if1
     returns
     part-of-requires
-    of-requires
     add-if2
+    cast-if2
     mul-if2
     returns-2
     part-of-requires-2

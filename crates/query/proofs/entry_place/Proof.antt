@@ -1,3 +1,4 @@
+-- A file that opens is asked for its entry; one that is refused or too short for checks 1 to 6 shows none.
 use Rattle.query.proofs.Laws.{asking}
 use borrow.Author.Needs.{needs}
 use Rattle.query.proofs.entry_place.Statement.{statement}

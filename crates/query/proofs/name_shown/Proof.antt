@@ -1,3 +1,4 @@
+-- The offset and length are the entry's own, and a name is shown exactly where the test of soundness passes.
 use Rattle.query.proofs.Laws.{names}
 use borrow.Author.Needs.{needs}
 use Rattle.query.proofs.name_shown.Statement.{statement}

@@ -1,3 +1,4 @@
+-- A file that opens needs one place for each trace entry; for any other the number is not known.
 use Rattle.query.proofs.Laws.{asking}
 use borrow.Author.Needs.{needs}
 use Rattle.query.proofs.places.Statement.{statement}

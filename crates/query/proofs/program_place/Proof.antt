@@ -1,5 +1,7 @@
+-- The name stands at a fixed offset with the length that the first checks found; where they fail nothing is shown.
 use native.Mathlib.Omega.{arith}
-use Rattle.head.proofs.Facts.{start-met, name-law}
+use Rattle.head.proofs.Rules.{name-law}
+use Rattle.head.proofs.Facts.{start-met}
 use Rattle.query.proofs.Laws.{asking}
 use borrow.Author.Needs.{needs}
 use Rattle.query.proofs.program_place.Statement.{statement}

@@ -1,3 +1,4 @@
+-- The volume is not shown, or k is past its count of references, or reference k is read: a law for each.
 use native.Mathlib.Omega.{arith}
 use Rattle.query.proofs.Laws.{volumes-asked, section-met}
 use borrow.Author.Needs.{needs}
@@ -14,7 +15,9 @@ returns : tie.Need-returns
 returns c = search volumes-asked
 
 cast-volume-at : tie.Need-cast-volume-at
-cast-volume-at c = omega (arith, section-met _ _ _ _ (c .before .section-shown .ensures) (c .if1 .left) .below, c .before .before .before .before .before .before .good .1 .0)
+cast-volume-at c =
+    let start = c .before .before .before .before .before .before .before in
+    omega (arith, section-met _ _ _ _ (c .before .section-shown .ensures) (c .if1 .left) .below, start .good .1 .0)
 
 volume-at-requires : tie.Need-volume-at-requires
 volume-at-requires c κs = search needs
@@ -26,7 +29,11 @@ returns-2 : tie.Need-returns-2
 returns-2 c = search volumes-asked
 
 cast-reference-at : tie.Need-cast-reference-at
-cast-reference-at c = omega (arith, section-met _ _ _ _ (c .before .before .before .before .section-shown .ensures) (c .before .before .before .if1 .left) .below, c .before .before .before .before .before .before .before .before .before .good .1 .0)
+cast-reference-at c =
+    let test = c .before .before .before in
+    let section = test .before in
+    let start = section .before .before .before .before .before .before in
+    omega (arith, section-met _ _ _ _ (section .section-shown .ensures) (test .if1 .left) .below, start .good .1 .0)
 
 cast-reference-at-2 : tie.Need-cast-reference-at-2
 cast-reference-at-2 c = search needs

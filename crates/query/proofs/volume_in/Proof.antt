@@ -1,3 +1,4 @@
+-- Where the volume's checks pass its facts are read, with the path as a place of the file; else it is not shown.
 use Prim.Native.Nat.{_+_, _*_, _≤_}
 use Rattle.layout.specs.Versions.{sizeLimit}
 use native.Mathlib.Omega.{arith}
@@ -16,21 +17,23 @@ returns : tie.Need-returns
 returns c = search volumes-asked
 
 cast-volume-at : tie.Need-cast-volume-at
-cast-volume-at c = omega (arith, section-met _ _ _ _ (c .before .section-shown .ensures) (c .if1 .left) .below, c .before .before .before .before .before .before .good .1 .0)
+cast-volume-at c =
+    let start = c .before .before .before .before .before .before .before in
+    omega (arith, section-met _ _ _ _ (c .before .section-shown .ensures) (c .if1 .left) .below, start .good .1 .0)
 
 volume-at-requires : tie.Need-volume-at-requires
 volume-at-requires c κs = search needs
 
 add-t12 : tie.Need-add-t12
 add-t12 c =
-    let o = c .before .before .before .before .before .before .before .before .before .args .o in
+    let o = c .before .before .before .before .before .before .before .before .before .before .args .o in
     let v = c .before .before .volume-at .result in
     let h : o .head .volumes .at + v .path + 2 * v .units ≤ sizeLimit = search (path-low, section-met) in
     omega arith
 
 mul-t13 : tie.Need-mul-t13
 mul-t13 c =
-    let o = c .before .before .before .before .before .before .before .before .before .before .args .o in
+    let o = c .before .before .before .before .before .before .before .before .before .before .before .args .o in
     let v = c .before .before .before .volume-at .result in
     let h : o .head .volumes .at + v .path + 2 * v .units ≤ sizeLimit = search (path-low, section-met) in
     omega arith

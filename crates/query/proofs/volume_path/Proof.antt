@@ -1,3 +1,4 @@
+-- The part taken has the offset and length of the volume's answer; where no volume is shown both are 0.
 use Rattle.query.proofs.Laws.{shown-parts}
 use borrow.Author.Needs.{needs}
 use Rattle.query.proofs.volume_path.Statement.{statement}

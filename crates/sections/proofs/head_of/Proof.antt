@@ -1,12 +1,11 @@
-use mathlib.Core.Path.{ap}
-use Rattle.layout.specs.declared.Layout.{Layout}
+-- Each field is read at its offset and each section made of three of them; `head-from` puts them together.
 use Rattle.sections.proofs.Cases.{head-from, section-same, length-same, lengths}
 use borrow.Author.Needs.{needs}
 use Rattle.sections.proofs.head_of.Statement.{statement}
 use Rattle.sections.proofs.head_of.Tie as tie
 
-of-requires : tie.Need-of-requires
-of-requires c κs = search needs
+cast-h : tie.Need-cast-h
+cast-h c = search needs
 
 u32-at-requires : tie.Need-u32-at-requires
 u32-at-requires c κs = search needs
@@ -23,6 +22,9 @@ u32-at-requires-4 c κs = search needs
 cast-section-of : tie.Need-cast-section-of
 cast-section-of c = search needs
 
+cast-section-of-2 : tie.Need-cast-section-of-2
+cast-section-of-2 c = search needs
+
 mul-section-of : tie.Need-mul-section-of
 mul-section-of c = search lengths
 
@@ -32,8 +34,11 @@ section-of-requires c κs = search lengths
 u32-at-requires-5 : tie.Need-u32-at-requires-5
 u32-at-requires-5 c κs = search needs
 
-cast-section-of-2 : tie.Need-cast-section-of-2
-cast-section-of-2 c = search needs
+cast-section-of-3 : tie.Need-cast-section-of-3
+cast-section-of-3 c = search needs
+
+cast-section-of-4 : tie.Need-cast-section-of-4
+cast-section-of-4 c = search needs
 
 mul-section-of-2 : tie.Need-mul-section-of-2
 mul-section-of-2 c = search lengths
@@ -44,8 +49,8 @@ section-of-requires-2 c κs = search lengths
 u32-at-requires-6 : tie.Need-u32-at-requires-6
 u32-at-requires-6 c κs = search needs
 
-cast-section-of-3 : tie.Need-cast-section-of-3
-cast-section-of-3 c = search needs
+cast-section-of-5 : tie.Need-cast-section-of-5
+cast-section-of-5 c = search needs
 
 section-of-requires-3 : tie.Need-section-of-requires-3
 section-of-requires-3 c κs = search needs
@@ -56,8 +61,8 @@ u32-at-requires-7 c κs = search needs
 u32-at-requires-8 : tie.Need-u32-at-requires-8
 u32-at-requires-8 c κs = search needs
 
-cast-section-of-4 : tie.Need-cast-section-of-4
-cast-section-of-4 c = search needs
+cast-section-of-6 : tie.Need-cast-section-of-6
+cast-section-of-6 c = search needs
 
 u32-at-requires-9 : tie.Need-u32-at-requires-9
 u32-at-requires-9 c κs = search needs
@@ -83,39 +88,39 @@ returns c =
     let u3 = u4 .before in
     let u2 = u3 .before in
     let u1 = u2 .before in
-    let e = u1 .before .of .ensures in
-    let h = ap (λ (l : Layout). l .head) e in
     let n1 = u1 .u32-at .ensures in
     let n2 = u2 .u32-at2 .ensures in
     let n3 = u3 .u32-at3 .ensures in
     head-from _ _ _ _ _ _ _ (c .u32-at10 .ensures)
-    (section-same _ _ _ _ _ _ _ _ _ (s1 .section-of .ensures) h (u4 .u32-at4 .ensures) (length-same _ _ _ _ n1 (ap (λ (l : Layout). l .metric) e)) n1)
-    (section-same _ _ _ _ _ _ _ _ _ (s2 .section-of2 .ensures) h (u5 .u32-at5 .ensures) (length-same _ _ _ _ n2 (ap (λ (l : Layout). l .link) e)) n2)
-    (section-same _ _ _ _ _ _ _ _ _ (s3 .section-of3 .ensures) h (u6 .u32-at6 .ensures) n3 n3)
-    (section-same _ _ _ _ _ _ _ _ _ (s4 .section-of4 .ensures) h (u7 .u32-at7 .ensures) (u8 .u32-at8 .ensures) (u9 .u32-at9 .ensures))
+    (section-same _ _ _ _ _ _ _ _ (s1 .section-of .ensures) (u4 .u32-at4 .ensures) (length-same _ _ _ n1) n1)
+    (section-same _ _ _ _ _ _ _ _ (s2 .section-of2 .ensures) (u5 .u32-at5 .ensures) (length-same _ _ _ n2) n2)
+    (section-same _ _ _ _ _ _ _ _ (s3 .section-of3 .ensures) (u6 .u32-at6 .ensures) n3 n3)
+    (section-same _ _ _ _ _ _ _ _ (s4 .section-of4 .ensures) (u7 .u32-at7 .ensures) (u8 .u32-at8 .ensures) (u9 .u32-at9 .ensures))
 
 pub head-of-spec : {M : Type 1} → statement M
 head-of-spec =
     tie.close
     (tie.spec
-    of-requires
+    cast-h
     u32-at-requires
     u32-at-requires-2
     u32-at-requires-3
     u32-at-requires-4
     cast-section-of
+    cast-section-of-2
     mul-section-of
     section-of-requires
     u32-at-requires-5
-    cast-section-of-2
+    cast-section-of-3
+    cast-section-of-4
     mul-section-of-2
     section-of-requires-2
     u32-at-requires-6
-    cast-section-of-3
+    cast-section-of-5
     section-of-requires-3
     u32-at-requires-7
     u32-at-requires-8
-    cast-section-of-4
+    cast-section-of-6
     u32-at-requires-9
     section-of-requires-4
     u32-at-requires-10

@@ -9,9 +9,6 @@ u32-at-requires c κs = search needs
 cast-if1 : tie.Need-cast-if1
 cast-if1 c = search needs
 
-of-requires : tie.Need-of-requires
-of-requires c κs = search needs
-
 returns : tie.Need-returns
 returns c = search faults
 
@@ -23,4 +20,4 @@ returns-3 c = search faults
 
 pub size-fault-spec : {M : Type 1} → statement M
 size-fault-spec =
-    tie.close (tie.spec u32-at-requires cast-if1 of-requires returns returns-2 returns-3)
+    tie.close (tie.spec u32-at-requires cast-if1 returns returns-2 returns-3)

@@ -1,3 +1,4 @@
+-- Storing starts from a filled buffer, and as no entry is astray it leaves the table of predecessors there.
 use mathlib.Core.Path.{_≡_, sym, _∙_, ap}
 use native.Mathlib.Omega.{arith}
 use lib.ListN.{length}
@@ -19,9 +20,12 @@ same-length : tie.Need-same-length
 same-length c = search needs
 
 returns : tie.Need-returns
-returns c = let a = c .before .before .before .before .before .before .before .before .before .before in
-    let s = nexts (a .args .section .now) (a .args .entries) in
-    c .before .before .store-predecessors .ensures .holds (a .pre .sound) ∙ ap (predecessors s) (c .before .before .before .before .before .before .fill .kept .0)
+returns c =
+    let store = c .before .before in
+    let fill = store .before .before .before .before in
+    let a = c .before .before .before .before .before .before .before .before .before .before in
+    let s = nexts (a .args .section .now) (a .args .size) (a .args .entries) in
+    store .store-predecessors .ensures .holds (a .pre .sound) ∙ ap (predecessors s) (fill .fill .kept .0)
 
 pub build-table-spec : {M : Type 1} → statement M
 build-table-spec =

@@ -1,3 +1,4 @@
+-- An entry on a cycle is refused with the buffer filled; where none is found the walk's marks give way to the table again.
 use mathlib.Core.Path.{_≡_, sym, _∙_, ap}
 use native.Mathlib.Omega.{arith}
 use lib.ListN.{length}
@@ -15,7 +16,7 @@ use Rattle.trace.proofs.check_cycles.Tie as tie
 
 find-cycle-requires : tie.Need-find-cycle-requires
 find-cycle-requires c κs = let a = c .before .before .before in
-    let s = nexts (a .args .section .now) (a .args .entries) in
+    let s = nexts (a .args .section .now) (a .args .size) (a .args .entries) in
     (record { room = a .pre .room; sound = a .pre .sound }, distinct s (a .pre .sound) (a .pre .once))
 
 enum-known-found : tie.Need-enum-known-found
@@ -28,12 +29,14 @@ same-length : tie.Need-same-length
 same-length c = search needs
 
 returns : tie.Need-returns
-returns c = let a = c .before .before .before .before .before .before .before .before .before .before .before .before .before in
-    let s = nexts (a .args .section .now) (a .args .entries) in
+returns c =
+    let fill = c .before .before in
+    let a = c .before .before .before .before .before .before .before .before .before .before .before .before .before in
+    let s = nexts (a .args .section .now) (a .args .size) (a .args .entries) in
     let f = c .before .before .before .before .before .before .before .before .before .find-cycle in
     let q = c .before .before .before .before .before .found .given in
-    answer-at 13 (q .0 .0) (length (a .args .buffer .now)) (firstCyclic s) (f .result) (accept (chains s)) s (c .before .before .fill .last .0) (f .ensures) (q .1)
-    (c .before .before .fill .ensures ∙ ap filled (f .kept .1 .1 .0))
+    answer-at 13 (q .0 .0) (length (a .args .buffer .now)) (firstCyclic s) (f .result) (accept (chains s)) s (fill .fill .last .0) (f .ensures) (q .1)
+    (fill .fill .ensures ∙ ap filled (f .kept .1 .1 .1 .0))
 
 enum-told : tie.Need-enum-told
 enum-told c = search needs
@@ -49,11 +52,11 @@ returns-2 c = let t = c .before .before .build-table in
     let n = c .before .before .before .before .enum-told .given in
     let f = c .before .before .before .before .before .before .before .before .find-cycle in
     let a = c .before .before .before .before .before .before .before .before .before .before .before .before in
-    let s = nexts (a .args .section .now) (a .args .entries) in
+    let s = nexts (a .args .section .now) (a .args .size) (a .args .entries) in
     let m = length (a .args .buffer .now) in
-    let b = t .last .1 .1 .0 in
-    let e = length-nexts (a .args .section .now) (a .args .entries) in
-    let h : b ≡ predecessors s m = t .ensures ∙ ap (predecessors s) (f .kept .1 .1 .0) in
+    let b = t .last .1 .1 .1 .0 in
+    let e = length-nexts (a .args .section .now) (a .args .size) (a .args .entries) in
+    let h : b ≡ predecessors s m = t .ensures ∙ ap (predecessors s) (f .kept .1 .1 .1 .0) in
     let k : a .args .ends ≡ chains s = a .pre .counted ∙ sym (chains-are-ends s (omega (arith, e, a .fits .entries)) (a .pre .sound) (a .pre .once)) in
     answer-nothing 13 m (firstCyclic s) (f .result) (accept (chains s)) s b (Chains (a .args .ends)) (f .ensures) (n .1)
     (record { answer = ap accept k; holds = h })

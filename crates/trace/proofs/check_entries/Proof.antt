@@ -1,10 +1,11 @@
+-- One pass finds the first entry astray, or else the smallest named twice, or leaves a table on which check 13 runs.
 use mathlib.Core.Path.{refl, sym, _∙_, ap}
 use native.Mathlib.Omega.{arith}
 use lib.ListN.{length}
 use Rattle.incremental.specs.Decision.{refusal}
 use Rattle.trace.specs.declared.Links.the-variants.{Refused}
 use Rattle.trace.specs.Private.{ends, firstAstray, firstShared, sharedChecks, cycleChecks}
-use Rattle.trace.specs.Links.{nexts, filled, predecessors}
+use Rattle.trace.specs.Links.{nexts, filled, predecessors, linkChecks}
 use Rattle.trace.proofs.Accepted.{sound, once}
 use Rattle.trace.proofs.Answers.{answer-at, answer-nothing, passed-astray, passed-shared, passed-clear}
 use borrow.Author.Needs.{needs}
@@ -31,58 +32,63 @@ enum-known-pass-3 c = search needs
 
 check-order-requires : tie.Need-check-order-requires
 check-order-requires c κs = let a = c .before .before .before .before .before .before .before .before .before .before in
-    let s = nexts (a .args .section .now) (a .args .entries) in
+    let s = nexts (a .args .section .now) (a .args .size) (a .args .entries) in
     let r = c .before .before .before .before .before .before .store-predecessors in
     let q = c .before .before .pass3 .given in
     let w = passed-clear (firstAstray s) (firstShared s) (ends s) (q .0 .0) (sym (r .ensures .found) ∙ q .1) in
     record {
-      room = omega (arith, a .pre .room, r .kept .1 .1 .0);
+      room = omega (arith, a .pre .room, r .kept .1 .1 .1 .0);
       sound = sound s (w .0);
       once = once s (w .1);
       counted = w .2;
-      table = r .ensures .holds (sound s (w .0)) ∙ ap (predecessors s) (sym (r .kept .1 .1 .0));
+      table = r .ensures .holds (sound s (w .0)) ∙ ap (predecessors s) (sym (r .kept .1 .1 .1 .0));
     }
 
 same-length : tie.Need-same-length
 same-length c = search needs
 
 returns : tie.Need-returns
+unfolding linkChecks
 returns c = let a = c .before .before .before .before .before .before .before .before .before .before .before .before .before in
-    let s = nexts (a .args .section .now) (a .args .entries) in
+    let s = nexts (a .args .section .now) (a .args .size) (a .args .entries) in
     let r = c .before .before .before .before .before .before .before .before .before .store-predecessors in
     let q = c .before .before .before .before .before .pass .given in
     answer-at 11 (q .0 .0) (length (a .args .buffer .now)) (firstAstray s) (firstAstray s) (sharedChecks s) s (c .before .before .fill .last .0) refl
     (passed-astray (firstAstray s) (firstShared s) (ends s) (q .0 .0) (sym (r .ensures .found) ∙ q .1))
-    (c .before .before .fill .ensures ∙ ap filled (r .kept .1 .1 .0))
+    (c .before .before .fill .ensures ∙ ap filled (r .kept .1 .1 .1 .0))
 
 same-length-2 : tie.Need-same-length-2
 same-length-2 c = search needs
 
 returns-2 : tie.Need-returns-2
-returns-2 c = let a = c .before .before .before .before .before .before .before .before .before .before .before .before .before in
-    let s = nexts (a .args .section .now) (a .args .entries) in
+unfolding linkChecks
+returns-2 c =
+    let fill = c .before .before in
+    let a = c .before .before .before .before .before .before .before .before .before .before .before .before .before in
+    let s = nexts (a .args .section .now) (a .args .size) (a .args .entries) in
     let m = length (a .args .buffer .now) in
     let r = c .before .before .before .before .before .before .before .before .before .store-predecessors in
     let q = c .before .before .before .before .before .pass2 .given in
     let b = c .before .before .fill2 .last .0 in
     let w = passed-shared (firstAstray s) (firstShared s) (ends s) (q .0 .0) (sym (r .ensures .found) ∙ q .1) in
     answer-nothing 11 m (firstAstray s) (firstAstray s) (sharedChecks s) s b (Refused (refusal 12 (q .0 .0))) refl (w .0)
-    (answer-at 12 (q .0 .0) m (firstShared s) (firstShared s) (cycleChecks s) s b refl (w .1) (c .before .before .fill2 .ensures ∙ ap filled (r .kept .1 .1 .0)))
+    (answer-at 12 (q .0 .0) m (firstShared s) (firstShared s) (cycleChecks s) s b refl (w .1) (fill .fill2 .ensures ∙ ap filled (r .kept .1 .1 .1 .0)))
 
 same-length-3 : tie.Need-same-length-3
 same-length-3 c = search needs
 
 returns-3 : tie.Need-returns-3
+unfolding linkChecks
 returns-3 c = let a = c .before .before .before .before .before .before .before .before .before .before .before .before .before in
-    let s = nexts (a .args .section .now) (a .args .entries) in
+    let s = nexts (a .args .section .now) (a .args .size) (a .args .entries) in
     let m = length (a .args .buffer .now) in
     let r = c .before .before .before .before .before .before .before .before .before .store-predecessors in
     let q = c .before .before .before .before .before .pass3 .given in
     let x = c .before .before .check-order in
-    let b = x .last .1 .1 .1 .0 in
+    let b = x .last .1 .1 .1 .1 .0 in
     let w = passed-clear (firstAstray s) (firstShared s) (ends s) (q .0 .0) (sym (r .ensures .found) ∙ q .1) in
     answer-nothing 11 m (firstAstray s) (firstAstray s) (sharedChecks s) s b (x .result) refl (w .0)
-    (answer-nothing 12 m (firstShared s) (firstShared s) (cycleChecks s) s b (x .result) refl (w .1) (rw (r .kept .1 .1 .0) at (x .ensures)))
+    (answer-nothing 12 m (firstShared s) (firstShared s) (cycleChecks s) s b (x .result) refl (w .1) (rw (r .kept .1 .1 .1 .0) at (x .ensures)))
 
 pub check-entries-spec : {M : Type 1} → statement M
 check-entries-spec =

@@ -1,9 +1,11 @@
+-- Check 7 says whether there is a place for each entry; where there is, checks 11 to 13 run on a filled buffer.
 use mathlib.Core.Path.{_≡_, sym, _∙_, ap}
 use native.Mathlib.Omega.{arith}
 use lib.ListN.{length}
+use Rattle.sections.proofs.Cases.{places-met}
 use Rattle.trace.proofs.Steps.{length-nexts}
 use Rattle.trace.specs.Links.{filled}
-use Rattle.trace.proofs.Answers.{answer-small, answer-links}
+use Rattle.trace.proofs.Answers.{answer-few, answer-links}
 use borrow.Author.Needs.{needs}
 use Rattle.trace.proofs.check_links.Statement.{statement}
 use Rattle.trace.proofs.check_links.Tie as tie
@@ -11,40 +13,53 @@ use Rattle.trace.proofs.check_links.Tie as tie
 fill-requires : tie.Need-fill-requires
 fill-requires c κs = search needs
 
+places-fault-requires : tie.Need-places-fault-requires
+places-fault-requires c κs = search needs
+
+enum-known-i : tie.Need-enum-known-i
+enum-known-i c = search needs
+
 same-length : tie.Need-same-length
 same-length c = search needs
 
 returns : tie.Need-returns
-returns c = let a = c .before .before .before .before .before .before .before .args in
-    answer-small (a .section .now) (a .entries) (length (a .predecessors .now)) (c .before .before .fill .last .0) (c .before .before .before .before .if1 .taken) (c .before .before .fill .ensures)
+returns c =
+    let places = c .before .before .before in
+    let fill = places .before .before .before in
+    answer-few _ _ _ _ _ _ _ (places .places-fault .ensures) (c .before .i .given .1) (fill .fill .ensures)
 
-fill-requires-2 : tie.Need-fill-requires-2
-fill-requires-2 c κs = search needs
+enum-told : tie.Need-enum-told
+enum-told c = search needs
 
 check-entries-requires : tie.Need-check-entries-requires
-check-entries-requires c κs = let a = c .before .before .before .before .before .before .before .before .args in
-    let f = c .before .before .before .fill2 in
+check-entries-requires c κs =
+    let a = c .before .before .before .before .before .before .before .before .before .before .args in
+    let f = c .before .before .before .before .before .before .fill in
     let e : length (f .last .0) ≡ length (a .predecessors .now) = f .kept .0 in
-    record { room = omega (arith, e, length-nexts (a .section .now) (a .entries), c .before .before .before .before .before .if1 .left); clear = f .ensures ∙ ap filled (sym e) }
+    let room = places-met _ _ _ (c .before .before .before .places-fault .ensures) (c .before .enum-told .given .1) in
+    record { room = omega (arith, e, length-nexts (a .section .now) (a .size) (a .entries), room); clear = f .ensures ∙ ap filled (sym e) }
 
 same-length-2 : tie.Need-same-length-2
 same-length-2 c = search needs
 
 returns-2 : tie.Need-returns-2
-returns-2 c = let a = c .before .before .before .before .before .before .before .before .before .before .before .args in
+returns-2 c =
+    let told = c .before .before .before .before in
+    let places = told .before .before in
+    let fill = places .before .before .before in
     let r = c .before .before .check-entries in
-    let f = c .before .before .before .before .before .before .fill2 in
-    answer-links (a .section .now) (a .entries) (length (a .predecessors .now)) (r .result) (r .last .1 .1 .0) (c .before .before .before .before .before .before .before .before .if1 .left)
-    (rw (f .kept .0) at (r .ensures))
+    answer-links _ _ _ _ _ _ _ (places .places-fault .ensures) (told .enum-told .given .1) (rw (fill .fill .kept .0) at (r .ensures))
 
 pub check-links-spec : {M : Type 1} → statement M
 check-links-spec =
     tie.close
     (tie.spec
     fill-requires
+    places-fault-requires
+    enum-known-i
     same-length
     returns
-    fill-requires-2
+    enum-told
     check-entries-requires
     same-length-2
     returns-2)

@@ -1,3 +1,4 @@
+-- Links that only lead on form no cycle, so the table stands; any others are walked by the check for cycles.
 use mathlib.Core.Path.{_≡_, refl, sym, _∙_, ap}
 use native.Mathlib.Omega.{arith}
 use lib.ListN.{length}
@@ -19,9 +20,9 @@ leads-on-requires c κs = search needs
 returns : tie.Need-returns
 returns c =
     let a = c .before .before .before .before in
-    let s = nexts (a .args .section .now) (a .args .entries) in
+    let s = nexts (a .args .section .now) (a .args .size) (a .args .entries) in
     let m = length (a .args .buffer .now) in
-    let e = length-nexts (a .args .section .now) (a .args .entries) in
+    let e = length-nexts (a .args .section .now) (a .args .size) (a .args .entries) in
     let f = forward-acyclic s (omega (arith, e, a .fits .entries)) (a .pre .sound) (c .before .leads-on .ensures (c .if1 .taken)) in
     let k : a .args .ends ≡ chains s = a .pre .counted ∙ sym (chains-are-ends s (omega (arith, e, a .fits .entries)) (a .pre .sound) (a .pre .once)) in
     answer-nothing 13 m (firstCyclic s) (firstCyclic s) (accept (chains s)) s (a .args .buffer .now) (Chains (a .args .ends)) refl f

@@ -1,3 +1,4 @@
+-- After i turns the first i places hold END and the others are as they were; the last turn has passed them all.
 use mathlib.Core.Path.{_≡_, _∙_}
 use mathlib.Core.List.{_++_, append-nil}
 use Prim.Native.Nat.{_-_, _≤_}

@@ -1,3 +1,4 @@
+-- Every entry that an earlier walk marked reaches an end, so it is on no cycle; a walk that comes back to its start has found one.
 use mathlib.Core.Path.{_≡_, refl, sym, _∙_, ap}
 use mathlib.Core.List.{List}
 use mathlib.Core.Logic.{inl, inr, ⊎-elim}
@@ -14,26 +15,26 @@ use Rattle.trace.proofs.first_cyclic.Statement.{statement}
 use Rattle.trace.proofs.first_cyclic.Tie as tie
 
 abbrev Inv-loop : tie.InvT-loop
-Inv-loop section entries marks₀ i j₀ marks j = (length marks ≡ length marks₀) × Walk (nexts section entries) marks i j
+Inv-loop section size entries marks₀ i j₀ marks j = (length marks ≡ length marks₀) × Walk (nexts section size entries) marks i j
 
 abbrev μ-loop : tie.MeasureT-loop
-μ-loop section entries marks₀ i j₀ marks j = unmarked (nexts section entries) marks
+μ-loop section size entries marks₀ i j₀ marks j = unmarked (nexts section size entries) marks
 
 abbrev Inv-entries : tie.InvT-entries
-Inv-entries section entries marks₀ i₀ marks i = (i ≤ entries) × (length marks ≡ length marks₀) × Seen (nexts section entries) marks i
+Inv-entries section size entries marks₀ i₀ marks i = (i ≤ entries) × (length marks ≡ length marks₀) × Seen (nexts section size entries) marks i
 
 abbrev μ-entries : tie.MeasureT-entries
-μ-entries section entries marks₀ i₀ marks i = entries - i
+μ-entries section size entries marks₀ i₀ marks i = entries - i
 
 -- at the outer loop: the function's entry, and the list of next indexes
 abbrev start : tie.At-entries Inv-loop μ-loop Inv-entries μ-entries → tie.Start Inv-loop μ-loop Inv-entries μ-entries
 start c = c .before .before .before
 
 abbrev links : tie.At-entries Inv-loop μ-loop Inv-entries μ-entries → List ℕ
-links c = nexts (start c .args .section .now) (start c .args .entries)
+links c = nexts (start c .args .section .now) (start c .args .size) (start c .args .entries)
 
 size : (c : tie.At-entries Inv-loop μ-loop Inv-entries μ-entries) → length (links c) ≡ start c .args .entries
-size c = length-nexts (start c .args .section .now) (start c .args .entries)
+size c = length-nexts (start c .args .section .now) (start c .args .size) (start c .args .entries)
 
 small : (c : tie.At-entries Inv-loop μ-loop Inv-entries μ-entries) → length (links c) ≤ end
 small c = omega (arith, size c, start c .fits .entries)
@@ -58,7 +59,7 @@ outer c = inner c .before .before .before
 next-is : (c : Next) → c .next-at .result ≡ after (links (outer c)) (inner c .before .loop .j)
 next-is c =
     let a = start (outer c) .args in
-    c .next-at .ensures ∙ sym (after-nexts (a .section .now) (a .entries) (inner c .before .loop .j) (omega (arith, entry (inner c), size (outer c))))
+    c .next-at .ensures ∙ sym (after-nexts (a .section .now) (a .size) (a .entries) (inner c .before .loop .j) (omega (arith, entry (inner c), size (outer c))))
 
 -- the two ways out: after the last entry, and from a walk that came back to its first entry
 all : (c : tie.At-entries Inv-loop μ-loop Inv-entries μ-entries) → start c .args .entries ≤ c .entries .i
@@ -68,13 +69,14 @@ all c l = seen-all (links c) (small c) (c .entries .marks) (c .entries .i) (omeg
 found : (c : Next) → c .next-at .result ≡ outer c .entries .i → Least (cyclic (links (outer c))) (length (links (outer c))) (outer c .entries .i)
 found c e =
     let h = inner c .before in
-    walk-found (links (outer c)) (small (outer c)) (h .loop .marks) (outer c .entries .i) (h .loop .j) (h .loop .inv .1) (entry (inner c)) (c .before .if1 .left)
+    walk-found (links (outer c)) (small (outer c)) (h .loop .marks) (outer c .entries .i) (h .loop .j) (h .loop .inv .1) (entry (inner c))
+    (c .before .if1 .left)
     (sym (next-is c) ∙ e)
 
 entries-holds : tie.Need-entries-holds Inv-loop μ-loop Inv-entries μ-entries
 entries-holds c = let a = c .before .before in
-    let s = nexts (a .args .section .now) (a .args .entries) in
-    let n = length-nexts (a .args .section .now) (a .args .entries) in
+    let s = nexts (a .args .section .now) (a .args .size) (a .args .entries) in
+    let n = length-nexts (a .args .section .now) (a .args .size) (a .args .entries) in
     (omega arith, refl, rw (a .pre .0 .clear) (seen-none s (omega (arith, n, a .fits .entries)) (length (a .args .marks .now)) (a .pre .0 .ready .room)))
 
 loop-holds : tie.Need-loop-holds Inv-loop μ-loop Inv-entries μ-entries
@@ -103,7 +105,11 @@ next-at-requires c κs = tt
 loop-less : tie.Need-loop-less Inv-loop μ-loop Inv-entries μ-entries
 loop-less c = let d = c .before in
     let h = inner d .before in
-    omega (arith, fewer (links (outer d)) (small (outer d)) (h .loop .marks) (outer d .entries .i) (h .loop .j) (h .loop .inv .1) (entry (inner d)) (d .before .if1 .left))
+    omega (
+      arith,
+      fewer (links (outer d)) (small (outer d)) (h .loop .marks) (outer d .entries .i) (h .loop .j) (h .loop .inv .1) (entry (inner d))
+          (d .before .if1 .left),
+    )
 
 loop-again : tie.Need-loop-again Inv-loop μ-loop Inv-entries μ-entries
 loop-again c = let d = c .before in
@@ -111,7 +117,8 @@ loop-again c = let d = c .before in
     let a = start (outer d) in (
       length-set (h .loop .marks) (h .loop .j) (outer d .entries .i) ∙ h .loop .inv .0,
       rw (next-is d)
-          (walk-step (links (outer d)) (small (outer d)) (h .loop .marks) (outer d .entries .i) (h .loop .j) (h .loop .inv .1) (entry (inner d)) (d .before .if1 .left)
+          (walk-step (links (outer d)) (small (outer d)) (h .loop .marks) (outer d .entries .i) (h .loop .j) (h .loop .inv .1) (entry (inner d))
+          (d .before .if1 .left)
           (a .pre .0 .ready .sound) (a .pre .1) (λ e. c .if2 .left (next-is d ∙ e))),
     )
 

@@ -1,3 +1,4 @@
+-- An end changes nothing; a first namer is stored, and a second one may lower the smallest entry that is named twice.
 use mathlib.Core.Path.{refl}
 use mathlib.Core.Logic.{⊎-elim}
 use Prim.Native.Nat.{_<_}

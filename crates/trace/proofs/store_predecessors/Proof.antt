@@ -1,3 +1,4 @@
+-- After i turns the buffer is the table of the first i entries, none of them astray, and `least` is their smallest shared one.
 use mathlib.Core.Logic.{_⊎_, inl, inr, ⊎-elim}
 use mathlib.Core.Path.{_≡_, sym, _∙_, ap}
 use mathlib.Core.List.{List}
@@ -23,21 +24,21 @@ use Rattle.trace.proofs.store_predecessors.Statement.{statement}
 use Rattle.trace.proofs.store_predecessors.Tie as tie
 
 abbrev Inv-loop : tie.InvT-loop
-Inv-loop section entries buffer₀ least₀ ends₀ i₀ buffer least ends i =
+Inv-loop section size entries buffer₀ least₀ ends₀ i₀ buffer least ends i =
     (i ≤ entries)
-    × (buffer ≡ table (nexts section entries) (length buffer₀) i)
-    × Least (sharedBy (nexts section entries) i) entries least
+    × (buffer ≡ table (nexts section size entries) (length buffer₀) i)
+    × Least (sharedBy (nexts section size entries) i) entries least
     × (ends ≤ i)
-    × (ends ≡ namers (nexts section entries) i end)
-    × ((k : ℕ) → k < i → astray (nexts section entries) k ≡ false)
+    × (ends ≡ namers (nexts section size entries) i end)
+    × ((k : ℕ) → k < i → astray (nexts section size entries) k ≡ false)
 
 abbrev μ-loop : tie.MeasureT-loop
-μ-loop section entries buffer₀ least₀ ends₀ i₀ buffer least ends i = entries - i
+μ-loop section size entries buffer₀ least₀ ends₀ i₀ buffer least ends i = entries - i
 
 loop-holds : tie.Need-loop-holds Inv-loop μ-loop
 unfolding namers
 loop-holds c = let a = c .before .before in
-    let s = nexts (a .args .section .now) (a .args .entries) in (
+    let s = nexts (a .args .section .now) (a .args .size) (a .args .entries) in (
       omega arith,
       a .pre .clear ∙ table-none s (length (a .args .buffer .now)),
       least-none s (a .args .entries),
@@ -52,20 +53,23 @@ next-at-requires c κs = search needs
 add-ends : tie.Need-add-ends Inv-loop μ-loop
 add-ends c = search needs
 
-cast-t10 : tie.Need-cast-t10 Inv-loop μ-loop
-cast-t10 c = search needs
+cast-t11 : tie.Need-cast-t11 Inv-loop μ-loop
+cast-t11 c = search needs
 
 same-length : tie.Need-same-length Inv-loop μ-loop
 same-length c = ap length (c .before .before .before .before .loop .inv .1) ∙ length-tabulate _ _
 
 returns : tie.Need-returns Inv-loop μ-loop
-returns c = let b = c .before .before .before .before in
+returns c =
+    let next = c .before .before in
+    let b = c .before .before .before .before in
     let a = b .before .before .before in
     let v = b .loop .inv in
     let i = b .loop .i in
-    let s = nexts (a .args .section .now) (a .args .entries) in
-    let n = length-nexts (a .args .section .now) (a .args .entries) in
-    let e : after s i ≡ c .before .before .next-at .result = after-nexts (a .args .section .now) (a .args .entries) i (omega arith) ∙ sym (c .before .before .next-at .ensures) in
+    let s = nexts (a .args .section .now) (a .args .size) (a .args .entries) in
+    let n = length-nexts (a .args .section .now) (a .args .size) (a .args .entries) in
+    let read = after-nexts (a .args .section .now) (a .args .size) (a .args .entries) i (omega arith) in
+    let e : after s i ≡ next .next-at .result = read ∙ sym (next .next-at .ensures) in
     let h : astray s i ≡ true = astray-yes s i (λ z. c .before .if1 .left (sym e ∙ z)) (omega (arith, n, e)) in
     let f : firstAstray s ≡ _ = first-is-at (astray s) (length s) i (omega (arith, n)) h (v .5) in
     record {
@@ -76,15 +80,18 @@ returns c = let b = c .before .before .before .before in
 -- entry i ends a chain, and is counted, or names an entry
 stepped : (c : tie.Joined1 Inv-loop μ-loop) → let b = c .before .before .before in
     let a = b .before .before .before .args in
-    let s = nexts (a .section .now) (a .entries) in
+    let s = nexts (a .section .now) (a .size) (a .entries) in
     (c .before .next-at .result ≡ after s (b .loop .i))
     × (((after s (b .loop .i) ≡ end) × (c .if1 .ends ≡ b .loop .ends + 1)) ⊎ ((after s (b .loop .i) < length s) × (c .if1 .ends ≡ b .loop .ends)))
-stepped c = let b = c .before .before .before in
+stepped c =
+    let loop = c .before .before in
+    let b = c .before .before .before in
     let a = b .before .before .before .args in
-    let s = nexts (a .section .now) (a .entries) in
-    let n = length-nexts (a .section .now) (a .entries) in
-    let l : b .loop .i < a .entries = c .before .before .loop-test .taken in
-    let e : after s (b .loop .i) ≡ c .before .next-at .result = after-nexts (a .section .now) (a .entries) (b .loop .i) l ∙ sym (c .before .next-at .ensures) in (
+    let s = nexts (a .section .now) (a .size) (a .entries) in
+    let n = length-nexts (a .section .now) (a .size) (a .entries) in
+    let l : b .loop .i < a .entries = loop .loop-test .taken in
+    let read = after-nexts (a .section .now) (a .size) (a .entries) (b .loop .i) l in
+    let e : after s (b .loop .i) ≡ c .before .next-at .result = read ∙ sym (c .before .next-at .ensures) in (
       sym e,
       ⊎-elim
           (λ w. inl (e ∙ w .0 .taken, w .1))
@@ -111,8 +118,8 @@ loop-again c = let b = c .before .before .before .before .before .before .before
     let v = b .loop .inv in
     let i = b .loop .i in
     let m = length (a .args .buffer .now) in
-    let s = nexts (a .args .section .now) (a .args .entries) in
-    let n = length-nexts (a .args .section .now) (a .args .entries) in
+    let s = nexts (a .args .section .now) (a .args .size) (a .args .entries) in
+    let n = length-nexts (a .args .section .now) (a .args .size) (a .args .entries) in
     let d = c .before .before .store-predecessor .ensures in
     let w = stepped (c .before .before .before .before) in
     let small : length s ≤ end = omega (arith, n, a .fits .entries) in
@@ -141,8 +148,8 @@ loop-again c = let b = c .before .before .before .before .before .before .before
     ))
     (w .1)
 
-cast-t14 : tie.Need-cast-t14 Inv-loop μ-loop
-cast-t14 c = search needs
+cast-t15 : tie.Need-cast-t15 Inv-loop μ-loop
+cast-t15 c = search needs
 
 same-length-2 : tie.Need-same-length-2 Inv-loop μ-loop
 same-length-2 c = ap length (c .before .before .loop .inv .1) ∙ length-tabulate _ _
@@ -152,8 +159,8 @@ unfolding predecessors
 returns-2 c = let b = c .before .before in
     let a = b .before .before .before in
     let v = b .loop .inv in
-    let s = nexts (a .args .section .now) (a .args .entries) in
-    let n = length-nexts (a .args .section .now) (a .args .entries) in
+    let s = nexts (a .args .section .now) (a .args .size) (a .args .entries) in
+    let n = length-nexts (a .args .section .now) (a .args .size) (a .args .entries) in
     let e : b .loop .i ≡ length s = omega arith in
     let l : Least (shared s) (a .args .entries) (b .loop .least) = rw e at (v .2) in
     let f : firstAstray s ≡ _ = first-is-nothing (astray s) (length s) (λ k h. v .5 k (omega arith)) in
@@ -168,8 +175,8 @@ unfolding predecessors
 returns-3 c = let b = c .before .before in
     let a = b .before .before .before in
     let v = b .loop .inv in
-    let s = nexts (a .args .section .now) (a .args .entries) in
-    let n = length-nexts (a .args .section .now) (a .args .entries) in
+    let s = nexts (a .args .section .now) (a .args .size) (a .args .entries) in
+    let n = length-nexts (a .args .section .now) (a .args .size) (a .args .entries) in
     let e : b .loop .i ≡ length s = omega arith in
     let l : Least (shared s) (a .args .entries) (b .loop .least) = rw e at (v .2) in
     let f : firstAstray s ≡ _ = first-is-nothing (astray s) (length s) (λ k h. v .5 k (omega arith)) in
@@ -188,14 +195,14 @@ store-predecessors-spec =
     loop-holds
     next-at-requires
     add-ends
-    cast-t10
+    cast-t11
     same-length
     returns
     store-predecessor-requires
     add-i
     loop-less
     loop-again
-    cast-t14
+    cast-t15
     same-length-2
     returns-2
     same-length-3

@@ -1,3 +1,4 @@
+-- Each turn steps over one string; the checks from the cursor on are those of all, so a failing step decides.
 use mathlib.Core.Path.{_≡_, sym, ap, _∙_}
 use Prim.Native.Nat.{ℕ, _≤_, _-_}
 use native.Mathlib.Omega.{arith}
@@ -9,7 +10,10 @@ use Rattle.volumes.proofs.check_directories.Statement.{statement}
 use Rattle.volumes.proofs.check_directories.Tie as tie
 
 abbrev Inv-loop : tie.InvT-loop
-Inv-loop section i entry count start cursor₀ done₀ cursor done = (done ≤ count) × (directoryChecks section i (directoryCount section entry) (directoriesAt section entry) ≡ directoryChecks section i (count - done) (cursor .at))
+Inv-loop section i entry count start cursor₀ done₀ cursor done =
+    (done ≤ count)
+    × (directoryChecks section i (directoryCount section entry) (directoriesAt section entry)
+    ≡ directoryChecks section i (count - done) (cursor .at))
 
 abbrev μ-loop : tie.MeasureT-loop
 μ-loop section i entry count start cursor₀ done₀ cursor done = count - done
@@ -32,8 +36,11 @@ cast-start c = search needs
 loop-holds : tie.Need-loop-holds Inv-loop μ-loop
 loop-holds c =
     let a = c .before .before .before .args in
-    let s = a .section .now in
-    (omega arith, ap (λ (n : ℕ). directoryChecks s (a .i) n (directoriesAt s (a .entry))) (sym (c .before .u32-at .ensures)) ∙ ap (λ (x : ℕ). directoryChecks s (a .i) (c .before .u32-at .result) x) (sym (c .u32-at2 .ensures)) ∙ directories-start _ _ _ _)
+    let s = a .section .now in (
+      omega arith,
+      ap (λ (n : ℕ). directoryChecks s (a .i) n (directoriesAt s (a .entry))) (sym (c .before .u32-at .ensures))
+          ∙ ap (λ (x : ℕ). directoryChecks s (a .i) (c .before .u32-at .result) x) (sym (c .u32-at2 .ensures)) ∙ directories-start _ _ _ _,
+    )
 
 step-requires : tie.Need-step-requires Inv-loop μ-loop
 step-requires c κs = search needs
@@ -49,8 +56,10 @@ refused-requires c κs = search needs
 
 returns : tie.Need-returns Inv-loop μ-loop
 returns c =
+    let step = c .before .before .before in
     let w = c .before .before .before .before .before .loop in
-    ap checkedOf (c .refused .ensures) ∙ sym (w .inv .1 ∙ directories-step _ _ _ _ _ _ (omega arith) (sym (c .before .before .before .step .ensures .answer) ∙ c .before .enum-told .given .1))
+    ap checkedOf (c .refused .ensures)
+    ∙ sym (w .inv .1 ∙ directories-step _ _ _ _ _ _ (omega arith) (sym (step .step .ensures .answer) ∙ c .before .enum-told .given .1))
 
 enum-told-2 : tie.Need-enum-told-2 Inv-loop μ-loop
 enum-told-2 c = search needs
@@ -60,8 +69,10 @@ refused-requires-2 c κs = search needs
 
 returns-2 : tie.Need-returns-2 Inv-loop μ-loop
 returns-2 c =
+    let step = c .before .before .before in
     let w = c .before .before .before .before .before .loop in
-    ap checkedOf (c .refused2 .ensures) ∙ sym (w .inv .1 ∙ directories-step _ _ _ _ _ _ (omega arith) (sym (c .before .before .before .step .ensures .answer) ∙ c .before .enum-told2 .given .1))
+    ap checkedOf (c .refused2 .ensures)
+    ∙ sym (w .inv .1 ∙ directories-step _ _ _ _ _ _ (omega arith) (sym (step .step .ensures .answer) ∙ c .before .enum-told2 .given .1))
 
 add-done : tie.Need-add-done Inv-loop μ-loop
 add-done c = search needs

@@ -1,3 +1,4 @@
+-- Path, references and directories are checked in the definition's order, and the first that fails gives the refusal.
 use mathlib.Core.Path.{ap, sym, _∙_}
 use borrow.Author.Tests.{not-true, not-false}
 use borrow.Author.Needs.{needs}
@@ -23,16 +24,22 @@ refused-requires-2 c κs = search needs
 
 returns-2 : tie.Need-returns-2
 returns-2 c =
+    let references = c .before .before in
     let p = c .before .before .before in
-    ap checkedOf (c .refused2 .ensures) ∙ entry-references _ _ _ (sym (p .before .path-fits .ensures) ∙ not-false _ (p .if1 .left)) (sym (c .before .before .references-fit .ensures) ∙ not-true _ (c .before .if2 .taken))
+    ap checkedOf (c .refused2 .ensures)
+    ∙ entry-references _ _ _ (sym (p .before .path-fits .ensures) ∙ not-false _ (p .if1 .left))
+    (sym (references .references-fit .ensures) ∙ not-true _ (c .before .if2 .taken))
 
 check-directories-requires : tie.Need-check-directories-requires
 check-directories-requires c κs = search needs
 
 returns-3 : tie.Need-returns-3
 returns-3 c =
+    let references = c .before .before in
     let p = c .before .before .before in
-    c .check-directories .ensures ∙ entry-directories _ _ _ (sym (p .before .path-fits .ensures) ∙ not-false _ (p .if1 .left)) (sym (c .before .before .references-fit .ensures) ∙ not-false _ (c .before .if2 .left))
+    c .check-directories .ensures
+    ∙ entry-directories _ _ _ (sym (p .before .path-fits .ensures) ∙ not-false _ (p .if1 .left))
+    (sym (references .references-fit .ensures) ∙ not-false _ (c .before .if2 .left))
 
 pub check-entry-spec : {M : Type 1} → statement M
 check-entry-spec =

@@ -1,25 +1,19 @@
-use mathlib.Core.Path.{ap}
-use Prim.Native.Nat.{ℕ, _*_}
+-- A 32-bit index times a 16-bit size wraps nowhere.
+use mathlib.Core.Path.{refl}
 use native.Mathlib.Omega.{arith}
+use Rattle.layout.proofs.Laws.{entry-low}
 use borrow.Author.Needs.{needs}
-use Rattle.layout.specs.declared.Layout.{Layout}
-use Rattle.volumes.proofs.Laws.{size-low}
 use Rattle.volumes.proofs.entry_at.Statement.{statement}
 use Rattle.volumes.proofs.entry_at.Tie as tie
 
-of-requires : tie.Need-of-requires
-of-requires c κs = search needs
+cast-result : tie.Need-cast-result
+cast-result c = search needs
 
 mul-result : tie.Need-mul-result
-mul-result c =
-    let a = c .before .before .args in
-    omega (arith, size-low (a .version) (a .i) (ap (λ (l : Layout). l .volume) (c .before .of .ensures)) (omega arith))
+mul-result c = let a = c .before .args in omega (arith, entry-low (a .i) (a .l .«volume_entry») (omega arith) (omega arith))
 
 returns : tie.Need-returns
-returns c =
-    let a = c .before .before .args in
-    let e = ap (λ (l : Layout). l .volume) (c .before .of .ensures) in
-    (ap (λ (size : ℕ). a .i * size) e, size-low (a .version) (a .i) e (omega arith))
+returns c = let a = c .before .args in (refl, entry-low (a .i) (a .l .«volume_entry») (omega arith) (omega arith))
 
 pub entry-at-spec : {M : Type 1} → statement M
-entry-at-spec = tie.close (tie.spec of-requires mul-result returns)
+entry-at-spec = tie.close (tie.spec cast-result mul-result returns)

@@ -1,3 +1,4 @@
+-- A path of no units fits anywhere; any other must end within the section, and 32-bit numbers wrap no sum.
 use native.Mathlib.Omega.{arith}
 use borrow.Author.Needs.{needs}
 use Rattle.volumes.proofs.Laws.{path-none, path-some}

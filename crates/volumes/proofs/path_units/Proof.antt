@@ -1,3 +1,4 @@
+-- The search gives the first zero unit, which is the number of units before it; where it finds none all count.
 use mathlib.Core.Path.{sym, _∙_}
 use borrow.Author.Needs.{needs}
 use Rattle.volumes.proofs.Laws.{units-hit, units-none}
@@ -26,10 +27,18 @@ cast-result : tie.Need-cast-result
 cast-result c = search needs
 
 returns : tie.Need-returns
-returns c = units-hit _ _ _ (c .before .before .before .before .before .u32-at .ensures) (c .before .before .before .before .u32-at2 .ensures) (sym (c .before .before .before .first-zero-unit .ensures) ∙ c .before .k .given .1)
+returns c =
+    let search-zero = c .before .before .before in
+    let count = search-zero .before in
+    let start = count .before in
+    units-hit _ _ _ (start .u32-at .ensures) (count .u32-at2 .ensures) (sym (search-zero .first-zero-unit .ensures) ∙ c .before .k .given .1)
 
 returns-2 : tie.Need-returns-2
-returns-2 c = units-none _ _ (c .before .before .before .before .u32-at .ensures) (c .before .before .before .u32-at2 .ensures) (sym (c .before .before .first-zero-unit .ensures) ∙ c .enum-told .given .1)
+returns-2 c =
+    let search-zero = c .before .before in
+    let count = search-zero .before in
+    let start = count .before in
+    units-none _ _ (start .u32-at .ensures) (count .u32-at2 .ensures) (sym (search-zero .first-zero-unit .ensures) ∙ c .enum-told .given .1)
 
 pub path-units-spec : {M : Type 1} → statement M
 path-units-spec =

@@ -1,3 +1,4 @@
+-- Each field is read at the offset that the definition gives it; 32-bit numbers and a low entry wrap no sum.
 use borrow.Author.Needs.{needs}
 use Rattle.volumes.specs.Volumes.{referenceOf}
 use Rattle.volumes.proofs.reference_at.Statement.{statement}

@@ -1,3 +1,4 @@
+-- Data of no bytes holds no reference; any other has its count at byte 4, read as the definition reads it.
 use mathlib.Core.Path.{ap, _∙_}
 use Prim.Native.Nat.{ℕ, _+_}
 use native.Mathlib.Omega.{arith}
@@ -33,8 +34,10 @@ u32-at-requires-3 c κs = search needs
 
 returns-2 : tie.Need-returns-2
 returns-2 c =
+    let test = c .before .before in
+    let number = test .before in
     let s = c .before .before .before .before .before .args .section .now in
-    c .u32-at3 .ensures ∙ ap (λ (k : ℕ). le 4 s (k + 4)) (c .before .u32-at2 .ensures) ∙ count-some _ _ (λ z. c .before .before .if1 .left (c .before .before .before .u32-at .ensures ∙ z))
+    c .u32-at3 .ensures ∙ ap (λ (k : ℕ). le 4 s (k + 4)) (c .before .u32-at2 .ensures) ∙ count-some _ _ (λ z. test .if1 .left (number .u32-at .ensures ∙ z))
 
 pub reference-count-spec : {M : Type 1} → statement M
 reference-count-spec =

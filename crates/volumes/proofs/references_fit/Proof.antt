@@ -1,3 +1,4 @@
+-- No data fits; else it needs 8 bytes, must end within the section and hold its count: a law for each way out.
 use native.Mathlib.Omega.{arith}
 use borrow.Author.Needs.{needs}
 use Rattle.volumes.proofs.Laws.{references-none, references-small, references-past, references-inside}

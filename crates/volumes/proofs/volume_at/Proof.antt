@@ -1,3 +1,4 @@
+-- Each field is read, at its offset or by a function whose contract is the definition's own; `cc` joins them.
 use borrow.Author.Needs.{needs}
 use Rattle.volumes.specs.Volumes.{volumeOf}
 use Rattle.volumes.proofs.volume_at.Statement.{statement}

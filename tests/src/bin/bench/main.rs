@@ -4,17 +4,17 @@
 //!
 //! bench readers
 //!
-//! The whole reader on files as Windows lays them out, from 1 KB to 16 MB,
+//! The whole-file reader on files as Windows lays them out, from 1 KB to 16 MB,
 //! beside the reader of `plain`.
 //!
 //! bench trace
 //!
-//! The whole reader on files that are nearly all trace section: chains and a
-//! ring, in and out of order, beside the reader of `plain`.
+//! The whole-file reader on files that are nearly all trace section: chains and a
+//! cycle, in and out of order, beside the reader of `plain`.
 //!
 //! bench overlap
 //!
-//! The whole reader on files whose entries all name the same bytes. The rules
+//! The whole-file reader on files whose entries all name the same bytes. The rules
 //! allow that, and then the work grows with the square of the file's size.
 //!
 //! bench search

@@ -100,7 +100,7 @@ fn row_of_size(bytes: usize) -> Row {
     row(&typical::file(23, &Amounts::for_bytes(bytes)))
 }
 
-/// As many places are lent as there are trace entries.
+/// There are as many slots as trace entries.
 fn row(file: &[u8]) -> Row {
     let count = trace_count(file) as usize;
     let (mut places, mut others) = (vec![0; count], vec![0; count]);

@@ -22,8 +22,8 @@ type Shape = (&'static str, fn(u32) -> Vec<u32>);
 const SHAPES: [Shape; 5] = [
     ("one chain in order", |count| linked(&in_order(count), false)),
     ("one chain shuffled", |count| linked(&shuffled(count), false)),
-    ("one ring in order", |count| linked(&in_order(count), true)),
-    ("one ring shuffled", |count| linked(&shuffled(count), true)),
+    ("one cycle in order", |count| linked(&in_order(count), true)),
+    ("one cycle shuffled", |count| linked(&shuffled(count), true)),
     ("chains of one", |count| vec![END; count as usize]),
 ];
 
@@ -37,9 +37,9 @@ fn shuffled(count: u32) -> Vec<u32> {
     order
 }
 
-fn linked(order: &[u32], ring: bool) -> Vec<u32> {
+fn linked(order: &[u32], cycle: bool) -> Vec<u32> {
     let mut links = vec![END; order.len()];
-    link_run(&mut links, order, ring);
+    link_run(&mut links, order, cycle);
     links
 }
 

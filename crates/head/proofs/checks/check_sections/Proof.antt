@@ -1,49 +1,81 @@
-use Rattle.head.proofs.Steps.{steps}
-use Rattle.head.specs.Checks.{sectionPlan}
+-- Line by line the code is checks 5 and 6 of the plan.
+use Rattle.head.proofs.Steps.{steps, outside-refused, shared-refused, sections-pass}
+use Rattle.head.specs.Private.{sectionPlan}
+use lib.ListN.{length-take}
+use native.Mathlib.Omega.{arith}
 use borrow.Author.Needs.{needs}
 use Rattle.head.proofs.checks.check_sections.Statement.{statement}
 use Rattle.head.proofs.checks.check_sections.Tie as tie
 
-first-outside-requires : tie.Need-first-outside-requires
-first-outside-requires c κs = search needs
-
-enum-known-i : tie.Need-enum-known-i
-enum-known-i c = search needs
+cast-required : tie.Need-cast-required
+cast-required c = search needs
 
 returns : tie.Need-returns
 unfolding sectionPlan
 returns c = search steps depth 12
 
+slice-aggregate-head-of : tie.Need-slice-aggregate-head-of
+slice-aggregate-head-of c = simp length-take (omega arith)
+
+head-of-requires : tie.Need-head-of-requires
+head-of-requires c κs = search needs
+
+outside-fault-requires : tie.Need-outside-fault-requires
+outside-fault-requires c κs = search needs
+
+enum-known-i : tie.Need-enum-known-i
+enum-known-i c = search needs
+
+returns-2 : tie.Need-returns-2
+returns-2 c =
+    let outside = c .before .before .before in
+    let head = outside .before in
+    outside-refused _ _ _ (omega arith) (head .head-of .ensures) _ _ (outside .outside-fault .ensures) (c .before .i .given .1)
+
 enum-told : tie.Need-enum-told
 enum-told c = search needs
 
-first-shared-requires : tie.Need-first-shared-requires
-first-shared-requires c κs = search needs
+shared-fault-requires : tie.Need-shared-fault-requires
+shared-fault-requires c κs = search needs
 
 enum-known-i-2 : tie.Need-enum-known-i-2
 enum-known-i-2 c = search needs
 
-returns-2 : tie.Need-returns-2
-unfolding sectionPlan
-returns-2 c = search steps depth 12
+returns-3 : tie.Need-returns-3
+returns-3 c =
+    let shared = c .before .before .before in
+    let told = shared .before in
+    let outside = told .before .before in
+    let head = outside .before in
+    shared-refused _ _ _ (omega arith) (head .head-of .ensures) _ (outside .outside-fault .ensures) (told .enum-told .given .1) _ _
+    (shared .shared-fault .ensures) (c .before .i2 .given .1)
 
 enum-told-2 : tie.Need-enum-told-2
 enum-told-2 c = search needs
 
-returns-3 : tie.Need-returns-3
-unfolding sectionPlan
-returns-3 c = search steps depth 12
+returns-4 : tie.Need-returns-4
+returns-4 c =
+    let shared = c .before .before in
+    let told = shared .before in
+    let outside = told .before .before in
+    let head = outside .before in
+    sections-pass _ _ _ (omega arith) (head .head-of .ensures) _ (outside .outside-fault .ensures) (told .enum-told .given .1) _
+    (shared .shared-fault .ensures) (c .enum-told2 .given .1)
 
 pub check-sections-spec : {M : Type 1} → statement M
 check-sections-spec =
     tie.close
     (tie.spec
-    first-outside-requires
-    enum-known-i
+    cast-required
     returns
-    enum-told
-    first-shared-requires
-    enum-known-i-2
+    slice-aggregate-head-of
+    head-of-requires
+    outside-fault-requires
+    enum-known-i
     returns-2
+    enum-told
+    shared-fault-requires
+    enum-known-i-2
+    returns-3
     enum-told-2
-    returns-3)
+    returns-4)

@@ -1,8 +1,10 @@
-use mathlib.Core.Path.{refl}
+-- Checks 1 to 6, then the rest: the fifteen in one line.
+use mathlib.Core.Path.{refl, _∙_}
 use Rattle.head.specs.Checks.{openPlan}
 use Rattle.head.proofs.Facts.{open-met}
 use Rattle.head.proofs.Steps.{open-then}
-use Rattle.reader.specs.Checks.{readPlan, restPlan}
+use Rattle.reader.specs.Private.{restPlan}
+use Rattle.reader.proofs.Opens.{read-opens}
 use borrow.Author.Needs.{needs}
 use Rattle.reader.proofs.checks.check_all.Statement.{statement}
 use Rattle.reader.proofs.checks.check_all.Tie as tie
@@ -26,16 +28,17 @@ same-length : tie.Need-same-length
 same-length c = search needs
 
 returns : tie.Need-returns
-unfolding readPlan
-returns c = open-then openPlan (restPlan _) _ _ _ _ (c .before .before .before .before .before .before .before .read-open .ensures) (c .before .before .before .before .before .o .given .1) (c .before .before .check-rest .ensures)
+returns c =
+    let rest = c .before .before in
+    let arm = rest .before .before .before in
+    let read = arm .before .before in
+    open-then openPlan (restPlan _) _ _ _ _ (read .read-open .ensures) (arm .o .given .1) (rest .check-rest .ensures) ∙ read-opens _ _
 
 returns-2 : tie.Need-returns-2
-unfolding readPlan
-returns-2 c = open-then openPlan (restPlan _) _ _ _ _ (c .before .before .before .read-open .ensures) (c .before .r .given .1) refl
+returns-2 c = open-then openPlan (restPlan _) _ _ _ _ (c .before .before .before .read-open .ensures) (c .before .r .given .1) refl ∙ read-opens _ _
 
 returns-3 : tie.Need-returns-3
-unfolding readPlan
-returns-3 c = open-then openPlan (restPlan _) _ _ _ _ (c .before .before .before .read-open .ensures) (c .before .k .given .1) refl
+returns-3 c = open-then openPlan (restPlan _) _ _ _ _ (c .before .before .before .read-open .ensures) (c .before .k .given .1) refl ∙ read-opens _ _
 
 pub check-all-spec : {M : Type 1} → statement M
 check-all-spec =

@@ -1,38 +1,80 @@
-use Rattle.reader.proofs.Stages.{few-places, few-bytes, room-enough}
-use native.Mathlib.Omega.{arith}
+-- Checks 7 and 8 by the counts of the head; where they pass, the tables are checked.
+use Rattle.sections.proofs.Cases.{places-met, entries-met}
+use Rattle.reader.proofs.Tables.{refused-7, refused-8, tables-next}
 use borrow.Author.Needs.{needs}
 use Rattle.reader.proofs.checks.check_rest.Statement.{statement}
 use Rattle.reader.proofs.checks.check_rest.Tie as tie
 
-cast-if1 : tie.Need-cast-if1
-cast-if1 c = search needs
+places-fault-requires : tie.Need-places-fault-requires
+places-fault-requires c κs = search needs
+
+enum-known-i : tie.Need-enum-known-i
+enum-known-i c = search needs
 
 returns : tie.Need-returns
-returns c = few-places _ (c .before .before .before .before .args .o) _ (c .before .before .before .before .pre .whole) (c .if1 .taken)
+returns c =
+    let places = c .before .before .before in
+    let start = places .before .before .before .before in
+    refused-7 _ _ _ (start .pre .whole) _ (places .places-fault .ensures) _ (c .before .i .given .1)
 
-entries-len-requires : tie.Need-entries-len-requires
-entries-len-requires c κs = search needs
+enum-told : tie.Need-enum-told
+enum-told c = search needs
+
+entries-fault-requires : tie.Need-entries-fault-requires
+entries-fault-requires c κs = search needs
+
+enum-known-i-2 : tie.Need-enum-known-i-2
+enum-known-i-2 c = search needs
 
 returns-2 : tie.Need-returns-2
-returns-2 c = few-bytes _ (c .before .before .before .before .before .before .args .o) _ (c .before .before .before .before .before .before .pre .whole) (c .before .before .if1 .left) (omega (arith, c .before .entries-len .ensures))
+returns-2 c =
+    let entries = c .before .before .before in
+    let told = entries .before in
+    let places = told .before .before in
+    let start = places .before .before .before .before in
+    refused-8 _ _ _ (start .pre .whole) _ (places .places-fault .ensures) (told .enum-told .given .1) _ (entries .entries-fault .ensures) _
+    (c .before .i2 .given .1)
 
-check-metrics-requires : tie.Need-check-metrics-requires
-check-metrics-requires c κs = search needs
+enum-told-2 : tie.Need-enum-told-2
+enum-told-2 c = search needs
+
+check-tables-requires : tie.Need-check-tables-requires
+check-tables-requires c κs =
+    let entries = c .before .before .before in
+    let told = entries .before in
+    let places = told .before .before in
+    let start = places .before .before .before .before in (
+      start .pre,
+      entries-met _ _ _ _ (entries .entries-fault .ensures) (c .before .enum-told2 .given .1),
+      places-met _ _ _ (places .places-fault .ensures) (told .enum-told .given .1),
+    )
 
 same-length : tie.Need-same-length
 same-length c = search needs
 
 returns-3 : tie.Need-returns-3
-returns-3 c = room-enough _ (c .before .before .before .before .before .before .before .before .before .before .args .o) _ (c .before .before .before .before .before .before .before .before .before .before .pre .whole) _ (record { places = c .before .before .before .before .before .before .if1 .left; entries = omega (arith, c .before .before .before .before .before .entries-len .ensures) }) (c .before .before .check-metrics .ensures)
+returns-3 c =
+    let tables = c .before .before in
+    let told = tables .before .before in
+    let entries = told .before .before in
+    let roomy = entries .before in
+    let places = roomy .before .before in
+    let start = places .before .before .before .before in
+    tables-next _ _ _ (start .pre .whole) _ (places .places-fault .ensures) (roomy .enum-told .given .1) _ (entries .entries-fault .ensures) _
+    (told .enum-told2 .given .1) (tables .check-tables .ensures)
 
 pub check-rest-spec : {M : Type 1} → statement M
 check-rest-spec =
     tie.close
     (tie.spec
-    cast-if1
+    places-fault-requires
+    enum-known-i
     returns
-    entries-len-requires
+    enum-told
+    entries-fault-requires
+    enum-known-i-2
     returns-2
-    check-metrics-requires
+    enum-told-2
+    check-tables-requires
     same-length
     returns-3)

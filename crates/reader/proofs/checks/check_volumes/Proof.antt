@@ -1,6 +1,8 @@
-use Rattle.reader.proofs.Stages.{volumes-short, volumes-passed, volumes-refused, volumes-all}
+-- The plan of checks 14 and 15; a call gives its required length, and 8 has passed.
 use native.Mathlib.Omega.{arith}
+use Rattle.reader.proofs.Stages.{volumes-short, volumes-pass, volumes-refused}
 use lib.ListN.{length-take}
+use native.Mathlib.Omega.{arith}
 use borrow.Author.Needs.{needs}
 use Rattle.reader.proofs.checks.check_volumes.Statement.{statement}
 use Rattle.reader.proofs.checks.check_volumes.Tie as tie
@@ -9,7 +11,7 @@ volumes-required-requires : tie.Need-volumes-required-requires
 volumes-required-requires c κs = search needs
 
 returns : tie.Need-returns
-returns c = λ t. volumes-short (c .before .before .before .before .args .o) _ _ (c .before .before .volumes-required .ensures) _ (c .if1 .taken)
+returns c = volumes-short _ _ _ (c .before .volumes-required .ensures) (c .if1 .taken)
 
 slice-aggregate-part-of : tie.Need-slice-aggregate-part-of
 slice-aggregate-part-of c = simp length-take (omega arith)
@@ -28,17 +30,21 @@ enum-known-r c = search needs
 
 returns-2 : tie.Need-returns-2
 returns-2 c =
-    let s = c .before .before .before .before .before .before .before .before .before in
-    let e = c .before .before .before .before .before .before .before .volumes-required .ensures in
-    let h = c .before .before .before .before .before .if1 .left in
-    λ t. volumes-passed (s .args .o) _ _ e _ _ _ h (c .before .before .before .part-of .ensures .contents) (volumes-all _ _ _ (s .pre .0) e h (s .pre .1)) (c .before .before .check-volumes .ensures) (c .enum-told .given .1)
+    let volumes = c .before .before in
+    let part = volumes .before in
+    let volumes-required = part .before .before .before in
+    let start = volumes-required .before .before .before .before in
+    volumes-pass _ _ _ (volumes-required .volumes-required .ensures) (start .pre .0) (start .pre .1) _ (omega arith)
+    (part .part-of .ensures .contents) _ (volumes .check-volumes .ensures) (c .enum-told .given .1)
 
 returns-3 : tie.Need-returns-3
 returns-3 c =
-    let s = c .before .before .before .before .before .before .before .before .before .before in
-    let e = c .before .before .before .before .before .before .before .before .volumes-required .ensures in
-    let h = c .before .before .before .before .before .before .if1 .left in
-    λ t. volumes-refused (s .args .o) _ _ e _ _ _ _ h (c .before .before .before .before .part-of .ensures .contents) (volumes-all _ _ _ (s .pre .0) e h (s .pre .1)) (c .before .before .before .check-volumes .ensures) (c .before .r .given .1)
+    let volumes = c .before .before .before in
+    let part = volumes .before in
+    let volumes-required = part .before .before .before in
+    let start = volumes-required .before .before .before .before in
+    volumes-refused _ _ _ (volumes-required .volumes-required .ensures) (start .pre .0) (start .pre .1) _ (omega arith)
+    (part .part-of .ensures .contents) _ (volumes .check-volumes .ensures) _ (c .before .r .given .1)
 
 pub check-volumes-spec : {M : Type 1} → statement M
 check-volumes-spec =

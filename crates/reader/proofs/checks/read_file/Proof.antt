@@ -1,4 +1,5 @@
-use Rattle.reader.proofs.Stages.{whole-short, whole-long, whole-exact, whole-refused, whole-wanted, reads-same}
+-- An accepted prefix is held against its declared size: 16 where it is shorter, 17 where longer; a wanted length is 16 too.
+use Rattle.reader.proofs.Readers.{whole-short, whole-long, whole-exact, whole-refused, whole-wanted, reads-same}
 use borrow.Author.Needs.{needs}
 use Rattle.reader.proofs.checks.read_file.Statement.{statement}
 use Rattle.reader.proofs.checks.read_file.Tie as tie
@@ -19,7 +20,13 @@ same-length : tie.Need-same-length
 same-length c = search needs
 
 returns : tie.Need-returns
-returns c = reads-same _ _ _ _ _ _ (c .before .before .wrong-length .ensures) (c .before .before .before .before .before .before .before .before .before .before .before .read-prefix .kept .1 .0) (whole-short _ _ _ _ _ (c .before .before .before .before .before .before .before .before .before .before .before .read-prefix .ensures) _ (c .before .before .before .before .before .before .before .a .given .1) (c .before .before .before .before .if1 .taken))
+returns c =
+    let wrong = c .before .before in
+    let test = wrong .before .before in
+    let arm = test .before .before .before in
+    let read = arm .before .before .before .before in
+    reads-same _ _ _ _ _ _ (wrong .wrong-length .ensures) (read .read-prefix .kept .1 .0)
+    (whole-short _ _ _ _ _ (read .read-prefix .ensures) _ (arm .a .given .1) (test .if1 .taken))
 
 wrong-length-requires-2 : tie.Need-wrong-length-requires-2
 wrong-length-requires-2 c κs = search needs
@@ -28,7 +35,14 @@ same-length-2 : tie.Need-same-length-2
 same-length-2 c = search needs
 
 returns-2 : tie.Need-returns-2
-returns-2 c = reads-same _ _ _ _ _ _ (c .before .before .wrong-length2 .ensures) (c .before .before .before .before .before .before .before .before .before .before .before .before .read-prefix .kept .1 .0) (whole-long _ _ _ _ _ (c .before .before .before .before .before .before .before .before .before .before .before .before .read-prefix .ensures) _ (c .before .before .before .before .before .before .before .before .a .given .1) (c .before .before .before .before .before .if1 .left) (c .before .before .before .before .if2 .taken))
+returns-2 c =
+    let wrong = c .before .before in
+    let test = wrong .before .before in
+    let shorter = test .before in
+    let arm = shorter .before .before .before in
+    let read = arm .before .before .before .before in
+    reads-same _ _ _ _ _ _ (wrong .wrong-length2 .ensures) (read .read-prefix .kept .1 .0)
+    (whole-long _ _ _ _ _ (read .read-prefix .ensures) _ (arm .a .given .1) (shorter .if1 .left) (test .if2 .taken))
 
 enum-known-r : tie.Need-enum-known-r
 enum-known-r c = search needs
@@ -43,7 +57,10 @@ same-length-3 : tie.Need-same-length-3
 same-length-3 c = search needs
 
 returns-3 : tie.Need-returns-3
-returns-3 c = whole-exact _ _ _ _ _ (c .before .before .before .before .before .before .before .before .read-prefix .ensures) _ (c .before .before .before .before .a .given .1) (c .before .if1 .left) (c .if2 .left)
+returns-3 c =
+    let arm = c .before .before .before .before in
+    let read = arm .before .before .before .before in
+    whole-exact _ _ _ _ _ (read .read-prefix .ensures) _ (arm .a .given .1) (c .before .if1 .left) (c .if2 .left)
 
 same-length-4 : tie.Need-same-length-4
 same-length-4 c = search needs
@@ -55,7 +72,12 @@ same-length-5 : tie.Need-same-length-5
 same-length-5 c = search needs
 
 returns-5 : tie.Need-returns-5
-returns-5 c = reads-same _ _ _ _ _ _ (c .before .before .wrong-length3 .ensures) (c .before .before .before .before .before .before .before .before .read-prefix .kept .1 .0) (whole-wanted _ _ _ _ _ (c .before .before .before .before .before .before .before .before .read-prefix .ensures) _ (c .before .before .before .before .enum-told .given .1))
+returns-5 c =
+    let wrong = c .before .before in
+    let told = wrong .before .before in
+    let read = told .before .before .before .before in
+    reads-same _ _ _ _ _ _ (wrong .wrong-length3 .ensures) (read .read-prefix .kept .1 .0)
+    (whole-wanted _ _ _ _ _ (read .read-prefix .ensures) _ (told .enum-told .given .1))
 
 pub read-file-spec : {M : Type 1} → statement M
 read-file-spec =

@@ -1,4 +1,5 @@
-use Rattle.reader.proofs.Stages.{reads-accepted, reads-refused, reads-wanted}
+-- The checks give the verdict; an accepted file keeps its table, and in the two other cases the buffer is filled.
+use Rattle.reader.proofs.Readers.{reads-accepted, reads-refused, reads-wanted}
 use mathlib.Core.Path.{ap, _∙_}
 use Rattle.trace.specs.Links.{filled}
 use borrow.Author.Needs.{needs}
@@ -33,13 +34,21 @@ same-length-2 : tie.Need-same-length-2
 same-length-2 c = search needs
 
 returns-2 : tie.Need-returns-2
-returns-2 c = reads-refused _ _ _ _ _ _ (c .before .before .before .before .before .before .before .before .before .check-all .ensures) (c .before .before .before .before .before .r .given .1) (c .before .before .fill .ensures ∙ ap filled (c .before .before .before .before .before .before .before .before .before .check-all .kept .1 .0))
+returns-2 c =
+    let fill = c .before .before in
+    let arm = fill .before .before .before in
+    let all = arm .before .before .before .before in
+    reads-refused _ _ _ _ _ _ (all .check-all .ensures) (arm .r .given .1) (fill .fill .ensures ∙ ap filled (all .check-all .kept .1 .0))
 
 same-length-3 : tie.Need-same-length-3
 same-length-3 c = search needs
 
 returns-3 : tie.Need-returns-3
-returns-3 c = reads-wanted _ _ _ _ _ _ (c .before .before .before .before .before .before .before .before .before .check-all .ensures) (c .before .before .before .before .before .k .given .1) (c .before .before .fill2 .ensures ∙ ap filled (c .before .before .before .before .before .before .before .before .before .check-all .kept .1 .0))
+returns-3 c =
+    let fill = c .before .before in
+    let arm = fill .before .before .before in
+    let all = arm .before .before .before .before in
+    reads-wanted _ _ _ _ _ _ (all .check-all .ensures) (arm .k .given .1) (fill .fill2 .ensures ∙ ap filled (all .check-all .kept .1 .0))
 
 pub read-prefix-spec : {M : Type 1} → statement M
 read-prefix-spec =

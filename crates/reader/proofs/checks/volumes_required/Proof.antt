@@ -1,18 +1,17 @@
-use mathlib.Core.Path.{ap}
+-- Each branch is one of the definition's cases.
 use borrow.Author.Tests.{eq-eqb, ne-eqb}
-use Rattle.layout.specs.declared.Layout.{Layout}
 use borrow.Author.Needs.{needs}
 use Rattle.reader.proofs.checks.volumes_required.Statement.{statement}
 use Rattle.reader.proofs.checks.volumes_required.Tie as tie
 
-of-requires : tie.Need-of-requires
-of-requires c κs = search needs
+cast-result : tie.Need-cast-result
+cast-result c = search needs
 
 returns : tie.Need-returns
-returns c = rw (eq-eqb _ _ (c .before .if1 .taken)) (ap (λ (l : Layout). l .head) (c .of .ensures))
+returns c = rw (eq-eqb _ _ (c .before .if1 .taken))
 
 returns-2 : tie.Need-returns-2
 returns-2 c = rw (ne-eqb _ _ (c .if1 .left))
 
 pub volumes-required-spec : {M : Type 1} → statement M
-volumes-required-spec = tie.close (tie.spec of-requires returns returns-2)
+volumes-required-spec = tie.close (tie.spec cast-result returns returns-2)

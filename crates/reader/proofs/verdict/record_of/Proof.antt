@@ -1,10 +1,14 @@
+-- Each field is read at its offset.
 use Rattle.reader.specs.Checks.{recordOf}
 use borrow.Author.Needs.{needs}
 use Rattle.reader.proofs.verdict.record_of.Statement.{statement}
 use Rattle.reader.proofs.verdict.record_of.Tie as tie
 
-of-requires : tie.Need-of-requires
-of-requires c κs = search needs
+cast-run-time : tie.Need-cast-run-time
+cast-run-time c = search needs
+
+cast-run-count : tie.Need-cast-run-count
+cast-run-count c = search needs
 
 number-requires : tie.Need-number-requires
 number-requires c κs = search needs
@@ -29,7 +33,8 @@ pub record-of-spec : {M : Type 1} → statement M
 record-of-spec =
     tie.close
     (tie.spec
-    of-requires
+    cast-run-time
+    cast-run-count
     number-requires
     u32-at-requires
     u32-at-requires-2

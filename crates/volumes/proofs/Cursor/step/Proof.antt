@@ -1,3 +1,4 @@
+-- The string's count, its units and its zero are looked for in turn, each only where the section still has its bytes.
 use mathlib.Core.Path.{sym, _∙_}
 use Prim.Native.Nat.{_+_, _*_}
 use native.Mathlib.Omega.{arith}

@@ -1,0 +1,54 @@
+-- The proof of each claim, by the theorem that has it.
+use Rattle.incremental.proofs.Plan.{stands, begins-take}
+use Rattle.path_hash.proofs.Laws.{vista-2008}
+use Rattle.catalogue.proofs.RoundTrip.{round-trip}
+use Rattle.head.proofs.Facts.{open-facts, open-sound}
+use Rattle.trace.proofs.Predecessors.{working-buffer}
+use Rattle.trace.proofs.OneChain.{one-chain}
+use Rattle.trace.proofs.Chains.{chains-ends}
+use Rattle.trace.proofs.Cycles.{cycle-law}
+use Rattle.reader.proofs.Allowed.{demand-2}
+use Rattle.reader.proofs.Early.{demand-3, after-size}
+use Rattle.query.proofs.Laws.{entry-shown-law, name-placed, volume-shown-law, path-placed}
+use Rattle.path_search.proofs.Laws.{path-not-found-law}
+use Rattle.text.proofs.Decimal.{decimal-law, decimal-only}
+use Rattle.claims.proofs.Buffer.{not-accepted-filled, allowed-linked}
+use Rattle.claims.proofs.Search.{path-exactly, path-not-open}
+use Rattle.claims.proofs.EveryName.{every-name}
+use Rattle.claims.proofs.Places.{places-say}
+use Rattle.claims.proofs.EmptyPrograms.{empty-programs}
+use Rattle.claims.proofs.Examples.{examples}
+use Rattle.claims.proofs.Points.{points}
+use Rattle.claims.specs.Claims.{Claims}
+
+pub claims : Claims
+claims =
+    record {
+      filled-prefix = λ p buffer. not-accepted-filled _ _;
+      filled-file = λ p buffer. not-accepted-filled _ _;
+      demand-2 = demand-2;
+      demand-3 = demand-3;
+      after-size = after-size;
+      stands = λ t xs i j h. stands t _ _ (begins-take xs i j h);
+      every-name = every-name;
+      places = places-say;
+      linked = allowed-linked;
+      working-buffer = λ s places l room. working-buffer s (l .count) places (l .short) room (l .passes);
+      one-chain = λ s l. one-chain s (l .count) (l .short) (l .passes);
+      chains-ends = λ s l. chains-ends s (l .count) (l .short) (l .passes);
+      cycles = cycle-law;
+      round-trip = round-trip;
+      decimal-is = decimal-law;
+      decimal-only = decimal-only;
+      vista-2008 = vista-2008;
+      path-found = path-exactly;
+      path-not-found = path-not-found-law;
+      path-not-open = path-not-open;
+      entry-shown = λ o p i e. entry-shown-law o p i (open-sound p o (open-facts p .holds o e));
+      name-placed = λ o p i e. name-placed o p i (open-facts p .holds o e);
+      volume-shown = λ o p i e. volume-shown-law o p i (open-sound p o (open-facts p .holds o e));
+      path-placed = λ o p i e. path-placed o p i (open-facts p .holds o e);
+      empty-programs = empty-programs;
+      examples = examples;
+      points = points;
+    }

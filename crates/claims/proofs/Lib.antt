@@ -1,0 +1,9 @@
+pub mod Buffer
+pub mod Claims
+pub mod Computed
+pub mod EmptyPrograms
+pub mod EveryName
+pub mod Examples
+pub mod Places
+pub mod Points
+pub mod Search

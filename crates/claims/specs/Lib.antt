@@ -1,0 +1,6 @@
+pub mod Claims
+pub mod EmptyPrograms
+pub mod EveryName
+pub mod Examples
+pub mod Places
+pub mod Points

@@ -1,0 +1,80 @@
+-- While every name so far passes the test, the first fault is that of the entries from i on; the loop stops at the first that fails.
+use mathlib.Core.Path.{_≡_, sym, ap, _∙_}
+use Prim.Native.Nat.{_≤_, _-_}
+use native.Mathlib.Omega.{arith}
+use borrow.Author.Needs.{needs}
+use Rattle.incremental.specs.Decision.{faultOf}
+use Rattle.lists.specs.First.{first, firstFrom}
+use Rattle.lists.proofs.First.{first-start, first-miss, first-hit, first-none}
+use Rattle.names.specs.Names.{sound, unsoundFault}
+use Rattle.names.proofs.Laws.{failsAt, fails-at}
+use Rattle.names.proofs.unsound_fault.Statement.{statement}
+use Rattle.names.proofs.unsound_fault.Tie as tie
+
+abbrev Inv-loop : tie.InvT-loop
+Inv-loop metrics l entries strings i₀ i =
+    (i ≤ entries) × (first (failsAt (sound strings) l metrics) entries ≡ firstFrom (failsAt (sound strings) l metrics) (entries - i) i)
+
+abbrev μ-loop : tie.MeasureT-loop
+μ-loop metrics l entries strings i₀ i = entries - i
+
+loop-holds : tie.Need-loop-holds Inv-loop μ-loop
+loop-holds c = (omega arith, first-start _ _)
+
+name-at-requires : tie.Need-name-at-requires Inv-loop μ-loop
+name-at-requires c κs = search needs
+
+name-units-requires : tie.Need-name-units-requires Inv-loop μ-loop
+name-units-requires c κs = search needs
+
+name-sound-requires : tie.Need-name-sound-requires Inv-loop μ-loop
+name-sound-requires c κs = search needs
+
+cast-t10 : tie.Need-cast-t10 Inv-loop μ-loop
+cast-t10 c = search needs
+
+returns : tie.Need-returns Inv-loop μ-loop
+unfolding unsoundFault
+returns c =
+    let name-units = c .before .before in
+    let name = c .before .before .before in
+    let w = name .before .before .loop in
+    let l = name .before .before .before .before .before .args .l in
+    let e = fails-at (sound _) l _ (w .i) (name .name-at .ensures) (name-units .name-units .ensures) (c .before .name-sound .ensures) in
+    sym (ap faultOf (w .inv .1 ∙ first-hit _ _ _ (omega arith) (e ∙ c .if1 .taken)))
+
+add-i : tie.Need-add-i Inv-loop μ-loop
+add-i c = search needs
+
+loop-less : tie.Need-loop-less Inv-loop μ-loop
+loop-less c = search needs
+
+loop-again : tie.Need-loop-again Inv-loop μ-loop
+loop-again c =
+    let name-units = c .before .before in
+    let name = c .before .before .before in
+    let w = name .before .before .loop in
+    let l = name .before .before .before .before .before .args .l in
+    let e = fails-at (sound _) l _ (w .i) (name .name-at .ensures) (name-units .name-units .ensures) (c .before .name-sound .ensures) in
+    (omega arith, w .inv .1 ∙ first-miss _ _ _ (omega arith) (e ∙ c .if1 .left))
+
+returns-2 : tie.Need-returns-2 Inv-loop μ-loop
+unfolding unsoundFault
+returns-2 c = sym (ap faultOf (c .before .loop .inv .1 ∙ first-none _ _ _ (omega arith)))
+
+pub unsound-fault-spec : {M : Type 1} → statement M
+unsound-fault-spec =
+    tie.close
+    (tie.spec
+    Inv-loop
+    μ-loop
+    loop-holds
+    name-at-requires
+    name-units-requires
+    name-sound-requires
+    cast-t10
+    returns
+    add-i
+    loop-less
+    loop-again
+    returns-2)

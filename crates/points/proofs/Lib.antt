@@ -1,5 +1,0 @@
-pub mod EmptyPrograms
-pub mod EveryName
-pub mod Examples
-pub mod Places
-pub mod Points

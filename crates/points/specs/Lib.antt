@@ -1,5 +1,0 @@
-pub mod EveryName
-pub mod Places
-pub mod Points
-pub mod Examples
-pub mod EmptyPrograms

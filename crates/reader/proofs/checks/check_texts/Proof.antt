@@ -1,0 +1,69 @@
+-- The plan of check 10, line by line; a call gives its required length.
+use native.Mathlib.Omega.{arith}
+use Rattle.reader.proofs.Stages.{texts-short, texts-refused, texts-pass}
+use lib.ListN.{length-take}
+use native.Mathlib.Omega.{arith}
+use borrow.Author.Needs.{needs}
+use Rattle.reader.proofs.checks.check_texts.Statement.{statement}
+use Rattle.reader.proofs.checks.check_texts.Tie as tie
+
+names-required-requires : tie.Need-names-required-requires
+names-required-requires c κs = search needs
+
+returns : tie.Need-returns
+returns c = texts-short _ _ _ (c .before .names-required .ensures) (c .if1 .taken)
+
+slice-aggregate-part-of : tie.Need-slice-aggregate-part-of
+slice-aggregate-part-of c = simp length-take (omega arith)
+
+part-of-requires : tie.Need-part-of-requires
+part-of-requires c κs = search needs
+
+slice-aggregate-part-of-2 : tie.Need-slice-aggregate-part-of-2
+slice-aggregate-part-of-2 c = simp length-take (omega arith)
+
+part-of-requires-2 : tie.Need-part-of-requires-2
+part-of-requires-2 c κs = search needs
+
+unsound-fault-requires : tie.Need-unsound-fault-requires
+unsound-fault-requires c κs = search needs
+
+enum-known-i : tie.Need-enum-known-i
+enum-known-i c = search needs
+
+returns-2 : tie.Need-returns-2
+returns-2 c =
+    let unsound = c .before .before .before in
+    let part = unsound .before in
+    let part-of = part .before .before in
+    let names = part-of .before .before .before in
+    texts-refused _ _ _ (names .names-required .ensures) _ _ (omega arith) (part-of .part-of .ensures .contents)
+    (part .part-of2 .ensures .contents) _ (unsound .unsound-fault .ensures) _ (c .before .i .given .1)
+
+enum-told : tie.Need-enum-told
+enum-told c = search needs
+
+returns-3 : tie.Need-returns-3
+returns-3 c =
+    let unsound = c .before .before in
+    let part = unsound .before in
+    let part-of = part .before .before in
+    let names = part-of .before .before .before in
+    texts-pass _ _ _ (names .names-required .ensures) _ _ (omega arith) (part-of .part-of .ensures .contents) (part .part-of2 .ensures .contents) _
+    (unsound .unsound-fault .ensures) (c .enum-told .given .1)
+
+pub check-texts-spec : {M : Type 1} → statement M
+check-texts-spec =
+    tie.close
+    (tie.spec
+    names-required-requires
+    returns
+    slice-aggregate-part-of
+    part-of-requires
+    slice-aggregate-part-of-2
+    part-of-requires-2
+    unsound-fault-requires
+    enum-known-i
+    returns-2
+    enum-told
+    returns-3)

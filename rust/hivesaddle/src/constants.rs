@@ -1,0 +1,35 @@
+//! The numbers of `include/hivesaddle.h`, under the names that they have
+//! there; `tests/header.rs` holds the two together.
+
+/// What both readers give back.
+pub const HS_ACCEPTED: u32 = 0;
+pub const HS_REFUSED: u32 = 1;
+pub const HS_WANTED: u32 = 2;
+
+/// Where each number stands in the readers' `out`.
+pub const HS_NUMBER: usize = 0;
+pub const HS_INDEX: usize = 1;
+pub const HS_BYTES_WANTED: usize = 2;
+pub const HS_VERSION: usize = 3;
+pub const HS_DECLARED_SIZE: usize = 4;
+pub const HS_NAME_UNITS: usize = 5;
+pub const HS_STORED_HASH: usize = 6;
+pub const HS_RUN_TIME: usize = 7;
+pub const HS_RUN_COUNT: usize = 8;
+pub const HS_METRICS_COUNT: usize = 9;
+pub const HS_TRACE_COUNT: usize = 10;
+pub const HS_VOLUME_COUNT: usize = 11;
+pub const HS_CHAIN_COUNT: usize = 12;
+/// The length of an `out` that holds them all.
+pub const HS_READER_OUT: usize = 13;
+
+/// In a slot of `predecessors`: no entry.
+pub const HS_NONE: u32 = 4294967295;
+
+/// Which of its hashes a version 23 file was matched by.
+pub const HS_REPORT_NONE: u64 = 0;
+pub const HS_REPORT_VISTA: u64 = 1;
+pub const HS_REPORT_2008: u64 = 2;
+pub const HS_REPORT_BOTH: u64 = 3;
+
+pub const HS_CATALOGUE_LINE_LENGTH: usize = 25;

@@ -1,0 +1,19 @@
+//! What surrounds a call over the C boundary.
+//!
+//! - `guarded`: a list that is handed over, with noise in it and on both sides.
+//! - `numbers`: what a verdict of the reference is as numbers, in the order of
+//!   `out`.
+//! - `outputs`: the lists that a reader writes to, before a call and after it.
+//! - `comparison`: a reader of the library beside that of the reference.
+
+mod comparison;
+mod guarded;
+mod numbers;
+mod outputs;
+
+pub use comparison::{compare_both, compare_reader, Reader, PREFIX_READER, WHOLE_READER};
+pub use guarded::{guarded_bytes, guarded_u32, guarded_u64, inner_of, Guarded};
+pub use numbers::numbers_of;
+pub use outputs::{Outcome, Outputs, RawReader};
+
+use hivesaddle::raw as constants;

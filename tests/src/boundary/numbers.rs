@@ -1,0 +1,36 @@
+//! The numbers that a verdict of the reference stands for, in the order of
+//! `out`. The fuzzer's judge has this file too, so it takes the constants from
+//! the module above.
+
+use super::constants::*;
+use crate::reference::readers::Verdict;
+
+/// Every field is zero with any answer but an acceptance.
+pub fn numbers_of(verdict: &Verdict) -> (u32, [u64; HS_READER_OUT]) {
+    let mut out = [0; HS_READER_OUT];
+    let code = match *verdict {
+        Verdict::Accepted(record) => {
+            out[HS_VERSION] = record.version;
+            out[HS_DECLARED_SIZE] = record.declared_size;
+            out[HS_NAME_UNITS] = record.name_units;
+            out[HS_STORED_HASH] = record.stored_hash;
+            out[HS_RUN_TIME] = record.run_time;
+            out[HS_RUN_COUNT] = record.run_count;
+            out[HS_METRICS_COUNT] = record.metrics_count;
+            out[HS_TRACE_COUNT] = record.trace_count;
+            out[HS_VOLUME_COUNT] = record.volume_count;
+            out[HS_CHAIN_COUNT] = record.chain_count;
+            HS_ACCEPTED
+        }
+        Verdict::Refused(refusal) => {
+            out[HS_NUMBER] = refusal.number;
+            out[HS_INDEX] = refusal.index;
+            HS_REFUSED
+        }
+        Verdict::Wanted(bytes) => {
+            out[HS_BYTES_WANTED] = bytes;
+            HS_WANTED
+        }
+    };
+    (code, out)
+}
