@@ -45,7 +45,7 @@ gives k f h p buffer x v e q =
     let r = reads k f h p buffer in
     (same-values _ v (r .verdict ∙ ap answerValues e ∙ q), r .buffer ∙ ap (λ (y : Answer Acceptable). bufferAfter y (length buffer)) e)
 
--- where the whole reader's checks accept, both readers do
+-- where the whole-file reader's checks accept, both readers do
 accepts : (k : Reader) (f : Program) → Meets k f → (p buffer : List ℕ) (a : Acceptance) (t : List ℕ)
     → fileAnswer p (length buffer) ≡ decided (accept (record { fields = a; table = t }))
     → (f .verdict p buffer ≡ Accepted a) × (f .left p buffer ≡ t)

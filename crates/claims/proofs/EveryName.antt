@@ -1,4 +1,4 @@
--- Every name of an accepted file is shown: demand 2 gives that the file is allowed, and the questions' laws that it is shown.
+-- Every name of an accepted file is shown: demand 2 gives that the file is allowed, and the queries' laws that it is shown.
 use mathlib.Core.Path.{_≡_, _∙_, ap}
 use mathlib.Core.Bool.{true}
 use mathlib.Core.List.{List}

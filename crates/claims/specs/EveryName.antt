@@ -1,4 +1,4 @@
--- EVERY NAME of demand 2 (document 00): in a file that the whole reader accepts, the program name, every metrics entry, every volume
+-- EVERY NAME of demand 2 (document 00): in a file that the whole-file reader accepts, the program name, every metrics entry, every volume
 -- and every reference can be shown, with the fields and at the place that the layout gives.
 use mathlib.Core.Path.{_≡_}
 use mathlib.Core.List.{List}
@@ -52,7 +52,7 @@ pub record AllShown (file : RefT (List ℕ)) (o : Opening) : Type 0 where
       → (r : ReferenceAnswer) → Answers referenceSaid (referenceAsked (now file) i k) r
       → r ≡ referenceAnswer.Shown (referenceOf (part (o .head .volumes) (now file)) (entryAt (o .layout) i) k)
 
--- the statement, over the promises of the whole reader and of the questions
+-- the statement, over the promises of the whole-file reader and of the queries
 abbrev pub EveryName : Type 0
 EveryName = (file : RefT (List ℕ)) (buffer : List ℕ) (v : Verdict) (after : List ℕ) (a : Acceptance)
     → ReadsFile (now file) buffer v after

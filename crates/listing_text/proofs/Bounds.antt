@@ -305,7 +305,7 @@ module _ (p : List ℕ) (m : ℕ) (h : Bytes p) where
       (each-last SmallRecord _ _ p (fair-volumes _ l _ 0 (omega (arith, c .volumes)))
       (record-small o (headEnd l) (links.chains s) c (name-low _ n e) (chains-low s _ k (c .trace)))))))))))))))))))))))
 
-  -- the whole reader
+  -- the whole-file reader
   each-sized : (shorter longer : Bool) (x : Acceptable) → SmallFields (x .fields) → Each SmallRecord (decided (sized shorter longer x))
   each-sized true longer x s = each-refuse SmallRecord (refusal 16 0) (small-at 16 0 (omega arith) (omega arith))
   each-sized false true x s = each-refuse SmallRecord (refusal 17 0) (small-at 17 0 (omega arith) (omega arith))
@@ -316,7 +316,7 @@ module _ (p : List ℕ) (m : ℕ) (h : Bytes p) where
   each-whole n (decided (refuse r)) k = k
   each-whole n (wants j) k = each-refuse SmallRecord (refusal 16 0) (small-at 16 0 (omega arith) (omega arith))
 
-  -- WHAT THE WHOLE READER ANSWERS IS SMALL
+  -- WHAT THE WHOLE-FILE READER ANSWERS IS SMALL
   pub small-answer : Each SmallRecord (fileAnswer p m)
   small-answer = each-whole (length p) (prefixAnswer p m) each-read
 

@@ -1,4 +1,4 @@
--- Laws on the questions: what each way through the code decides, and what it means that an entry or a volume is shown.
+-- Laws on the queries: what each way through the code decides, and what it means that an entry or a volume is shown.
 use mathlib.Core.Path.{_≡_, refl, sym, ap, _∙_}
 use mathlib.Core.Bool.{Bool, true, false, not, _&&_}
 use mathlib.Core.List.{List}

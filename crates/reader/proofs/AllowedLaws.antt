@@ -373,7 +373,7 @@ pub read-complete : (m : ℕ) (p : List ℕ) (o : Opening) (x : Acceptable) → 
 read-complete m p o x f d r =
     sym (read-opens m p) ∙ run-then openPlan (restPlan m) p ∙ rw (open-complete p o f) (rest-complete m p o f d x r)
 
--- ---- the whole reader
+-- ---- the whole-file reader
 
 -- an acceptance is one of all checks, of a file as long as it says
 pub whole-accepted : (n : ℕ) (y : Answer Acceptable) (x : Acceptable) → whole n y ≡ decided (accept x) → (y ≡ decided (accept x)) × (sizeOf x ≡ n)

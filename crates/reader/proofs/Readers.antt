@@ -34,7 +34,7 @@ reads-wanted answer m after last v k e q f =
     let x : answer ≡ wants k = sym e ∙ ap (λ (y : Verdict). verdictOf y after) q in
     rw x (record { verdict = refl; buffer = f })
 
--- ---- the whole reader
+-- ---- the whole-file reader
 module _ (n m : ℕ) (answer : Answer Acceptable) (v : Verdict) (after : List ℕ) (r : Reads answer m v after) where
   -- an acceptance is of the size that its record has
   accepted-whole : (a : Acceptance) → v ≡ Accepted a → whole n answer ≡ whole n (decided (accept (record { fields = a; table = after })))

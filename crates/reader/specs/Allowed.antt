@@ -61,7 +61,7 @@ givenRecord o p = recordOf o p (chains (nextsIn o p))
 abbrev pub givenTable : Opening → List ℕ → ℕ → List ℕ
 givenTable o p m = predecessors (nextsIn o p) m
 
--- what the whole reader's verdict says of the layout
+-- what the whole-file reader's verdict says of the layout
 pub record AcceptedExactly (p buffer : List ℕ) (v : Verdict) (after : List ℕ) : Type 0 where
   -- what is accepted is allowed, has a working place for each trace entry, and every field and place is the one that the layout gives
   pub sound : (a : Acceptance) → v ≡ Accepted a

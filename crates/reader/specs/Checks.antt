@@ -1,5 +1,5 @@
 -- ALL FIFTEEN CHECKS of document 01's table, from 1 to 15: required length (document 01: reach), number, fault with its index. Then the
--- whole reader's 16 and 17, and the promises of both readers.
+-- whole-file reader's 16 and 17, and the promises of both readers.
 use mathlib.Core.Bool.{Bool, true, false}
 use mathlib.Core.List.{List}
 use Prim.Native.Nat.{ℕ, max}
@@ -93,7 +93,7 @@ readPlan m = do
 abbrev pub prefixAnswer : List ℕ → ℕ → Answer Acceptable
 prefixAnswer p m = run (readPlan m) p
 
--- the whole reader: a request becomes 16, as does an acceptance of a file shorter than S; that of a longer one becomes 17
+-- the whole-file reader: a request becomes 16, as does an acceptance of a file shorter than S; that of a longer one becomes 17
 abbrev pub sized : Bool → Bool → Acceptable → Decision Acceptable
 sized true longer x = refuse (refusal 16 0)
 sized false true x = refuse (refusal 17 0)
@@ -108,7 +108,7 @@ whole n (decided (accept x)) = decided (sized (ltb n (sizeOf x)) (ltb (sizeOf x)
 whole n (decided (refuse r)) = decided (refuse r)
 whole n (wants k) = decided (refuse (refusal 16 0))
 
--- what the whole reader answers on a file
+-- what the whole-file reader answers on a file
 abbrev pub fileAnswer : List ℕ → ℕ → Answer Acceptable
 fileAnswer p m = whole (length p) (prefixAnswer p m)
 
