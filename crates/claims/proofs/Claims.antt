@@ -2,6 +2,7 @@
 use Rattle.incremental.proofs.Plan.{stands, begins-take}
 use Rattle.path_hash.proofs.Laws.{vista-2008}
 use Rattle.catalogue.proofs.RoundTrip.{round-trip}
+use Rattle.sections.proofs.Name.{name-part, name-behind, name-none, name-whole}
 use Rattle.head.proofs.Facts.{open-facts, open-sound}
 use Rattle.trace.proofs.Predecessors.{working-buffer}
 use Rattle.trace.proofs.OneChain.{one-chain}
@@ -31,6 +32,7 @@ claims =
       after-size = after-size;
       stands = λ t xs i j h. stands t _ _ (begins-take xs i j h);
       every-name = every-name;
+      name-stops = record { part = name-part; behind = name-behind; none = name-none; whole = name-whole };
       places = places-say;
       linked = allowed-linked;
       working-buffer = λ s places l room. working-buffer s (l .count) places (l .short) room (l .passes);

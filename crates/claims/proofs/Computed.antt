@@ -10,7 +10,7 @@ use Rattle.layout.specs.Versions.{versionOf}
 use Rattle.layout.specs.declared.Layout.{Layout}
 use Rattle.incremental.specs.Decision.{Decision}
 use Rattle.incremental.specs.Plan.{Answer, run, andThen, reach, check, given}
-use Rattle.sections.specs.Fields.{signatureFault, sizeFault, nameEnd, headOf, outside, outsideFault, shares, sharedFault, placesFault, entriesFault}
+use Rattle.sections.specs.Fields.{signatureFault, sizeFault, nameUnitsIn, nameEnd, headOf, outside, outsideFault, shares, sharedFault, placesFault, entriesFault}
 use Rattle.head.specs.Checks.{startPlan, openPlan}
 use Rattle.head.specs.declared.checks.Start.{Start}
 use Rattle.head.specs.declared.checks.Opening.{Opening}
@@ -24,7 +24,7 @@ use Rattle.query.specs.Queries.{entryShown, volumeShown, volumeFacts, reference
 
 -- checks 1 to 4, and 1 to 6
 unfoldable started : List ℕ → Answer Start
-unfolding run andThen reach check given le startPlan signatureFault sizeFault nameEnd versionOf firstFrom
+unfolding run andThen reach check given le startPlan signatureFault sizeFault nameUnitsIn nameEnd versionOf firstFrom
 started p = run startPlan p
 
 unfoldable opened : List ℕ → Answer Opening

@@ -29,6 +29,7 @@ use Rattle.path_search.specs.declared.Report.{Report}
 use Rattle.path_search.specs.declared.PathAnswer.the-variants.{Entry, NoPath}
 use Rattle.path_search.specs.Search.{matches, entryNumbers, pathFound, PathFound}
 use Rattle.text.specs.Decimal.{decimal, IsDecimal}
+use Rattle.claims.specs.NameStops.{NameStops}
 use Rattle.claims.specs.EveryName.{EveryName}
 use Rattle.claims.specs.Places.{PlacesSay}
 use Rattle.claims.specs.EmptyPrograms.{EmptyPrograms}
@@ -79,6 +80,8 @@ pub record Claims : Type 1 where
       → Stands (take i xs) (take j xs) (run t (take i xs)) (run t (take j xs))
   -- Demand 2, "every field, name": in an accepted file every name, volume and reference can be shown, where the layout has it.
   pub every-name : EveryName
+  -- Request 104: the search for the program name's end stops at the first zero unit, and check 4's answers are the same.
+  pub name-stops : NameStops
   -- ---- the working buffer and the trace links
   -- Refusal 7: with as many working places as `places` says it is never given, with fewer it is.
   pub places : PlacesSay

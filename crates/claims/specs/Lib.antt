@@ -1,3 +1,4 @@
+pub mod NameStops
 pub mod Claims
 pub mod EmptyPrograms
 pub mod EveryName

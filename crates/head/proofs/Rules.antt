@@ -12,9 +12,8 @@ use borrow.Author.Tests.{eq-eqb, le-ltb, ltb-false, eqb-true, eqb-false, not-fal
 use Rattle.lists.specs.Count.{pick}
 use Rattle.lists.proofs.Count.{true-false}
 use Rattle.lists.proofs.Parts.{drop-take}
-use Rattle.lists.proofs.First.{first-at}
 use Rattle.lists.specs.declared.Found.the-variants as found
-use Rattle.little_endian.specs.Number.{le, zeroUnit}
+use Rattle.little_endian.specs.Number.{le}
 use Rattle.layout.specs.Versions.{sizeLimit, headEnd}
 use Rattle.layout.specs.declared.Layout.{Layout}
 use Rattle.incremental.specs.Decision.{faultAt}
@@ -23,6 +22,7 @@ use Rattle.incremental.proofs.Decision.{at-nowhere, fault-clear}
 use Rattle.sections.specs.declared.Section.{Section}
 use Rattle.sections.specs.declared.Head.{Head}
 use Rattle.sections.specs.Fields.{signatureFault, declaredSize, sizeFault, nameEnd, sectionOf, sizeIn, part, outside, outsideFault, shares, sharedFault}
+use Rattle.sections.proofs.Name.{ends-at}
 use Rattle.sections.proofs.Cases.{in-turn, pairs-are}
 use Rattle.head.specs.Rules.{NameEnds, Within, Inside, Separate, Apart}
 
@@ -41,10 +41,9 @@ size-law l b = (go (ltb (declaredSize b) (headEnd l)) (ltb sizeLimit (declaredSi
     go false false p q e = (ltb-false _ _ p, ltb-false _ _ q)
 
 pub name-law : (b : List ℕ) (u : ℕ) → nameEnd b ≡ found.At u → NameEnds b u
-unfolding nameEnd
 name-law b u e =
-    let r = first-at (λ i. zeroUnit b (16 + 2 * i)) 30 0 u e in
-    record { short = omega (arith, r .1); zero-unit = eqb-true _ _ (r .2); before = λ k l. eqb-false _ _ (r .3 k (omega arith) l) }
+    let r = ends-at b u .0 e in
+    record { short = r .short; zero-unit = eqb-true _ _ (r .zero-unit); before = λ k l. eqb-false _ _ (r .before k l) }
 
 pub within-law : (h size : ℕ) (s : Section) → (outside h size s ≡ false) ↔ Within h size s
 unfolding outside

@@ -30,6 +30,7 @@ use Rattle.incremental.specs.declared.Refusal.{Refusal}
 use Rattle.incremental.specs.declared.Fault.{Fault}
 use Rattle.incremental.specs.declared.Fault.the-variants.{At, Nowhere}
 use Rattle.incremental.proofs.Decision.{at-nowhere}
+use Rattle.sections.proofs.Name.{ends-at}
 use Rattle.sections.specs.Fields.{declaredSize, signatureFault, sizeFault, nameEnd, headOf, outsideFault, sharedFault, placesFault, entriesFault}
 use Rattle.sections.specs.declared.Head.{Head}
 use Rattle.head.specs.Checks.{units}
@@ -249,11 +250,10 @@ version-low V23 = omega arith
 version-low V26 = omega arith
 
 name-low : (b : List ℕ) (n : ℕ) → units (nameEnd b) ≡ some n → n < 30
-unfolding nameEnd
 name-low b n e = go (nameEnd b) refl e
   where
     go : (f : Found) → nameEnd b ≡ f → units f ≡ some n → n < 30
-    go (found.At k) q z = let i : k ≡ n = cc in omega (arith, first-at _ 30 0 k q .1)
+    go (found.At k) q z = let i : k ≡ n = cc in omega (arith, ends-at b k .0 q .short)
     go found.Nothing q z = let y : _≡_ {A = ℕ} 0 1 = cc in absurd (omega arith)
 
 -- no more chains than entries

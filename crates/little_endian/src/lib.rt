@@ -72,16 +72,20 @@ pub fn u64_at(s: &[u8], at: usize) -> u64
     whole_u64(s, at)
 }
 
-// The first zero unit among so many units from an offset.
+// The first zero unit among so many units from an offset. The loop ends with it: what lies behind is not looked at.
 pub fn first_zero_unit(s: &[u8], at: u32, count: u32) -> Found
     ensures { λ r. ⌜ r ≡ first (λ k. zeroUnit (now (s .entry)) (at + 2 * k)) count ⌝ }
 {
+    let mut end = count;
     let mut k = 0;
-    while k < count {
+    while k < end {
         if u16_at(s, at as usize + 2 * (k as usize)) == 0 {
-            return Found::At(k as usize);
+            end = k;
         }
         k += 1;
+    }
+    if end < count {
+        return Found::At(end as usize);
     }
     Found::Nothing
 }

@@ -54,7 +54,7 @@ opens p o a =
             least = a .least;
             most = a .most;
             known = a .version;
-            ended = name-ends p (o .«name_units») .1 (a .name);
+            ended = name-ends p (o .«name_units») (omega (arith, b, a .least, a .complete)) .1 (a .name);
             named = omega (arith, b, a .least, a .complete);
             signed = signature-law p .1 (a .signature);
           };
@@ -92,7 +92,7 @@ allowed m p o x c f r =
       least = f .start .least;
       most = f .start .most;
       complete = c;
-      name = name-ends p (o .«name_units») .0 (f .start .ended);
+      name = name-ends p (o .«name_units») (f .start .named) .0 (f .start .ended);
       sections = f .fields ∙ head-take (o .layout) p (open-sound p o f);
       inside = outside-law (o .layout) (o .head) .0 (f .inside);
       apart = shares-law (o .head) .0 (f .apart);

@@ -10,12 +10,13 @@ use native.Mathlib.Omega.{arith}
 use borrow.Author.Tests.{eq-eqb, ne-eqb, le-ltb, ltb-false, not-false, eqb-true}
 use lib.Dec.{eqb, ltb}
 use lib.ListN.{length, take}
+use lib.Seq.{length-take-le}
 use Rattle.lists.specs.First.{firstFrom}
-use Rattle.lists.proofs.First.{first-nothing, first-is-nothing, first-is-at}
+use Rattle.lists.proofs.First.{first-nothing, first-is-nothing}
 use Rattle.lists.specs.Count.{pick, count}
 use Rattle.lists.proofs.Count.{count-yes, count-no, count-zero, true-false}
 use Rattle.lists.specs.declared.Found.the-variants as found
-use Rattle.little_endian.specs.Number.{le, zeroUnit}
+use Rattle.little_endian.specs.Number.{le}
 use Rattle.little_endian.proofs.Number.{le-take}
 use Rattle.layout.specs.Versions.{headEnd, runTimeAt, runCountAt, volumeEntry}
 use Rattle.layout.specs.Private.{SoundLayout}
@@ -27,6 +28,7 @@ use Rattle.incremental.proofs.Decision.{fault-nothing}
 use Rattle.incremental.specs.declared.Fault.{Fault}
 use Rattle.incremental.specs.declared.Fault.the-variants.{Nowhere}
 use Rattle.sections.specs.Fields.{declaredSize, headOf, part, nameEnd, placesFault, entriesFault}
+use Rattle.sections.proofs.Name.{ends-at}
 use Rattle.sections.proofs.Cases.{places-met, entries-met, places-enough, entries-fit}
 use Rattle.head.specs.Checks.{openPlan}
 use Rattle.head.specs.Private.{OpenFacts}
@@ -88,9 +90,8 @@ record-take o p n s =
 unit-take : (p : List ℕ) (k : ℕ) → k < 30 → le 2 (take 76 p) (16 + 2 * k) ≡ le 2 p (16 + 2 * k)
 unit-take p k l = le-take 2 76 p (16 + 2 * k) (omega arith)
 
-pub name-ends : (p : List ℕ) (u : ℕ) → (nameEnd (take 76 p) ≡ found.At u) ↔ NameEnds p u
-unfolding nameEnd
-name-ends p u = (there, back)
+pub name-ends : (p : List ℕ) (u : ℕ) → 76 ≤ length p → (nameEnd (take 76 p) ≡ found.At u) ↔ NameEnds p u
+name-ends p u whole = (there, back)
   where
     there : nameEnd (take 76 p) ≡ found.At u → NameEnds p u
     there e =
@@ -103,9 +104,14 @@ name-ends p u = (there, back)
 
     back : NameEnds p u → nameEnd (take 76 p) ≡ found.At u
     back n =
-        first-is-at (λ i. zeroUnit (take 76 p) (16 + 2 * i)) 30 u (n .short)
-        (eq-eqb _ _ (unit-take p u (n .short) ∙ n .zero-unit))
-        (λ k l. ne-eqb _ _ (λ z. n .before k l (sym (unit-take p k (omega (arith, n .short))) ∙ z)))
+        let l = length-take-le 76 p whole in
+        ends-at (take 76 p) u .1
+        (record {
+          short = n .short;
+          whole = omega (arith, n .short);
+          zero-unit = eq-eqb _ _ (unit-take p u (n .short) ∙ n .zero-unit);
+          before = λ k h. ne-eqb _ _ (λ z. n .before k h (sym (unit-take p k (omega (arith, n .short))) ∙ z));
+        })
 
 -- ---- 11 to 13 on the next indexes
 

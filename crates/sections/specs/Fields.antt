@@ -1,9 +1,9 @@
 -- The head's fields and sections, and what each of checks 2 to 8 finds wrong in them (document 01, "Head" and rows 2 to 8).
 use mathlib.Core.List.{List}
 use mathlib.Core.Bool.{Bool, _&&_, _||_, not}
-use Prim.Native.Nat.{ℕ, _+_, _-_, _*_}
+use Prim.Native.Nat.{ℕ, _+_, _-_, _*_, _/_}
 use lib.Dec.{eqb, ltb}
-use lib.ListN.{take, drop}
+use lib.ListN.{length, take, drop}
 use Rattle.lists.specs.First.{first, firstFrom}
 use Rattle.lists.specs.Count.{pick, some}
 use Rattle.lists.specs.declared.Found.{Found}
@@ -33,9 +33,13 @@ storedHash b = le 4 b storedHashAt
 unfoldable pub sizeFault : Layout → List ℕ → Fault
 sizeFault l b = faultAt 0 (ltb (declaredSize b) (headEnd l) || ltb sizeLimit (declaredSize b))
 
--- 4: the first zero unit of the program name's 30
+-- how many of the program name's 30 units lie whole in so many bytes
+unfoldable pub nameUnitsIn : ℕ → ℕ
+nameUnitsIn n = pick (ltb n (programNameAt + 2 * programNameUnits)) ((n - programNameAt) / 2) programNameUnits
+
+-- 4: the first zero unit of those of the program name's 30 that lie whole in the bytes
 unfoldable pub nameEnd : List ℕ → Found
-nameEnd b = first (λ i. zeroUnit b (programNameAt + 2 * i)) programNameUnits
+nameEnd b = first (λ i. zeroUnit b (programNameAt + 2 * i)) (nameUnitsIn (length b))
 
 -- a section: its offset, length, count of entries, and its end, which is H where it is empty
 abbrev pub sectionOf : ℕ → ℕ → ℕ → ℕ → Section

@@ -2,7 +2,7 @@
 ghost use mathlib.Core.Path.{_≡_};
 ghost use Prim.Native.Nat.{_≤_};
 ghost use Rattle.lists.specs.Part.{IsPart};
-ghost use Rattle.sections.specs.Fields.{signatureFault, sizeFault, nameEnd, sectionOf, headOf, outside, outsideFault, shares};
+ghost use Rattle.sections.specs.Fields.{signatureFault, sizeFault, nameUnitsIn, nameEnd, sectionOf, headOf, outside, outsideFault, shares};
 ghost use Rattle.sections.specs.Fields.{sharedFault, placesFault, entriesFault};
 use incremental::Fault;
 use layout::Layout;
@@ -58,15 +58,25 @@ pub fn size_fault(b: &[u8], l: Layout) -> Fault
     Fault::Nowhere
 }
 
-// Check 4: the number of the program name's units before its first zero.
+// How many of the program name's units lie whole in so many bytes.
+fn name_units_in(length: usize) -> u32
+    ensures { λ r. ⌜ r ≡ nameUnitsIn length ⌝ }
+{
+    if length < layout::PROGRAM_NAME_AT {
+        return 0;
+    }
+    if length < layout::STORED_HASH_AT {
+        return ((length - layout::PROGRAM_NAME_AT) / 2) as u32;
+    }
+    layout::PROGRAM_NAME_UNITS
+}
+
+// Check 4: the number of the program name's units before its first zero. A unit that has not come whole is no zero.
 pub fn name_end(b: &[u8]) -> Found
     ensures { λ r. ⌜ r ≡ nameEnd (now (b .entry)) ⌝ }
 {
-    little_endian::first_zero_unit(
-        b,
-        layout::PROGRAM_NAME_AT as u32,
-        layout::PROGRAM_NAME_UNITS,
-    )
+    let units = name_units_in(b.len());
+    little_endian::first_zero_unit(b, layout::PROGRAM_NAME_AT as u32, units)
 }
 
 fn section_of(h: usize, at: u32, len: usize, count: u32) -> Section

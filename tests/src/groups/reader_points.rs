@@ -109,6 +109,16 @@ fn program_names(tally: &mut Tally) {
         }
         let record = Record { name_units: units as u64, ..bare_record(&file) };
         part(tally, &format!("a name of {units} units"), &file, Verdict::Accepted(record));
+        // The search stops at the first zero: neither units nor zeros behind it count.
+        for place in units + 1..30 {
+            set_16(&mut file, 16 + 2 * place, if place % 2 == 0 { 0 } else { 0xFF00 });
+        }
+        part(
+            tally,
+            &format!("a name of {units} units, more behind"),
+            &file,
+            Verdict::Accepted(record),
+        );
     }
     let mut file = bare(17, 0);
     for place in 0..30 {

@@ -1,23 +1,23 @@
--- Each turn looks at one unit; those that were passed are not zero, so the first zero unit met is the answer.
-use mathlib.Core.Path.{_≡_, sym, _∙_}
-use Prim.Native.Nat.{_+_, _-_, _*_, _≤_}
+-- `end` stays the count until a zero unit is met, which becomes the end: no unit before it is zero, and the loop leaves there.
+use mathlib.Core.Path.{sym, _∙_}
+use mathlib.Core.Logic.{⊎-elim}
+use Prim.Native.Nat.{_+_, _-_, _*_}
 use native.Mathlib.Omega.{arith}
 use borrow.Author.Tests.{eq-eqb, ne-eqb}
 use borrow.Author.Needs.{needs}
-use Rattle.lists.specs.First.{first, firstFrom}
-use Rattle.lists.proofs.First.{first-start, first-miss, first-hit, first-none}
+use Rattle.lists.proofs.First.{Ending, ending-start, ending-hit, ending-miss, ending-at, ending-none}
 use Rattle.little_endian.specs.Number.{zeroUnit}
 use Rattle.little_endian.proofs.first_zero_unit.Statement.{statement}
 use Rattle.little_endian.proofs.first_zero_unit.Tie as tie
 
 abbrev Inv-loop : tie.InvT-loop
-Inv-loop s at count k₀ k = (k ≤ count) × (first (λ j. zeroUnit s (at + 2 * j)) count ≡ firstFrom (λ j. zeroUnit s (at + 2 * j)) (count - k) k)
+Inv-loop s at count end₀ k₀ end k = Ending (λ j. zeroUnit s (at + 2 * j)) count end k
 
 abbrev μ-loop : tie.MeasureT-loop
-μ-loop s at count k₀ k = count - k
+μ-loop s at count end₀ k₀ end k = count - k
 
 loop-holds : tie.Need-loop-holds Inv-loop μ-loop
-loop-holds c = (omega arith, first-start _ _)
+loop-holds c = ending-start _ _
 
 cast-u16-at : tie.Need-cast-u16-at Inv-loop μ-loop
 cast-u16-at c = search needs
@@ -31,14 +31,6 @@ add-u16-at c = search needs
 u16-at-requires : tie.Need-u16-at-requires Inv-loop μ-loop
 u16-at-requires c κs = search needs
 
-cast-t11 : tie.Need-cast-t11 Inv-loop μ-loop
-cast-t11 c = search needs
-
-returns : tie.Need-returns Inv-loop μ-loop
-returns c =
-    let w = c .before .before .before .loop in
-    sym (w .inv .1 ∙ first-hit _ _ _ (omega arith) (eq-eqb _ _ (sym (c .before .u16-at .ensures) ∙ c .if1 .taken)))
-
 add-k : tie.Need-add-k Inv-loop μ-loop
 add-k c = search needs
 
@@ -47,11 +39,20 @@ loop-less c = search needs
 
 loop-again : tie.Need-loop-again Inv-loop μ-loop
 loop-again c =
-    let w = c .before .before .before .loop in
-    (omega arith, w .inv .1 ∙ first-miss _ _ _ (omega arith) (ne-eqb _ _ (λ z. c .if1 .left (c .before .u16-at .ensures ∙ z))))
+    let turn = c .before .before .before .loop in
+    ⊎-elim
+    (λ w. rw (w .1) (ending-hit _ _ _ _ (turn .inv) (omega arith) (eq-eqb _ _ (sym (c .before .u16-at .ensures) ∙ w .0 .taken))))
+    (λ w. rw (w .1) (ending-miss _ _ _ _ (turn .inv) (omega arith) (ne-eqb _ _ (λ z. w .0 .left (c .before .u16-at .ensures ∙ z)))))
+    (c .if1 .came)
+
+cast-t13 : tie.Need-cast-t13 Inv-loop μ-loop
+cast-t13 c = search needs
+
+returns : tie.Need-returns Inv-loop μ-loop
+returns c = ending-at _ _ _ _ (c .before .before .loop .inv) (omega arith) (omega arith)
 
 returns-2 : tie.Need-returns-2 Inv-loop μ-loop
-returns-2 c = sym (c .before .loop .inv .1 ∙ first-none _ _ _ (omega arith))
+returns-2 c = ending-none _ _ _ _ (c .before .before .loop .inv) (omega arith) (omega arith)
 
 pub first-zero-unit-spec : {M : Type 1} → statement M
 first-zero-unit-spec =
@@ -64,9 +65,9 @@ first-zero-unit-spec =
     mul-u16-at
     add-u16-at
     u16-at-requires
-    cast-t11
-    returns
     add-k
     loop-less
     loop-again
+    cast-t13
+    returns
     returns-2)
