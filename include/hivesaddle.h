@@ -142,21 +142,23 @@ enum hs_report {
     HS_REPORT_BOTH = 3
 };
 
-/* The first metrics entry, among those that can be shown, whose name has the stored hash: XP for version 17, Vista or 2008
- * for 23, 2008 for 26. No where there is none, or where checks 1 to 6 do not pass.
+/* The first metrics entry, among those that can be shown, whose name has the stored hash, taken over the bytes of the name:
+ * XP for version 17, Vista or 2008 for 23, 2008 for 26. No where there is none, or where checks 1 to 6 do not pass.
  * out: entry, report. */
 uint32_t hs_find_path(const uint8_t *file, size_t length, uint64_t *out, size_t out_length);
 
 /* ---- Path hashes ----
  *
- * Over a list of numbers, or over the 16-bit units of a text given as bytes; there a last odd byte is ignored.
+ * Over a list of numbers, or over the bytes of a text. A byte counts as a number from 0 to 255, never as a signed one, and
+ * every byte counts, an odd last one too. The hash of a path is that of the bytes of its UTF-16 units, two for each, low
+ * byte first, without a zero unit.
  */
 uint32_t hs_hash_xp(const uint32_t *numbers, size_t count);
 uint32_t hs_hash_vista(const uint32_t *numbers, size_t count);
 uint32_t hs_hash_2008(const uint32_t *numbers, size_t count);
-uint32_t hs_hash_xp_units(const uint8_t *text, size_t length);
-uint32_t hs_hash_vista_units(const uint8_t *text, size_t length);
-uint32_t hs_hash_2008_units(const uint8_t *text, size_t length);
+uint32_t hs_hash_xp_bytes(const uint8_t *text, size_t length);
+uint32_t hs_hash_vista_bytes(const uint8_t *text, size_t length);
+uint32_t hs_hash_2008_bytes(const uint8_t *text, size_t length);
 
 /* ---- Catalogue lines ----
  *

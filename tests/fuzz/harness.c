@@ -33,19 +33,19 @@ uint32_t judge_find_path(const uint8_t *, size_t, uint64_t *, size_t);
 uint32_t judge_hash_xp(const uint32_t *, size_t);
 uint32_t judge_hash_vista(const uint32_t *, size_t);
 uint32_t judge_hash_2008(const uint32_t *, size_t);
-uint32_t judge_hash_xp_units(const uint8_t *, size_t);
-uint32_t judge_hash_vista_units(const uint8_t *, size_t);
-uint32_t judge_hash_2008_units(const uint8_t *, size_t);
+uint32_t judge_hash_xp_bytes(const uint8_t *, size_t);
+uint32_t judge_hash_vista_bytes(const uint8_t *, size_t);
+uint32_t judge_hash_2008_bytes(const uint8_t *, size_t);
 uint32_t judge_catalogue_read(const uint8_t *, size_t, uint64_t *, size_t);
 uint32_t judge_catalogue_write(uint32_t, uint32_t, uint32_t, uint32_t, uint8_t *, size_t);
 
 enum call {
     READ_PREFIX, READ_FILE, PROGRAM_NAME, ENTRY_NAME, VOLUME, REFERENCE, FIND_PATH, HASH_XP, HASH_VISTA, HASH_2008,
-    HASH_XP_UNITS, HASH_VISTA_UNITS, HASH_2008_UNITS, CATALOGUE_READ, CATALOGUE_WRITE, PLACES, CALLS
+    HASH_XP_BYTES, HASH_VISTA_BYTES, HASH_2008_BYTES, CATALOGUE_READ, CATALOGUE_WRITE, PLACES, CALLS
 };
 static const char *const names[CALLS] = {
     "read_prefix", "read_file", "program_name", "entry_name", "volume", "reference", "find_path", "hash_xp", "hash_vista",
-    "hash_2008", "hash_xp_units", "hash_vista_units", "hash_2008_units", "catalogue_read", "catalogue_write", "places"
+    "hash_2008", "hash_xp_bytes", "hash_vista_bytes", "hash_2008_bytes", "catalogue_read", "catalogue_write", "places"
 };
 
 /* ---- Lists between pages that cannot be touched ---- */
@@ -157,7 +157,7 @@ static uint64_t calls[CALLS], answers[CALLS][20], refusals[2][18], accepted[2][3
 
 static void count(enum call call, uint32_t code, const uint64_t *out, size_t out_length) {
     calls[call]++;
-    if (call >= HASH_XP && call <= HASH_2008_UNITS) return;
+    if (call >= HASH_XP && call <= HASH_2008_BYTES) return;
     answers[call][code]++;
     if (call <= READ_FILE && code == HS_REFUSED && out_length > HS_NUMBER) refusals[call][out[HS_NUMBER]]++;
     if (call <= READ_FILE && code == HS_ACCEPTED && out_length > HS_VERSION) accepted[call][out[HS_VERSION]]++;
@@ -275,17 +275,17 @@ static void one_call(enum call call, const struct input *in, uint64_t i, uint64_
         given = hs_hash_2008(numbers, count_32);
         expected = judge_hash_2008(numbers, count_32);
         break;
-    case HASH_XP_UNITS:
-        given = hs_hash_xp_units(file, n);
-        expected = judge_hash_xp_units(file, n);
+    case HASH_XP_BYTES:
+        given = hs_hash_xp_bytes(file, n);
+        expected = judge_hash_xp_bytes(file, n);
         break;
-    case HASH_VISTA_UNITS:
-        given = hs_hash_vista_units(file, n);
-        expected = judge_hash_vista_units(file, n);
+    case HASH_VISTA_BYTES:
+        given = hs_hash_vista_bytes(file, n);
+        expected = judge_hash_vista_bytes(file, n);
         break;
-    case HASH_2008_UNITS:
-        given = hs_hash_2008_units(file, n);
-        expected = judge_hash_2008_units(file, n);
+    case HASH_2008_BYTES:
+        given = hs_hash_2008_bytes(file, n);
+        expected = judge_hash_2008_bytes(file, n);
         break;
     case CATALOGUE_READ:
         given = hs_catalogue_read(file, n, out, o);

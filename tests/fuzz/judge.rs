@@ -178,18 +178,18 @@ pub unsafe extern "C" fn judge_hash_2008(numbers: *const u32, count: usize) -> u
 }
 
 #[no_mangle]
-pub unsafe extern "C" fn judge_hash_xp_units(text: *const u8, length: usize) -> u32 {
-    hashes::hash_xp(&hashes::units(list(text, length)))
+pub unsafe extern "C" fn judge_hash_xp_bytes(text: *const u8, length: usize) -> u32 {
+    hashes::hash_xp(&hashes::bytes(list(text, length)))
 }
 
 #[no_mangle]
-pub unsafe extern "C" fn judge_hash_vista_units(text: *const u8, length: usize) -> u32 {
-    hashes::hash_vista(&hashes::units(list(text, length)))
+pub unsafe extern "C" fn judge_hash_vista_bytes(text: *const u8, length: usize) -> u32 {
+    hashes::hash_vista(&hashes::bytes(list(text, length)))
 }
 
 #[no_mangle]
-pub unsafe extern "C" fn judge_hash_2008_units(text: *const u8, length: usize) -> u32 {
-    hashes::hash_2008(&hashes::units(list(text, length)))
+pub unsafe extern "C" fn judge_hash_2008_bytes(text: *const u8, length: usize) -> u32 {
+    hashes::hash_2008(&hashes::bytes(list(text, length)))
 }
 
 #[no_mangle]

@@ -3,6 +3,7 @@
 pub mod bare;
 pub mod cuts;
 pub mod damage;
+pub mod misread;
 pub mod shapes;
 mod strings;
 mod volumes;
@@ -127,14 +128,20 @@ pub fn trace_section(random: &mut Random, links: &[u32]) -> Vec<u8> {
     section
 }
 
-/// Half the time the hash of one of the names.
+/// Half the time the hash of one of the names, and a quarter one that was
+/// taken over other numbers than its bytes.
 fn stored_hash(random: &mut Random, layout: &Layout, strings: &Strings) -> u32 {
-    if strings.names.is_empty() || random.one_in(2) {
+    if strings.names.is_empty() {
         return random.u32();
     }
     let name = random.pick(&strings.names);
     let text = &strings.bytes[name.offset as usize..][..2 * name.units as usize];
-    let numbers = hashes::units(text);
+    let numbers = match random.below(8) {
+        0..=3 => hashes::bytes(text),
+        4 => misread::units(text),
+        5 => misread::signed_bytes(text),
+        _ => return random.u32(),
+    };
     match layout.version {
         17 => hashes::hash_xp(&numbers),
         23 => hashes::hash_vista(&numbers),

@@ -49,7 +49,7 @@ const FOLDERS: [&str; 8] = [
 const STEMS: [&str; 8] =
     ["NTDLL", "KERNEL32", "APISETSCHEMA", "LOCALE", "COMCTL32", "OLEAUT32", "FANCURVE", "READINGS"];
 
-/// A sound file. The stored hash is that of the program's path, by units.
+/// A sound file. The stored hash is that of the program's path.
 pub fn file(version: u32, amounts: &Amounts) -> Vec<u8> {
     let layout = layout_of(version).expect("one of the three versions");
     let names: Vec<String> = (0..amounts.files).map(name).collect();
@@ -94,7 +94,7 @@ fn set_head(file: &mut [u8], layout: &Layout, names: &[String]) {
 }
 
 fn stored_hash(version: u32, path: &str) -> u32 {
-    let numbers = hashes::units(&units(path));
+    let numbers = hashes::bytes(&units(path));
     match version {
         17 => hashes::hash_xp(&numbers),
         23 => hashes::hash_vista(&numbers),

@@ -44,9 +44,9 @@ static void reference(void) { answer = hs_reference(file, length, 1, 0, out, HS_
 static void hash_xp(void) { answer = hs_hash_xp(numbers, 1000); }
 static void hash_vista(void) { answer = hs_hash_vista(numbers, 1000); }
 static void hash_2008(void) { answer = hs_hash_2008(numbers, 1000); }
-static void hash_xp_units(void) { answer = hs_hash_xp_units(file, length); }
-static void hash_vista_units(void) { answer = hs_hash_vista_units(file, length); }
-static void hash_2008_units(void) { answer = hs_hash_2008_units(file, length); }
+static void hash_xp_bytes(void) { answer = hs_hash_xp_bytes(file, length); }
+static void hash_vista_bytes(void) { answer = hs_hash_vista_bytes(file, length); }
+static void hash_2008_bytes(void) { answer = hs_hash_2008_bytes(file, length); }
 static void catalogue_write(void) { answer = hs_catalogue_write(148, 65, 1, 17, line, sizeof line); }
 static void catalogue_read(void) { answer = hs_catalogue_read(line, sizeof line, out, HS_READER_OUT); }
 
@@ -67,9 +67,9 @@ static struct {
     {"hs_hash_xp", hash_xp, 0},
     {"hs_hash_vista", hash_vista, 0},
     {"hs_hash_2008", hash_2008, 0},
-    {"hs_hash_xp_units", hash_xp_units, 0},
-    {"hs_hash_vista_units", hash_vista_units, 0},
-    {"hs_hash_2008_units", hash_2008_units, 0},
+    {"hs_hash_xp_bytes", hash_xp_bytes, 0},
+    {"hs_hash_vista_bytes", hash_vista_bytes, 0},
+    {"hs_hash_2008_bytes", hash_2008_bytes, 0},
     {"hs_catalogue_write", catalogue_write, 0},
     {"hs_catalogue_read", catalogue_read, 0},
 };

@@ -1,7 +1,7 @@
 // The library for C and Rust. Every function is total; an output takes as many values as fit, and the rest of it stays.
 ghost use mathlib.Core.Path.{_≡_};
 ghost use mathlib.Core.List.{[], _∷_};
-ghost use Rattle.path_hash.specs.Hash.{xp, vista, hash2008, units};
+ghost use Rattle.path_hash.specs.Hash.{xp, vista, hash2008};
 ghost use Rattle.catalogue.specs.Line.{reading};
 ghost use Rattle.reader.specs.Verdict.{valuesOf, noRecord};
 ghost use Rattle.query.specs.Queries.{placeSaid, programPlace, entryPlace, volumeAsked, volumeList, volumeValues, volumeSaid};
@@ -45,24 +45,24 @@ pub extern "C" fn hs_hash_2008(numbers: &[u32]) -> u32
 }
 
 #[no_mangle]
-pub extern "C" fn hs_hash_xp_units(text: &[u8]) -> u32
-    ensures { λ r. ⌜ r ≡ xp (units (now (text .entry))) ⌝ }
+pub extern "C" fn hs_hash_xp_bytes(text: &[u8]) -> u32
+    ensures { λ r. ⌜ r ≡ xp (now (text .entry)) ⌝ }
 {
-    path_hash::hash_xp_units(text)
+    path_hash::hash_xp_bytes(text)
 }
 
 #[no_mangle]
-pub extern "C" fn hs_hash_vista_units(text: &[u8]) -> u32
-    ensures { λ r. ⌜ r ≡ vista (units (now (text .entry))) ⌝ }
+pub extern "C" fn hs_hash_vista_bytes(text: &[u8]) -> u32
+    ensures { λ r. ⌜ r ≡ vista (now (text .entry)) ⌝ }
 {
-    path_hash::hash_vista_units(text)
+    path_hash::hash_vista_bytes(text)
 }
 
 #[no_mangle]
-pub extern "C" fn hs_hash_2008_units(text: &[u8]) -> u32
-    ensures { λ r. ⌜ r ≡ hash2008 (units (now (text .entry))) ⌝ }
+pub extern "C" fn hs_hash_2008_bytes(text: &[u8]) -> u32
+    ensures { λ r. ⌜ r ≡ hash2008 (now (text .entry)) ⌝ }
 {
-    path_hash::hash_2008_units(text)
+    path_hash::hash_2008_bytes(text)
 }
 
 // As many of the values as fit.

@@ -10,9 +10,7 @@ use borrow.Author.Tests.{ltb-true}
 use lib.Dec.{ltb}
 use lib.ListN.{length, getD, drop, drop-of-length-le}
 use lib.Seq.{drop-cons}
-use Rattle.path_hash.specs.Hash.{step, plain, vista, wrapSub, eightSum, eight, eightAt, eights, hash2008, units}
-use Rattle.little_endian.specs.Number.{le}
-use Rattle.lists.proofs.Table.{length-tabulate, getD-tabulate}
+use Rattle.path_hash.specs.Hash.{step, plain, vista, wrapSub, eightSum, eight, eightAt, eights, hash2008}
 
 -- equal up to multiples of 2 ^ 32
 pub same-mod : (a b k l : ℕ) → a + k * 2 ^ 32 ≡ b + l * 2 ^ 32 → a % 2 ^ 32 ≡ b % 2 ^ 32
@@ -95,11 +93,3 @@ unfolding wrapSub
 wrapped r a b l e =
     sym (mod-eq-of-lt l)
     ∙ same-mod r (a + (2 ^ 32 - b % 2 ^ 32)) (a / 2 ^ 32 + 1) ((r + b % 2 ^ 32) / 2 ^ 32) (omega arith)
-
-pub length-units : (s : List ℕ) → length (units s) ≡ length s / 2
-unfolding units
-length-units s = length-tabulate (length s / 2) (λ k. le 2 s (2 * k))
-
-pub getD-units : (s : List ℕ) (k : ℕ) → k < length s / 2 → getD (units s) k 0 ≡ le 2 s (2 * k)
-unfolding units
-getD-units s k l = getD-tabulate (length s / 2) (λ i. le 2 s (2 * i)) k 0 l

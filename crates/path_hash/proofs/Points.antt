@@ -15,4 +15,8 @@ hash-points =
       xp-A = refl;
       least-signed = refl;
       minus-one = refl;
+      xp-A-bytes = refl;
+      vista-A-bytes = refl;
+      xp-high-byte = refl;
+      vista-high-byte = refl;
     }

@@ -1,14 +1,12 @@
--- Document 01's "Path hashes" over a list of numbers, and over the units of a text.
+-- Document 01's "Path hashes" over a list of numbers. The numbers of a text are its bytes (request 102).
 use mathlib.Core.Bool.{true, false}
 use mathlib.Core.List.{List, [], _∷_}
-use Prim.Native.Nat.{ℕ, zero, suc, _+_, _-_, _*_, _/_, _%_, _^_}
+use Prim.Native.Nat.{ℕ, zero, suc, _+_, _-_, _*_, _%_, _^_}
 use lib.Dec.{ltb}
 use lib.IntN.{natAbs}
 use mir.Syntax.{w32}
 use mir.Val.{toZ}
 use lib.ListN.{length, getD, drop}
-use Rattle.lists.specs.Table.{tabulate}
-use Rattle.little_endian.specs.Number.{le}
 
 -- the plain step: 37h + c mod 4,294,967,296
 unfoldable pub step : ℕ → ℕ → ℕ
@@ -65,7 +63,3 @@ eights (suc n) h s = elim (ltb 8 (length s)) [ true ↦ eights n (eightAt h s 0)
 -- the 2008 hash: from 314159. Each turn takes eight numbers, so the length is turns enough.
 unfoldable pub hash2008 : List ℕ → ℕ
 hash2008 cs = eights (length cs) 314159 cs
-
--- the 16-bit units of a text, each from two bytes, the low one first; an odd last byte is ignored
-unfoldable pub units : List ℕ → List ℕ
-units s = tabulate (length s / 2) (λ k. le 2 s (2 * k))

@@ -1,8 +1,8 @@
-// The path hashes, over numbers and over the units of a text.
+// The path hashes, over numbers and over the bytes of a text.
 ghost use mathlib.Core.Path.{_≡_};
-ghost use Prim.Native.Nat.{_+_, _*_, _≤_, _<_};
-ghost use lib.ListN.{length, drop, getD};
-ghost use Rattle.path_hash.specs.Hash.{step, plain, vista, xp, xpEnd, eight, eightAt, hash2008, units};
+ghost use Prim.Native.Nat.{_+_, _≤_, _<_};
+ghost use lib.ListN.{length, getD};
+ghost use Rattle.path_hash.specs.Hash.{step, plain, vista, xp, xpEnd, eight, eightAt, hash2008};
 
 // Where Vista and 2008 start.
 const START: u32 = 314159;
@@ -95,77 +95,78 @@ pub fn hash_2008(cs: &[u32]) -> u32
     plain_from(h, &cs[i..])
 }
 
-// Unit i of a text.
-fn unit_at(s: &[u8], i: usize) -> u32
-    requires { ⌜ 2 * i + 2 ≤ length (now s) ⌝ }
-    ensures { λ r. ⌜ r ≡ getD (units (now (s .entry))) i 0 ⌝ }
+// A byte as the number that it is, from 0 to 255: none is negative.
+fn wide(byte: u8) -> u32
+    ensures { λ r. ⌜ r ≡ byte ⌝ }
 {
-    let at = 2 * i;
-    s[at] as u32 + 256 * (s[at + 1] as u32)
+    byte as u32
 }
 
-// The plain step at each unit of a text, from one of them on.
-fn plain_units(from: u32, s: &[u8], start: usize) -> u32
-    requires { ⌜ 2 * start ≤ length (now s) ⌝ }
-    ensures { λ r. ⌜ r ≡ plain from (drop start (units (now (s .entry)))) ⌝ }
+fn byte_at(text: &[u8], i: usize) -> u32
+    requires { ⌜ i < length (now text) ⌝ }
+    ensures { λ r. ⌜ r ≡ getD (now (text .entry)) i 0 ⌝ }
 {
-    let n = s.len() / 2;
+    wide(text[i])
+}
+
+// The plain step at each byte.
+fn plain_bytes(from: u32, text: &[u8]) -> u32
+    ensures { λ r. ⌜ r ≡ plain from (now (text .entry)) ⌝ }
+{
     let mut h = from;
-    let mut i = start;
-    while i < n {
-        h = next(h, unit_at(s, i));
+    let mut i = 0;
+    while i < text.len() {
+        h = next(h, byte_at(text, i));
         i += 1;
     }
     h
 }
 
-// The eight-number step at the units from i.
-fn eight_units(h: u32, s: &[u8], i: usize) -> u32
-    requires { ⌜ 2 * i + 16 ≤ length (now s) ⌝ }
-    ensures { λ r. ⌜ r ≡ eightAt h (units (now (s .entry))) i ⌝ }
+// The eight-number step at the bytes from i.
+fn eight_bytes(h: u32, text: &[u8], i: usize) -> u32
+    requires { ⌜ i + 8 ≤ length (now text) ⌝ }
+    ensures { λ r. ⌜ r ≡ eightAt h (now (text .entry)) i ⌝ }
 {
-    let c0 = unit_at(s, i);
-    let c1 = unit_at(s, i + 1);
-    let c2 = unit_at(s, i + 2);
-    let c3 = unit_at(s, i + 3);
-    let c4 = unit_at(s, i + 4);
-    let c5 = unit_at(s, i + 5);
-    let c6 = unit_at(s, i + 6);
-    let c7 = unit_at(s, i + 7);
+    let c0 = byte_at(text, i);
+    let c1 = byte_at(text, i + 1);
+    let c2 = byte_at(text, i + 2);
+    let c3 = byte_at(text, i + 3);
+    let c4 = byte_at(text, i + 4);
+    let c5 = byte_at(text, i + 5);
+    let c6 = byte_at(text, i + 6);
+    let c7 = byte_at(text, i + 7);
     eight_step(h, c0, c1, c2, c3, c4, c5, c6, c7)
 }
 
-// The plain step at each unit of a text, eight at a time while more than eight remain: one multiplication of the hash serves
-// eight units.
-fn hash_units(from: u32, text: &[u8]) -> u32
-    ensures { λ r. ⌜ r ≡ plain from (units (now (text .entry))) ⌝ }
+// The plain step at each byte, eight at a time while more than eight remain: one multiplication of the hash serves eight bytes.
+fn hash_bytes(from: u32, text: &[u8]) -> u32
+    ensures { λ r. ⌜ r ≡ plain from (now (text .entry)) ⌝ }
 {
-    let n = text.len() / 2;
     let mut h = from;
     let mut i = 0;
-    while 8 < n - i {
-        h = eight_units(h, text, i);
+    while 8 < text.len() - i {
+        h = eight_bytes(h, text, i);
         i += 8;
     }
-    plain_units(h, text, i)
+    plain_bytes(h, &text[i..])
 }
 
-// The hashes of a text's 16-bit units, given as bytes, the low one first. An odd last byte is ignored.
-pub fn hash_vista_units(text: &[u8]) -> u32
-    ensures { λ r. ⌜ r ≡ vista (units (now (text .entry))) ⌝ }
+// The hashes of a text: each of its bytes is one number, the low byte of a 16-bit unit before the high one.
+pub fn hash_vista_bytes(text: &[u8]) -> u32
+    ensures { λ r. ⌜ r ≡ vista (now (text .entry)) ⌝ }
 {
-    hash_units(START, text)
+    hash_bytes(START, text)
 }
 
-pub fn hash_xp_units(text: &[u8]) -> u32
-    ensures { λ r. ⌜ r ≡ xp (units (now (text .entry))) ⌝ }
+pub fn hash_xp_bytes(text: &[u8]) -> u32
+    ensures { λ r. ⌜ r ≡ xp (now (text .entry)) ⌝ }
 {
-    signed_end(hash_units(0, text))
+    signed_end(hash_bytes(0, text))
 }
 
 // Vista and 2008 are equal on every list (`vista-2008`).
-pub fn hash_2008_units(text: &[u8]) -> u32
-    ensures { λ r. ⌜ r ≡ hash2008 (units (now (text .entry))) ⌝ }
+pub fn hash_2008_bytes(text: &[u8]) -> u32
+    ensures { λ r. ⌜ r ≡ hash2008 (now (text .entry)) ⌝ }
 {
-    hash_units(START, text)
+    hash_bytes(START, text)
 }

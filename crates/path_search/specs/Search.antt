@@ -11,7 +11,7 @@ use Rattle.layout.specs.declared.Version.{Version}
 use Rattle.layout.specs.declared.Version.the-variants.{V17, V23, V26}
 use Rattle.sections.specs.Fields.{storedHash}
 use Rattle.incremental.specs.Plan.{run}
-use Rattle.path_hash.specs.Hash.{xp, vista, hash2008, units}
+use Rattle.path_hash.specs.Hash.{xp, vista, hash2008}
 use Rattle.head.specs.Checks.{openPlan}
 use Rattle.head.specs.declared.checks.Opening.{Opening}
 use Rattle.query.specs.Queries.{asked, bytesAt, entryShown, namePlace}
@@ -21,9 +21,10 @@ use Rattle.path_search.specs.declared.PathAnswer.{PathAnswer}
 use Rattle.path_search.specs.declared.PathAnswer.the-variants as pathAnswer
 use mathlib.Core.Path.{_≡_}
 
--- the numbers that a name's bytes give to the hash: each 16-bit unit is one number
+-- the numbers that a name gives to the hash (request 102): its bytes, low byte first, two for each unit, each from 0 to 255. The bytes
+-- are those of the file as they stand.
 abbrev pub numbersOf : List ℕ → List ℕ
-numbersOf name = units name
+numbersOf name = name
 
 -- version 17 uses XP, 26 uses 2008, and 23 either of Vista and 2008
 abbrev pub matches : Version → List ℕ → ℕ → Bool

@@ -62,13 +62,13 @@ fn name_matches(name: &[u8], version: Version, stored: u32) -> Match
     ensures { λ r. ⌜ r ≡ matchOf version (numbersOf (now (name .entry))) stored ⌝ }
 {
     match version {
-        Version::V17 => one_hash(path_hash::hash_xp_units(name), stored),
+        Version::V17 => one_hash(path_hash::hash_xp_bytes(name), stored),
         Version::V23 => two_hashes(
-            path_hash::hash_vista_units(name),
-            path_hash::hash_2008_units(name),
+            path_hash::hash_vista_bytes(name),
+            path_hash::hash_2008_bytes(name),
             stored,
         ),
-        Version::V26 => one_hash(path_hash::hash_2008_units(name), stored),
+        Version::V26 => one_hash(path_hash::hash_2008_bytes(name), stored),
     }
 }
 

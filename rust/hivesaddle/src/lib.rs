@@ -15,7 +15,7 @@ mod readers;
 
 pub use catalogue::{catalogue_read, catalogue_write, CatalogueFields, CATALOGUE_LINE_LENGTH};
 pub use hashes::{
-    hash_2008, hash_2008_units, hash_vista, hash_vista_units, hash_xp, hash_xp_units,
+    hash_2008, hash_2008_bytes, hash_vista, hash_vista_bytes, hash_xp, hash_xp_bytes,
 };
 pub use queries::{
     entry_name, find_path, places, program_name, reference, volume, FoundPath, Reference, Report,

@@ -164,7 +164,7 @@ pub fn reference(file: &[u8], i: u64, k: u64) -> Option<Reference> {
 }
 
 /// The first metrics entry, among those that can be shown, whose name has the
-/// stored hash.
+/// stored hash, taken over the bytes of the name.
 ///
 /// ```
 /// // Version 17, one name "A" after the head, and the XP hash of "A".
@@ -172,7 +172,7 @@ pub fn reference(file: &[u8], i: u64, k: u64) -> Option<Reference> {
 /// file[0] = 17;
 /// file[4..8].copy_from_slice(b"SCCA");
 /// file[12] = 172;
-/// file[76..80].copy_from_slice(&54483988u32.to_le_bytes());
+/// file[76..80].copy_from_slice(&361202151u32.to_le_bytes());
 /// (file[84], file[88]) = (148, 1);
 /// (file[100], file[104]) = (168, 4);
 /// file[148 + 12] = 1;

@@ -9,9 +9,9 @@ extern "C" {
     pub fn hs_hash_xp(numbers: *const u32, count: usize) -> u32;
     pub fn hs_hash_vista(numbers: *const u32, count: usize) -> u32;
     pub fn hs_hash_2008(numbers: *const u32, count: usize) -> u32;
-    pub fn hs_hash_xp_units(text: *const u8, length: usize) -> u32;
-    pub fn hs_hash_vista_units(text: *const u8, length: usize) -> u32;
-    pub fn hs_hash_2008_units(text: *const u8, length: usize) -> u32;
+    pub fn hs_hash_xp_bytes(text: *const u8, length: usize) -> u32;
+    pub fn hs_hash_vista_bytes(text: *const u8, length: usize) -> u32;
+    pub fn hs_hash_2008_bytes(text: *const u8, length: usize) -> u32;
 
     /// 0 or 18. `out`: size, stored hash, run count, version.
     pub fn hs_catalogue_read(

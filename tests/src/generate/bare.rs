@@ -1,4 +1,4 @@
-//! Files with a bare head and at most one section, for answers worked out by
+//! Files with a bare head and one section or two, for answers worked out by
 //! hand.
 
 use super::set_32;
@@ -64,5 +64,46 @@ pub fn one_volume_of(version: u32, fields: [u32; 6], data: &[u8]) -> Vec<u8> {
         set_32(&mut file, start + place, number);
     }
     file[start + entry as usize..].copy_from_slice(data);
+    file
+}
+
+/// H, the metrics entry's size, and where the name's offset stands in it; its
+/// length follows.
+fn numbers_of(version: u32) -> (usize, usize, usize) {
+    match version {
+        17 => (148, 20, 8),
+        23 => (156, 32, 12),
+        _ => (212, 32, 12),
+    }
+}
+
+/// Metrics entries right after the head and strings right after them. A name
+/// is its offset and its units.
+pub fn with_names(version: u32, names: &[(u32, u32)], strings: &[u8]) -> Vec<u8> {
+    let (head_end, entry, name) = numbers_of(version);
+    let strings_start = head_end + entry * names.len();
+    let mut file = vec![0; strings_start + strings.len()];
+    let size = file.len() as u32;
+    set_32(&mut file, 0, version);
+    file[4..8].copy_from_slice(b"SCCA");
+    set_32(&mut file, 12, size);
+    set_32(&mut file, 84, head_end as u32);
+    set_32(&mut file, 88, names.len() as u32);
+    set_32(&mut file, 100, strings_start as u32);
+    set_32(&mut file, 104, strings.len() as u32);
+    for (i, &(offset, units)) in names.iter().enumerate() {
+        set_32(&mut file, head_end + i * entry + name, offset);
+        set_32(&mut file, head_end + i * entry + name + 4, units);
+    }
+    file[strings_start..].copy_from_slice(strings);
+    file
+}
+
+/// One metrics entry with this path for its name, and a stored hash.
+pub fn with_path(version: u32, path: &str, stored_hash: u32) -> Vec<u8> {
+    let units = path.encode_utf16().count() as u32;
+    let strings: Vec<u8> = path.encode_utf16().chain([0]).flat_map(u16::to_le_bytes).collect();
+    let mut file = with_names(version, &[(0, units)], &strings);
+    set_32(&mut file, 76, stored_hash);
     file
 }

@@ -1,6 +1,7 @@
 //! The three path hashes over lists of numbers and over texts.
 
 use super::Run;
+use crate::generate::misread;
 use crate::random::Random;
 use crate::reference::hashes as reference;
 use crate::tally::{hex, hex_numbers, Tally};
@@ -13,6 +14,7 @@ const EDGES: [u32; 8] =
 pub fn run(run: &Run, tally: &mut Tally) {
     let mut random = run.random("hashes");
     named_points(tally);
+    named_texts(tally);
     nothing_at_a_null_pointer(tally);
     example_of_the_source(tally);
     edge_numbers(tally);
@@ -29,15 +31,25 @@ fn named_points(tally: &mut Tally) {
     tally.named("Vista of A", &11623948, &hivesaddle::hash_vista(&[65]));
     tally.named("2008 of A", &11623948, &hivesaddle::hash_2008(&[65]));
     tally.named("Vista of AB", &430086142, &hivesaddle::hash_vista(&[65, 66]));
-    tally.named("XP of A by units", &54483988, &hivesaddle::hash_xp_units(b"A\0"));
-    tally.named("Vista of A by units", &11623948, &hivesaddle::hash_vista_units(b"A\0"));
-    tally.named("2008 of A by units", &11623948, &hivesaddle::hash_2008_units(b"A\0"));
-    tally.named("Vista of AB by units", &430086142, &hivesaddle::hash_vista_units(b"A\0B\0"));
     // The wrong multiplier that has been seen gives this for "A".
     tally.named("XP multiplier", &false, &(hivesaddle::hash_xp(&[65]) == 184483988));
-    // By bytes, as the papers give them for later.
-    tally.named("XP of A by bytes", &361202151, &hivesaddle::hash_xp(&[65, 0]));
-    tally.named("Vista of A by bytes", &430086076, &hivesaddle::hash_vista(&[65, 0]));
+}
+
+/// Texts as bytes: "A" and an E9 as UTF-16 units, and a single byte.
+fn named_texts(tally: &mut Tally) {
+    let cases: [(&[u8], u32, u32); 4] = [
+        (b"", 0, 314159),
+        (b"A\0", 361202151, 430086076),
+        // As a signed byte: 61565560 and 430082820.
+        (b"\xE9\0", 757305720, 430092292),
+        // An odd last byte counts.
+        (b"A", 54483988, 11623948),
+    ];
+    for (text, xp, vista) in cases {
+        tally.named(&format!("XP of bytes {text:?}"), &xp, &hivesaddle::hash_xp_bytes(text));
+        let given = (hivesaddle::hash_vista_bytes(text), hivesaddle::hash_2008_bytes(text));
+        tally.named(&format!("Vista and 2008 of bytes {text:?}"), &(vista, vista), &given);
+    }
 }
 
 fn nothing_at_a_null_pointer(tally: &mut Tally) {
@@ -45,9 +57,9 @@ fn nothing_at_a_null_pointer(tally: &mut Tally) {
         tally.named("XP, null", &0, &raw::hs_hash_xp(null(), 0));
         tally.named("Vista, null", &314159, &raw::hs_hash_vista(null(), 0));
         tally.named("2008, null", &314159, &raw::hs_hash_2008(null(), 0));
-        tally.named("XP by units, null", &0, &raw::hs_hash_xp_units(null(), 0));
-        tally.named("Vista by units, null", &314159, &raw::hs_hash_vista_units(null(), 0));
-        tally.named("2008 by units, null", &314159, &raw::hs_hash_2008_units(null(), 0));
+        tally.named("XP by bytes, null", &0, &raw::hs_hash_xp_bytes(null(), 0));
+        tally.named("Vista by bytes, null", &314159, &raw::hs_hash_vista_bytes(null(), 0));
+        tally.named("2008 by bytes, null", &314159, &raw::hs_hash_2008_bytes(null(), 0));
     }
 }
 
@@ -57,15 +69,16 @@ fn example_of_the_source(tally: &mut Tally) {
     const EXPECTED: u32 = 0x189578DA;
     let name = r"\DEVICE\HARDDISKVOLUME1\WINDOWS\NOTEPAD.EXE";
     let text: Vec<u8> = name.encode_utf16().flat_map(u16::to_le_bytes).collect();
-    let by_bytes = hivesaddle::hash_xp(&reference::bytes(&text));
-    let by_units = hivesaddle::hash_xp_units(&text);
+    let by_bytes = hivesaddle::hash_xp_bytes(&text);
+    let by_units = hivesaddle::hash_xp(&misread::units(&text));
     println!(
         "example hash {EXPECTED:08X} of {name}: by bytes {by_bytes:08X}, by units {by_units:08X}"
     );
     tally.named("example hash by bytes", &EXPECTED, &by_bytes);
-    tally.named("example hash by units differs", &true, &(by_units != EXPECTED));
-    let units = reference::hash_xp(&reference::units(&text));
-    tally.named("example hash by units", &units, &by_units);
+    tally.named("example hash by units", &0x39B1CF75, &by_units);
+    // The document has no example for these: its functions, run over the bytes.
+    let others = (hivesaddle::hash_vista_bytes(&text), hivesaddle::hash_2008_bytes(&text));
+    tally.named("the example by Vista and 2008", &(0x3D2AFDB4, 0x3D2AFDB4), &others);
 }
 
 /// Every list of up to three edge numbers.
@@ -203,12 +216,12 @@ fn mixed_text(random: &mut Random, length: usize) -> Vec<u8> {
 
 fn text(text: &[u8], tally: &mut Tally) {
     let copy = text.to_vec();
-    let units = reference::units(text);
+    let bytes = reference::bytes(text);
     let input = || hex(text);
     let (xp, vista, hash_2008) =
-        (reference::hash_xp(&units), reference::hash_vista(&units), reference::hash_2008(&units));
-    tally.same("XP by units", &xp, &hivesaddle::hash_xp_units(&copy), input);
-    tally.same("Vista by units", &vista, &hivesaddle::hash_vista_units(&copy), input);
-    tally.same("2008 by units", &hash_2008, &hivesaddle::hash_2008_units(&copy), input);
+        (reference::hash_xp(&bytes), reference::hash_vista(&bytes), reference::hash_2008(&bytes));
+    tally.same("XP by bytes", &xp, &hivesaddle::hash_xp_bytes(&copy), input);
+    tally.same("Vista by bytes", &vista, &hivesaddle::hash_vista_bytes(&copy), input);
+    tally.same("2008 by bytes", &hash_2008, &hivesaddle::hash_2008_bytes(&copy), input);
     tally.same("text unchanged", text, &copy, input);
 }

@@ -2,6 +2,7 @@
 //! one that HIVESADDLE_PROGRAM names.
 
 use super::Run;
+use crate::generate::bare::with_path;
 use crate::generate::cuts::cuts;
 use crate::generate::damage::{damage, edits};
 use crate::generate::{any, rich, set_32, sound_of, Counts, Sample};
@@ -17,6 +18,7 @@ pub const PROGRAM: &str = "HIVESADDLE_PROGRAM";
 pub fn run(run: &Run, tally: &mut Tally) {
     let mut random = run.random("listing");
     example(tally);
+    example_paths(tally);
     lengths(&mut random, tally);
     places(&mut random, tally);
     found_paths(&mut random, tally);
@@ -43,6 +45,24 @@ fn example(tally: &mut Tally) {
     file[4] = 0;
     tally.named("the paper's refusal", "refused 2 0\n", &text_of(&file));
     tally.named("no input", "refused 16 0\n", &text_of(b""));
+}
+
+/// A path that is found: the example of source document 000 for XP, and the
+/// same path by its other functions.
+fn example_paths(tally: &mut Tally) {
+    let path = r"\DEVICE\HARDDISKVOLUME1\WINDOWS\NOTEPAD.EXE";
+    let cases = [
+        (17, 0x189578DA, "path 0"),
+        (23, 0x3D2AFDB4, "path 0 both"),
+        (26, 0x3D2AFDB4, "path 0"),
+        (26, 0x189578DA, "path none"),
+    ];
+    for (version, hash, last) in cases {
+        let text = format!(
+            "version {version}\nname \nhash {hash:08X}\nruns 0\nfiles 1\nchains 0\nvolumes 0\n{last}\n"
+        );
+        tally.named("the example path", &text, &text_of(&with_path(version, path, hash)));
+    }
 }
 
 /// Around the longest input, accepted and refused.

@@ -1,9 +1,9 @@
 //! Queries on small files put together by hand, with answers by hand.
 
-use crate::generate::bare::{bare, with_links, HEADS};
+use crate::generate::bare::{bare, with_links, with_names, with_path, HEADS};
 use crate::generate::{set_16, set_32};
 use crate::reference::layout::END;
-use crate::reference::queries;
+use crate::reference::{queries, search};
 use crate::tally::Tally;
 use hivesaddle::raw;
 use hivesaddle::{
@@ -19,41 +19,12 @@ pub fn run(tally: &mut Tally) {
     program_names(tally);
     entry_names(tally);
     paths(tally);
+    notepad(tally);
+    high_bytes(tally);
     path_on_a_prefix(tally);
     checks_that_play_no_part(tally);
     volumes(tally);
     null_pointers(tally);
-}
-
-/// H, the metrics entry's size, and where the name's offset stands in it; its
-/// length follows.
-fn numbers_of(version: u32) -> (usize, usize, usize) {
-    match version {
-        17 => (148, 20, 8),
-        23 => (156, 32, 12),
-        _ => (212, 32, 12),
-    }
-}
-
-/// Metrics entries right after the head and strings right after them.
-fn with_names(version: u32, names: &[(u32, u32)], strings: &[u8]) -> Vec<u8> {
-    let (head_end, entry, name) = numbers_of(version);
-    let strings_start = head_end + entry * names.len();
-    let mut file = vec![0; strings_start + strings.len()];
-    let size = file.len() as u32;
-    set_32(&mut file, 0, version);
-    file[4..8].copy_from_slice(b"SCCA");
-    set_32(&mut file, 12, size);
-    set_32(&mut file, 84, head_end as u32);
-    set_32(&mut file, 88, names.len() as u32);
-    set_32(&mut file, 100, strings_start as u32);
-    set_32(&mut file, 104, strings.len() as u32);
-    for (i, &(offset, units)) in names.iter().enumerate() {
-        set_32(&mut file, head_end + i * entry + name, offset);
-        set_32(&mut file, head_end + i * entry + name + 4, units);
-    }
-    file[strings_start..].copy_from_slice(strings);
-    file
 }
 
 /// The library and the reference both have to give the number.
@@ -196,9 +167,20 @@ fn entry_names(tally: &mut Tally) {
     }
 }
 
-const XP_A: u32 = 54483988;
-const VISTA_A: u32 = 11623948;
-const VISTA_AB: u32 = 430086142;
+/// The library and the reference both have to find that entry, or none.
+fn finds(tally: &mut Tally, name: &str, file: &[u8], entry: Option<u64>) {
+    tally.named(name, &entry, &find_path(file).map(|found| found.entry));
+    tally.named(name, &entry, &search::find_path(file).map(|found| found.entry));
+}
+
+const XP_A: u32 = 361202151;
+const VISTA_A: u32 = 430086076;
+const VISTA_AB: u32 = 377320934;
+
+/// The same taken over units.
+const UNITS_XP_A: u32 = 54483988;
+const UNITS_VISTA_A: u32 = 11623948;
+const UNITS_VISTA_AB: u32 = 430086142;
 
 fn paths(tally: &mut Tally) {
     let strings = b"A\0\0\0A\0B\0\0\0";
@@ -206,12 +188,17 @@ fn paths(tally: &mut Tally) {
     let cases = [
         (17, XP_A, Some((1, Report::NoneToMake))),
         (17, VISTA_A, None),
+        (17, UNITS_XP_A, None),
         (23, VISTA_A, Some((1, Report::Both))),
         (23, VISTA_AB, Some((0, Report::Both))),
         (23, XP_A, None),
+        (23, UNITS_VISTA_A, None),
+        (23, UNITS_VISTA_AB, None),
         (26, VISTA_A, Some((1, Report::NoneToMake))),
         (26, VISTA_AB, Some((0, Report::NoneToMake))),
         (26, XP_A, None),
+        (26, UNITS_VISTA_A, None),
+        (26, UNITS_VISTA_AB, None),
     ];
     for (version, stored_hash, found) in cases {
         let mut file = with_names(version, &names, strings);
@@ -220,12 +207,43 @@ fn paths(tally: &mut Tally) {
         let name = format!("version {version}, stored hash {stored_hash}");
         tally.named(&name, &found, &find_path(&file));
     }
-    // Of no units: XP gives 0, the others their start.
+    // Of no bytes: XP gives 0, the others their start.
     for (version, stored_hash) in [(17, 0), (23, 314159), (26, 314159)] {
-        let mut file = with_names(version, &[(0, 0)], b"\0\0");
-        set_32(&mut file, 76, stored_hash);
-        let entry = find_path(&file).map(|found| found.entry);
-        tally.named("an empty name is found", &Some(0), &entry);
+        finds(tally, "an empty name", &with_path(version, "", stored_hash), Some(0));
+    }
+}
+
+/// The example of source document 000 for XP. For the other versions it has
+/// none: theirs are from its functions, run over the bytes of the path.
+fn notepad(tally: &mut Tally) {
+    let first = r"\DEVICE\HARDDISKVOLUME1\WINDOWS\NOTEPAD.EXE";
+    let second = r"\DEVICE\HARDDISKVOLUME2\WINDOWS\NOTEPAD.EXE";
+    let cases = [
+        (17, first, 0x189578DA, Some(0)),
+        (17, second, 0x189578DA, None),
+        (23, first, 0x3D2AFDB4, Some(0)),
+        (23, second, 0x86E0E9B9, Some(0)),
+        (26, first, 0x3D2AFDB4, Some(0)),
+        (26, second, 0x86E0E9B9, Some(0)),
+        // Over its units.
+        (17, first, 0x39B1CF75, None),
+        (23, first, 0xCDEC1644, None),
+        (26, first, 0xCDEC1644, None),
+    ];
+    for (version, path, stored_hash, entry) in cases {
+        let name = format!("version {version}, {path}, {stored_hash:08X}");
+        finds(tally, &name, &with_path(version, path, stored_hash), entry);
+    }
+}
+
+/// A byte of 128 and above counts as it stands. As a signed one it would give
+/// the second hash, which must not be found.
+fn high_bytes(tally: &mut Tally) {
+    let cases = [(17, 757305720, 61565560), (23, 430092292, 430082820), (26, 430092292, 430082820)];
+    for (version, unsigned, signed) in cases {
+        let name = format!("version {version}, E9 00");
+        finds(tally, &name, &with_path(version, "\u{E9}", unsigned), Some(0));
+        finds(tally, &name, &with_path(version, "\u{E9}", signed), None);
     }
 }
 
@@ -233,19 +251,18 @@ fn paths(tally: &mut Tally) {
 fn path_on_a_prefix(tally: &mut Tally) {
     let mut file = with_names(17, &[(4, 1), (0, 1), (9, 1)], b"A\0\0\0A\0\0\0?");
     set_32(&mut file, 76, XP_A);
-    let entry = |file: &[u8]| find_path(file).map(|found| found.entry);
     let end = file.len();
-    tally.named("whole", &Some(0), &entry(&file));
-    tally.named("the last byte is no name's", &Some(0), &entry(&file[..end - 1]));
-    tally.named("the first can't be shown", &Some(1), &entry(&file[..end - 2]));
-    tally.named("just the second", &Some(1), &entry(&file[..end - 5]));
-    tally.named("neither", &None, &entry(&file[..end - 6]));
+    finds(tally, "whole", &file, Some(0));
+    finds(tally, "the last byte is no name's", &file[..end - 1], Some(0));
+    finds(tally, "the first can't be shown", &file[..end - 2], Some(1));
+    finds(tally, "just the second", &file[..end - 5], Some(1));
+    finds(tally, "neither", &file[..end - 6], None);
     // An unsound name is passed over too.
     let zero = end - 3;
     set_16(&mut file, zero, 1);
-    tally.named("the first is unsound", &Some(1), &entry(&file));
+    finds(tally, "the first is unsound", &file, Some(1));
     set_32(&mut file, 12, 1);
-    tally.named("check 3", &None, &entry(&file));
+    finds(tally, "check 3", &file, None);
 }
 
 /// Check 8, damaged trace entries and other entries' names.
@@ -255,8 +272,7 @@ fn checks_that_play_no_part(tally: &mut Tally) {
     set_32(&mut file, 112, 5);
     tally.named("beside 8 and 9", &Some(&b"A\0"[..]), &entry_name(&file, 1));
     tally.named("entry 0 itself", &None, &entry_name(&file, 0));
-    let entry = find_path(&file).map(|found| found.entry);
-    tally.named("search beside 8 and 9", &Some(1), &entry);
+    finds(tally, "search beside 8 and 9", &file, Some(1));
 }
 
 /// Three volumes: a path with a zero unit inside and two references; one with

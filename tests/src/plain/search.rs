@@ -65,17 +65,34 @@ fn step(h: u32, c: u32) -> u32 {
     h.wrapping_mul(37).wrapping_add(c)
 }
 
-fn number_of(unit: &[u8]) -> u32 {
-    u16::from_le_bytes([unit[0], unit[1]]) as u32
+/// 37 to the eighth, wrapped at 32 bits: negated, it is 2008's 803794207.
+const POWER_OF_EIGHT: u32 = 3_491_173_089;
+
+/// Eight plain steps from 0. They do not wait for the hash so far.
+fn sum_of_eight(eight: [u8; 8]) -> u32 {
+    eight.into_iter().fold(0, |sum, byte| step(sum, byte.into()))
 }
 
-/// The plain step over all units; none where one is zero.
+/// Whether one of four units is zero: taking 1 from it sets its top bit.
+fn zero_in_four(units: [u8; 8]) -> bool {
+    const ONES: u64 = 0x0001_0001_0001_0001;
+    let units = u64::from_le_bytes(units);
+    units.wrapping_sub(ONES) & !units & ONES << 15 != 0
+}
+
+/// The plain step over all bytes, eight at a time; none where a unit is zero.
 fn steps(name: &[u8], from: u32) -> Option<u32> {
     let (mut h, mut zero) = (from, false);
-    for unit in name.chunks_exact(2) {
-        let c = number_of(unit);
-        zero |= c == 0;
-        h = step(h, c);
+    let eights = name.chunks_exact(8);
+    let rest = eights.remainder();
+    for eight in eights {
+        let eight = array(eight, 0);
+        zero |= zero_in_four(eight);
+        h = h.wrapping_mul(POWER_OF_EIGHT).wrapping_add(sum_of_eight(eight));
+    }
+    for unit in rest.chunks_exact(2) {
+        zero |= is_zero(unit);
+        h = step(step(h, unit[0].into()), unit[1].into());
     }
     (!zero).then_some(h)
 }
@@ -88,13 +105,11 @@ fn hash_xp(name: &[u8]) -> Option<u32> {
 fn hash_2008(name: &[u8]) -> Option<u32> {
     let (mut h, mut zero) = (SEED, false);
     let mut rest = name;
-    while rest.len() > 16 {
-        let eight: [u32; 8] = std::array::from_fn(|i| number_of(&rest[2 * i..]));
-        zero |= eight.contains(&0);
-        let inner = eight[1..7].iter().fold(0, |sum, &c| step(sum, c));
-        let c = step(inner, eight[7]).wrapping_add(eight[0].wrapping_mul(442_596_621));
-        h = c.wrapping_sub(h.wrapping_mul(803_794_207));
-        rest = &rest[16..];
+    while rest.len() > 8 {
+        let eight = array(rest, 0);
+        zero |= zero_in_four(eight);
+        h = sum_of_eight(eight).wrapping_sub(h.wrapping_mul(803_794_207));
+        rest = &rest[8..];
     }
     (!zero).then_some(())?;
     steps(rest, h)

@@ -39,12 +39,8 @@ fn plain_steps(start: i128, numbers: &[u32]) -> i128 {
     numbers.iter().fold(start, |h, &c| (37 * h + c as i128) % MODULUS)
 }
 
-/// Each 16-bit unit of a text as one number. An odd last byte is no unit.
-pub fn units(text: &[u8]) -> Vec<u32> {
-    text.chunks_exact(2).map(|unit| unit[0] as u32 + 256 * unit[1] as u32).collect()
-}
-
-/// Each byte of a text as one number, from 0 to 255.
+/// Each byte of a text as one number, from 0 to 255: what a path is hashed
+/// over.
 pub fn bytes(text: &[u8]) -> Vec<u32> {
     text.iter().map(|&byte| byte as u32).collect()
 }
@@ -61,6 +57,22 @@ mod points {
         assert_eq!(hash_2008(&[65]), 11623948);
         assert_eq!(hash_vista(&[65, 66]), 430086142);
         assert_eq!(hash_xp(&[65]), 54483988);
+    }
+
+    #[test]
+    fn of_bytes() {
+        assert_eq!(hash_xp(&bytes(b"A\0")), 361202151);
+        assert_eq!(hash_vista(&bytes(b"A\0")), 430086076);
+        // As signed bytes: 61565560 and 430082820.
+        assert_eq!(hash_xp(&bytes(b"\xE9\0")), 757305720);
+        assert_eq!(hash_vista(&bytes(b"\xE9\0")), 430092292);
+    }
+
+    #[test]
+    fn the_example_of_the_source() {
+        let path = r"\DEVICE\HARDDISKVOLUME1\WINDOWS\NOTEPAD.EXE";
+        let text: Vec<u8> = path.encode_utf16().flat_map(u16::to_le_bytes).collect();
+        assert_eq!(hash_xp(&bytes(&text)), 0x189578DA);
     }
 
     #[test]

@@ -1,6 +1,6 @@
 //! The path search.
 
-use super::hashes::{hash_2008, hash_vista, hash_xp, units};
+use super::hashes::{bytes, hash_2008, hash_vista, hash_xp};
 use super::head::*;
 use super::queries::{head_and_sections_pass, name_of_shown_entry};
 
@@ -30,9 +30,10 @@ pub fn find_path(file: &[u8]) -> Option<Found> {
     })
 }
 
-/// Which of the version's hashes of the text equals the stored one, or none.
+/// Which of the version's hashes of the text's bytes equals the stored one, or
+/// none.
 fn matches(file: &[u8], text: &[u8]) -> Option<Report> {
-    let numbers = units(text);
+    let numbers = bytes(text);
     let stored = stored_hash(file) as u32;
     match known_layout(file).version {
         17 => (hash_xp(&numbers) == stored).then_some(Report::NoneToMake),

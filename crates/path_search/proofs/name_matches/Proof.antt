@@ -7,8 +7,8 @@ use Rattle.path_search.proofs.name_matches.Tie as tie
 enum-told : tie.Need-enum-told
 enum-told c = search needs
 
-hash-xp-units-requires : tie.Need-hash-xp-units-requires
-hash-xp-units-requires c κs = search needs
+hash-xp-bytes-requires : tie.Need-hash-xp-bytes-requires
+hash-xp-bytes-requires c κs = search needs
 
 one-hash-requires : tie.Need-one-hash-requires
 one-hash-requires c κs = search needs
@@ -16,11 +16,11 @@ one-hash-requires c κs = search needs
 enum-told-2 : tie.Need-enum-told-2
 enum-told-2 c = search needs
 
-hash-vista-units-requires : tie.Need-hash-vista-units-requires
-hash-vista-units-requires c κs = search needs
+hash-vista-bytes-requires : tie.Need-hash-vista-bytes-requires
+hash-vista-bytes-requires c κs = search needs
 
-hash-2008-units-requires : tie.Need-hash-2008-units-requires
-hash-2008-units-requires c κs = search needs
+hash-2008-bytes-requires : tie.Need-hash-2008-bytes-requires
+hash-2008-bytes-requires c κs = search needs
 
 two-hashes-requires : tie.Need-two-hashes-requires
 two-hashes-requires c κs = search needs
@@ -28,8 +28,8 @@ two-hashes-requires c κs = search needs
 enum-told-3 : tie.Need-enum-told-3
 enum-told-3 c = search needs
 
-hash-2008-units-requires-2 : tie.Need-hash-2008-units-requires-2
-hash-2008-units-requires-2 c κs = search needs
+hash-2008-bytes-requires-2 : tie.Need-hash-2008-bytes-requires-2
+hash-2008-bytes-requires-2 c κs = search needs
 
 one-hash-requires-2 : tie.Need-one-hash-requires-2
 one-hash-requires-2 c κs = search needs
@@ -48,14 +48,14 @@ name-matches-spec =
     tie.close
     (tie.spec
     enum-told
-    hash-xp-units-requires
+    hash-xp-bytes-requires
     one-hash-requires
     enum-told-2
-    hash-vista-units-requires
-    hash-2008-units-requires
+    hash-vista-bytes-requires
+    hash-2008-bytes-requires
     two-hashes-requires
     enum-told-3
-    hash-2008-units-requires-2
+    hash-2008-bytes-requires-2
     one-hash-requires-2
     returns
     returns-2

@@ -1,0 +1,74 @@
+-- An eight-number step equals eight plain steps, so after each turn the plain hash of the rest is that of the whole text.
+use mathlib.Core.Path.{_≡_, sym, _∙_}
+use Prim.Native.Nat.{_+_, _-_, _≤_}
+use native.Mathlib.Omega.{arith}
+use lib.ListN.{length, drop}
+use Rattle.lists.proofs.Table.{rest-all}
+use Rattle.path_hash.specs.Hash.{plain}
+use Rattle.path_hash.proofs.Laws.{plain-eight}
+use borrow.Author.Needs.{needs}
+use Rattle.path_hash.proofs.hash_bytes.Statement.{statement}
+use Rattle.path_hash.proofs.hash_bytes.Tie as tie
+
+abbrev Inv-loop : tie.InvT-loop
+Inv-loop from text h₀ i₀ h i = (i ≤ length text) × (plain h (drop i text) ≡ plain from text)
+
+abbrev μ-loop : tie.MeasureT-loop
+μ-loop from text h₀ i₀ h i = length text - i
+
+loop-holds : tie.Need-loop-holds Inv-loop μ-loop
+loop-holds c = search needs
+
+sub-loop : tie.Need-sub-loop Inv-loop μ-loop
+sub-loop c = search needs
+
+eight-bytes-requires : tie.Need-eight-bytes-requires Inv-loop μ-loop
+eight-bytes-requires c κs = search needs
+
+add-i : tie.Need-add-i Inv-loop μ-loop
+add-i c = search needs
+
+loop-less : tie.Need-loop-less Inv-loop μ-loop
+loop-less c = search needs
+
+loop-again : tie.Need-loop-again Inv-loop μ-loop
+loop-again c =
+    let b = c .before .before in
+    let text = b .before .before .args .text .now in
+    let l : b .loop .i + 8 ≤ length text = omega arith in
+    (omega arith, rw (c .eight-bytes .ensures) (sym (plain-eight text (b .loop .h) (b .loop .i) l) ∙ b .loop .inv .1))
+
+sub-plain-bytes : tie.Need-sub-plain-bytes Inv-loop μ-loop
+sub-plain-bytes c = search needs
+
+part-plain-bytes-start : tie.Need-part-plain-bytes-start Inv-loop μ-loop
+part-plain-bytes-start c = search needs
+
+part-plain-bytes-end : tie.Need-part-plain-bytes-end Inv-loop μ-loop
+part-plain-bytes-end c = search needs
+
+plain-bytes-requires : tie.Need-plain-bytes-requires Inv-loop μ-loop
+plain-bytes-requires c κs = search needs
+
+returns : tie.Need-returns Inv-loop μ-loop
+returns c =
+    let b = c .before .before .before in
+    c .plain-bytes .ensures ∙ rw (rest-all (b .loop .i) (b .before .before .args .text .now)) (b .loop .inv .1)
+
+pub hash-bytes-spec : {M : Type 1} → statement M
+hash-bytes-spec =
+    tie.close
+    (tie.spec
+    Inv-loop
+    μ-loop
+    loop-holds
+    sub-loop
+    eight-bytes-requires
+    add-i
+    loop-less
+    loop-again
+    sub-plain-bytes
+    part-plain-bytes-start
+    part-plain-bytes-end
+    plain-bytes-requires
+    returns)
