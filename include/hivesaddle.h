@@ -134,24 +134,17 @@ uint32_t hs_volume(const uint8_t *file, size_t length, uint64_t i, uint64_t *out
  * out: entry index (48 bits), sequence number (16 bits). */
 uint32_t hs_reference(const uint8_t *file, size_t length, uint64_t i, uint64_t k, uint64_t *out, size_t out_length);
 
-/* Which of its hashes a version 23 file was matched by. */
-enum hs_report {
-    HS_REPORT_NONE = 0, /* versions 17 and 26 have one hash each */
-    HS_REPORT_VISTA = 1,
-    HS_REPORT_2008 = 2,
-    HS_REPORT_BOTH = 3
-};
-
 /* The first metrics entry, among those that can be shown, whose name has the stored hash, taken over the bytes of the name:
- * XP for version 17, Vista or 2008 for 23, 2008 for 26. No where there is none, or where checks 1 to 6 do not pass.
- * out: entry, report. */
+ * XP for version 17, for 23 and 26 Vista or 2008, which are equal. No where there is none, or where checks 1 to 6 do not
+ * pass.
+ * out: entry. */
 uint32_t hs_find_path(const uint8_t *file, size_t length, uint64_t *out, size_t out_length);
 
 /* ---- Path hashes ----
  *
  * Over a list of numbers, or over the bytes of a text. A byte counts as a number from 0 to 255, never as a signed one, and
  * every byte counts, an odd last one too. The hash of a path is that of the bytes of its UTF-16 units, two for each, low
- * byte first, without a zero unit.
+ * byte first, without a zero unit. Vista and 2008 give the same hash of every list.
  */
 uint32_t hs_hash_xp(const uint32_t *numbers, size_t count);
 uint32_t hs_hash_vista(const uint32_t *numbers, size_t count);

@@ -153,7 +153,7 @@ static void set_breakpoints(const char *path) {
 
 /* ---- What has been seen, as the library answered ---- */
 
-static uint64_t calls[CALLS], answers[CALLS][20], refusals[2][18], accepted[2][32], reports[4];
+static uint64_t calls[CALLS], answers[CALLS][20], refusals[2][18], accepted[2][32];
 
 static void count(enum call call, uint32_t code, const uint64_t *out, size_t out_length) {
     calls[call]++;
@@ -161,7 +161,6 @@ static void count(enum call call, uint32_t code, const uint64_t *out, size_t out
     answers[call][code]++;
     if (call <= READ_FILE && code == HS_REFUSED && out_length > HS_NUMBER) refusals[call][out[HS_NUMBER]]++;
     if (call <= READ_FILE && code == HS_ACCEPTED && out_length > HS_VERSION) accepted[call][out[HS_VERSION]]++;
-    if (call == FIND_PATH && code == 1 && out_length > 1) reports[out[1]]++;
 }
 
 static void report(void) {
@@ -180,7 +179,6 @@ static void report(void) {
             if (refusals[call][number]) fprintf(stderr, ", %d: %lu", number, refusals[call][number]);
         fputc('\n', stderr);
     }
-    fprintf(stderr, "seen: find_path: reports %lu, %lu, %lu, %lu\n", reports[0], reports[1], reports[2], reports[3]);
     if (!instruction_count) return;
     fprintf(stderr, "seen: %zu of %zu instructions of the library\n", reached_count, instruction_count);
     for (size_t i = 0; i < instruction_count; i++)

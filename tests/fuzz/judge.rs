@@ -10,12 +10,11 @@ mod numbers;
 #[path = "../src/reference/mod.rs"]
 mod reference;
 
-use constants::*;
 use numbers::numbers_of;
 use reference::catalogue::{self, Fields};
 use reference::head::{section, VOLUMES};
 use reference::readers::{read_file, read_prefix, Answer};
-use reference::search::{find_path, Report};
+use reference::search::find_path;
 use reference::{hashes, queries};
 
 unsafe fn list<'a, T>(pointer: *const T, length: usize) -> &'a [T] {
@@ -150,16 +149,7 @@ pub unsafe extern "C" fn judge_find_path(
     out: *mut u64,
     out_length: usize,
 ) -> u32 {
-    let numbers = find_path(list(file, length)).map(|found| {
-        let report = match found.report {
-            Report::NoneToMake => HS_REPORT_NONE,
-            Report::VistaOnly => HS_REPORT_VISTA,
-            Report::Only2008 => HS_REPORT_2008,
-            Report::Both => HS_REPORT_BOTH,
-        };
-        [found.entry, report]
-    });
-    tell(numbers, out, out_length)
+    tell(find_path(list(file, length)).map(|found| [found.entry]), out, out_length)
 }
 
 #[no_mangle]

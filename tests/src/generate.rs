@@ -11,6 +11,7 @@ mod volumes;
 use crate::random::Random;
 use crate::reference::hashes;
 use crate::reference::layout::{Layout, END, LAYOUTS, TRACE_ENTRY};
+use crate::reference::search::hash_of;
 use strings::Strings;
 
 /// A file, and the number of slots to read it with.
@@ -142,11 +143,7 @@ fn stored_hash(random: &mut Random, layout: &Layout, strings: &Strings) -> u32 {
         5 => misread::signed_bytes(text),
         _ => return random.u32(),
     };
-    match layout.version {
-        17 => hashes::hash_xp(&numbers),
-        23 => hashes::hash_vista(&numbers),
-        _ => hashes::hash_2008(&numbers),
-    }
+    hash_of(layout.version, &numbers)
 }
 
 /// Head and sections, in a random order and with gaps. What isn't read is

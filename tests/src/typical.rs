@@ -4,6 +4,7 @@
 use crate::generate::set_32;
 use crate::reference::hashes;
 use crate::reference::layout::{layout_of, Layout, END, TRACE_ENTRY};
+use crate::reference::search::hash_of;
 
 /// How much a file has to say.
 #[derive(Clone, Copy)]
@@ -87,19 +88,10 @@ fn set_head(file: &mut [u8], layout: &Layout, names: &[String]) {
     set_32(file, 8, 17);
     file[16..16 + 2 * PROGRAM.len()].copy_from_slice(&units(PROGRAM));
     let path = names.get(PROGRAM_ENTRY).unwrap_or(&names[0]);
-    set_32(file, 76, stored_hash(layout.version, path));
+    set_32(file, 76, hash_of(layout.version, &hashes::bytes(&units(path))));
     let run_time = 133_761_942_000_000_000u64;
     file[layout.run_time..layout.run_time + 8].copy_from_slice(&run_time.to_le_bytes());
     set_32(file, layout.run_count, 42);
-}
-
-fn stored_hash(version: u32, path: &str) -> u32 {
-    let numbers = hashes::bytes(&units(path));
-    match version {
-        17 => hashes::hash_xp(&numbers),
-        23 => hashes::hash_vista(&numbers),
-        _ => hashes::hash_2008(&numbers),
-    }
 }
 
 /// Sections start at a multiple of eight.

@@ -1,6 +1,5 @@
 -- The proof of each claim, by the theorem that has it.
 use Rattle.incremental.proofs.Plan.{stands, begins-take}
-use Rattle.path_hash.proofs.Laws.{vista-2008}
 use Rattle.catalogue.proofs.RoundTrip.{round-trip}
 use Rattle.sections.proofs.Name.{name-part, name-behind, name-none, name-whole}
 use Rattle.head.proofs.Facts.{open-facts, open-sound}
@@ -16,6 +15,7 @@ use Rattle.text.proofs.Decimal.{decimal-law, decimal-only}
 use Rattle.claims.proofs.Buffer.{not-accepted-filled, allowed-linked}
 use Rattle.claims.proofs.Search.{path-exactly, path-not-open}
 use Rattle.claims.proofs.EveryName.{every-name}
+use Rattle.claims.proofs.OneHash.{one-hash}
 use Rattle.claims.proofs.Places.{places-say}
 use Rattle.claims.proofs.EmptyPrograms.{empty-programs}
 use Rattle.claims.proofs.Examples.{examples}
@@ -42,7 +42,7 @@ claims =
       round-trip = round-trip;
       decimal-is = decimal-law;
       decimal-only = decimal-only;
-      vista-2008 = vista-2008;
+      one-hash = one-hash;
       path-found = path-exactly;
       path-not-found = path-not-found-law;
       path-not-open = path-not-open;

@@ -2,6 +2,7 @@ pub mod Buffer
 pub mod Claims
 pub mod Computed
 pub mod EmptyPrograms
+pub mod OneHash
 pub mod EveryName
 pub mod Examples
 pub mod Places

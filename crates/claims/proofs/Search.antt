@@ -8,36 +8,31 @@ use native.Mathlib.Omega.{arith}
 use Rattle.lists.proofs.Count.{true-false}
 use Rattle.incremental.specs.Decision.{accept, refuse}
 use Rattle.incremental.specs.Plan.{Answer, decided, wants, run}
-use Rattle.sections.specs.Fields.{storedHash}
 use Rattle.head.specs.Checks.{openPlan}
 use Rattle.head.specs.declared.checks.Opening.{Opening}
-use Rattle.path_search.specs.declared.Report.{Report}
 use Rattle.path_search.specs.declared.PathAnswer.{PathAnswer}
 use Rattle.path_search.specs.declared.PathAnswer.the-variants.{Entry, NoPath}
-use Rattle.path_search.specs.Search.{reportOf, entryNumbers, pathFound, PathFound}
+use Rattle.path_search.specs.Search.{pathFound, PathFound}
 use Rattle.path_search.proofs.Laws.{path-found-law, path-not-found-law}
 use Rattle.claims.specs.Claims.{Opens}
 
 -- no entry before the one found is found
-not-before : (o : Opening) (p : List ℕ) (i j : ℕ) (x y : Report) → PathFound o p i x → PathFound o p j y → i < j → ⊥
-not-before o p i j x y f g l = true-false (sym (f .equal) ∙ g .first i l (f .shown))
+not-before : (o : Opening) (p : List ℕ) (i j : ℕ) → PathFound o p i → PathFound o p j → i < j → ⊥
+not-before o p i j f g l = true-false (sym (f .equal) ∙ g .first i l (f .shown))
 
-one-path : (o : Opening) (p : List ℕ) (i j : ℕ) (x y : Report) → PathFound o p i x → PathFound o p j y → Entry j y ≡ Entry i x
-one-path o p i j x y f g = go (decLt i j) (decLt j i)
+one-path : (o : Opening) (p : List ℕ) (i j : ℕ) → PathFound o p i → PathFound o p j → j ≡ i
+one-path o p i j f g = go (decLt i j) (decLt j i)
   where
-    go : Dec (i < j) → Dec (j < i) → Entry j y ≡ Entry i x
-    go (yes l) d = absurd (not-before o p i j x y f g l)
-    go (no n) (yes l) = absurd (not-before o p j i y x g f l)
-    go (no n) (no k) =
-        let e : j ≡ i = omega arith in
-        let q : y ≡ x = g .report ∙ ap (λ (m : ℕ). reportOf (o .version) (entryNumbers o p m) (storedHash p)) e ∙ sym (f .report) in
-        cc
+    go : Dec (i < j) → Dec (j < i) → j ≡ i
+    go (yes l) d = absurd (not-before o p i j f g l)
+    go (no n) (yes l) = absurd (not-before o p j i g f l)
+    go (no n) (no k) = omega arith
 
-pub path-exactly : (o : Opening) (p : List ℕ) (i : ℕ) (x : Report) → Opens p o → (pathFound p ≡ Entry i x) ↔ PathFound o p i x
-path-exactly o p i x a = (path-found-law o p i x a, λ f. go f (pathFound p) refl)
+pub path-exactly : (o : Opening) (p : List ℕ) (i : ℕ) → Opens p o → (pathFound p ≡ Entry i) ↔ PathFound o p i
+path-exactly o p i a = (path-found-law o p i a, λ f. go f (pathFound p) refl)
   where
-    go : PathFound o p i x → (r : PathAnswer) → pathFound p ≡ r → pathFound p ≡ Entry i x
-    go f (Entry j y) e = e ∙ one-path o p i j x y f (path-found-law o p j y a e)
+    go : PathFound o p i → (r : PathAnswer) → pathFound p ≡ r → pathFound p ≡ Entry i
+    go f (Entry j) e = e ∙ ap (λ k. Entry k) (one-path o p i j f (path-found-law o p j a e))
     go f NoPath e = absurd (true-false (sym (f .equal) ∙ path-not-found-law o p a e i (f .below) (f .shown)))
 
 pub path-not-open : (p : List ℕ) → ((o : Opening) → Opens p o → ⊥) → pathFound p ≡ NoPath

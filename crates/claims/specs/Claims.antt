@@ -9,7 +9,6 @@ use Prim.Native.Nat.{ℕ, _+_, _≤_, _<_}
 use lib.ListN.{length, take}
 use Rattle.incremental.specs.Decision.{accept}
 use Rattle.incremental.specs.Plan.{Plan, decided, run, Stands}
-use Rattle.path_hash.specs.Hash.{vista, hash2008}
 use Rattle.catalogue.specs.RoundTrip.{RoundTrip}
 use Rattle.sections.specs.Fields.{declaredSize, storedHash}
 use Rattle.head.specs.Checks.{openPlan}
@@ -25,12 +24,12 @@ use Rattle.reader.specs.Allowed.{Allowed, AcceptedExactly}
 use Rattle.reader.specs.Early.{EarlyStands}
 use Rattle.query.specs.Queries.{entryShown, volumeShown, volumeFacts}
 use Rattle.query.specs.Shown.{EntryShown, NamePlaced, VolumeShown}
-use Rattle.path_search.specs.declared.Report.{Report}
 use Rattle.path_search.specs.declared.PathAnswer.the-variants.{Entry, NoPath}
 use Rattle.path_search.specs.Search.{matches, entryNumbers, pathFound, PathFound}
 use Rattle.text.specs.Decimal.{decimal, IsDecimal}
 use Rattle.claims.specs.NameStops.{NameStops}
 use Rattle.claims.specs.EveryName.{EveryName}
+use Rattle.claims.specs.OneHash.{OneHash}
 use Rattle.claims.specs.Places.{PlacesSay}
 use Rattle.claims.specs.EmptyPrograms.{EmptyPrograms}
 use Rattle.claims.specs.Examples.{Examples}
@@ -100,12 +99,12 @@ pub record Claims : Type 1 where
   -- "Program", "other numbers are decimal": these digits are the number, with no leading zero, and no other bytes are.
   pub decimal-is : (n : ℕ) → IsDecimal n (decimal n)
   pub decimal-only : (n : ℕ) (s : List ℕ) → IsDecimal n s → s ≡ decimal n
-  -- "Path hashes": Vista and 2008 are equal on every list of numbers.
-  pub vista-2008 : (s : List ℕ) → vista s ≡ hash2008 s
+  -- Request 108: Vista and 2008 are equal on every list of numbers, so version 23 needs one of them only.
+  pub one-hash : OneHash
   -- ---- the path search and the queries, in words
   -- "Path search": the first metrics entry, among those that can be shown, whose hash equals the stored one, or none; and none on
   -- bytes that don't pass checks 1 to 6.
-  pub path-found : (o : Opening) (p : List ℕ) (i : ℕ) (x : Report) → Opens p o → (pathFound p ≡ Entry i x) ↔ PathFound o p i x
+  pub path-found : (o : Opening) (p : List ℕ) (i : ℕ) → Opens p o → (pathFound p ≡ Entry i) ↔ PathFound o p i
   pub path-not-found : (o : Opening) (p : List ℕ) → Opens p o → pathFound p ≡ NoPath
       → (i : ℕ) → i < o .head .metrics .count → entryShown o p i ≡ true → matches (o .version) (entryNumbers o p i) (storedHash p) ≡ false
   pub path-not-open : (p : List ℕ) → ((o : Opening) → Opens p o → ⊥) → pathFound p ≡ NoPath

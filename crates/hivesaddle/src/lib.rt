@@ -6,13 +6,12 @@ ghost use Rattle.catalogue.specs.Line.{reading};
 ghost use Rattle.reader.specs.Verdict.{valuesOf, noRecord};
 ghost use Rattle.query.specs.Queries.{placeSaid, programPlace, entryPlace, volumeAsked, volumeList, volumeValues, volumeSaid};
 ghost use Rattle.query.specs.Queries.{referenceAsked, referenceSaid, placesNeeded, placesSaid};
-ghost use Rattle.path_search.specs.Search.{pathFound, pathSaid, reportNumber};
+ghost use Rattle.path_search.specs.Search.{pathFound, pathSaid};
 ghost use Rattle.hivesaddle.specs.Output.{Answered, overlay, lineValues, fieldsOf, LineWriting, verdictValues, valuesWith, PrefixOut, FileOut};
 use catalogue::Fields;
 use catalogue::ReadLine;
 use catalogue::WrittenLine;
 use path_search::PathAnswer;
-use path_search::Report;
 use query::Place;
 use query::PlaceAnswer;
 use query::PlacesAnswer;
@@ -339,29 +338,21 @@ pub extern "C" fn hs_reference(file: &[u8], i: u64, k: u64, out: &mut [u64]) -> 
     }
 }
 
-fn report_number(r: Report) -> u64
-    ensures { λ n. ⌜ n ≡ reportNumber r ⌝ }
-{
-    match r {
-        Report::Silent => 0,
-        Report::Vista => 1,
-        Report::Hash2008 => 2,
-        Report::Both => 3,
-    }
-}
+// What stands for the entry where there is no path.
+const NO_ENTRY: u64 = 0;
 
-// The first metrics entry whose path hash is the stored one, and for version 23 which hash it was.
+// The first metrics entry whose path hash is the stored one.
 #[no_mangle]
 pub extern "C" fn hs_find_path(file: &[u8], out: &mut [u64]) -> u32
     ensures { λ r. ⌜ Answered (pathSaid (pathFound (now (file .entry)))) r (now (out .entry)) (now (out .exit)) ⌝ }
 {
     match path_search::find_path(file) {
-        PathAnswer::Entry { index, report } => {
-            put_two(out, index as u64, report_number(report));
+        PathAnswer::Entry(index) => {
+            put_one(out, index as u64);
             1
         }
         PathAnswer::NoPath => {
-            put_two(out, 0, 0);
+            put_one(out, NO_ENTRY);
             0
         }
     }

@@ -21,15 +21,13 @@ use Rattle.reader.specs.Verdict.{Acceptable}
 use Rattle.reader.specs.Checks.{fileAnswer}
 use Rattle.reader.specs.declared.verdict.Acceptance.{Acceptance}
 use Rattle.query.specs.Queries.{asked}
-use Rattle.path_search.specs.Search.{reportOf, entryNumbers, firstMatch, reported, pathFound}
-use Rattle.path_search.specs.declared.Report.{Report}
-use Rattle.path_search.specs.declared.Report.the-variants as report
+use Rattle.path_search.specs.Search.{firstMatch, answered, pathFound}
 use Rattle.path_search.specs.declared.PathAnswer.the-variants as pathAnswer
 use Rattle.lists.specs.Count.{pick}
 use Rattle.sections.specs.Fields.{storedHash}
 use Rattle.text.specs.Decimal.{decimal}
 use Rattle.text.proofs.Decimal.{decimal-short}
-use Rattle.listing_text.specs.Listing.{line, too-long, reportWord, pathText, acceptedText, refusedText, answerText}
+use Rattle.listing_text.specs.Listing.{line, too-long, pathText, acceptedText, refusedText, answerText}
 use Rattle.listing_text.specs.Listing.{fileLimit, listing, room}
 use Rattle.listing_text.proofs.Bounds.{Bytes, SmallRefusal, SmallFields, Each, low-counts, small-answer}
 
@@ -39,25 +37,19 @@ two-digits n l = decimal-short 1 n l
 ten-digits : (n : ℕ) → n < 2 ^ 32 → length (decimal n) ≤ 10
 ten-digits n l = decimal-short 9 n (omega arith)
 
-report-short : (r : Report) → length (reportWord r) ≤ 6
-report-short report.Silent = omega arith
-report-short report.Vista = omega arith
-report-short report.Hash2008 = omega arith
-report-short report.Both = omega arith
-
 module _ (p : List ℕ) (h : Bytes p) where
-  path-found : (o : Opening) (f : Found) → firstMatch o p ≡ f → run openPlan p ≡ decided (accept o) → length (pathText (reported o p f)) ≤ 16
+  path-found : (o : Opening) (f : Found) → firstMatch o p ≡ f → run openPlan p ≡ decided (accept o) → length (pathText (answered f)) ≤ 10
   unfolding firstMatch
   path-found o (At i) e q =
       let l = first-at _ (o .head .metrics .count) 0 i e .1 in
       let b = low-counts p o h (open-facts p .holds o q) .metrics in
-      rw length-append (omega (arith, ten-digits i (omega arith), report-short (reportOf (o .version) (entryNumbers o p i) (storedHash p))))
+      ten-digits i (omega arith)
   path-found o Nothing e q = omega arith
 
-  path-short : length (pathText (pathFound p)) ≤ 16
+  path-short : length (pathText (pathFound p)) ≤ 10
   path-short = go (run openPlan p) refl
     where
-      go : (x : Answer Opening) → run openPlan p ≡ x → length (pathText (asked x pathAnswer.NoPath (λ o. reported o p (firstMatch o p)))) ≤ 16
+      go : (x : Answer Opening) → run openPlan p ≡ x → length (pathText (asked x pathAnswer.NoPath (λ o. answered (firstMatch o p)))) ≤ 10
       go (decided (accept o)) e = path-found o (firstMatch o p) refl e
       go (decided (refuse r)) e = omega arith
       go (wants k) e = omega arith

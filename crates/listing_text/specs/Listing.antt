@@ -20,8 +20,6 @@ use Rattle.reader.specs.Verdict.{Acceptable, bufferAfter}
 use Rattle.reader.specs.Checks.{fileAnswer}
 use Rattle.reader.specs.declared.verdict.Acceptance.{Acceptance}
 use Rattle.path_search.specs.Search.{pathFound}
-use Rattle.path_search.specs.declared.Report.{Report}
-use Rattle.path_search.specs.declared.Report.the-variants as report
 use Rattle.path_search.specs.declared.PathAnswer.{PathAnswer}
 use Rattle.path_search.specs.declared.PathAnswer.the-variants as pathAnswer
 
@@ -67,16 +65,9 @@ shownUnit u = pick (leb 33 u && leb u 126) u 63
 abbrev pub shownName : List ℕ → ℕ → List ℕ
 shownName p units = tabulate units (λ k. shownUnit (le 2 p (programNameAt + 2 * k)))
 
--- for version 23 a blank and `vista`, `2008` or `both`
-abbrev pub reportWord : Report → List ℕ
-reportWord report.Silent = []
-reportWord report.Vista = ascii " vista"
-reportWord report.Hash2008 = ascii " 2008"
-reportWord report.Both = ascii " both"
-
--- the entry index and the report, or `none`
+-- the entry index, or `none`
 abbrev pub pathText : PathAnswer → List ℕ
-pathText (pathAnswer.Entry i r) = decimal i ++ reportWord r
+pathText (pathAnswer.Entry i) = decimal i
 pathText pathAnswer.NoPath = ascii "none"
 
 -- the eight lines

@@ -5,11 +5,10 @@ ghost use Prim.Native.Nat.{_≤_};
 ghost use Rattle.hex.specs.Hex.{hexDigits};
 ghost use Rattle.text.specs.Decimal.{decimal};
 ghost use Rattle.text.specs.Put.{Put};
-ghost use Rattle.listing_text.specs.Listing.{line, name·word, hash·word, path·word, too-long, shownUnit, shownName, reportWord, pathText};
+ghost use Rattle.listing_text.specs.Listing.{line, name·word, hash·word, path·word, too-long, shownUnit, shownName, pathText};
 ghost use Rattle.listing_text.specs.Listing.{acceptedText, refusedText, Listed};
 ghost use Rattle.listing_text.specs.Private.{countLines};
 use path_search::PathAnswer;
-use path_search::Report;
 use reader::Acceptance;
 use reader::Verdict;
 
@@ -70,26 +69,11 @@ fn put_hash_line(out: &mut [u8], at: usize, hash: u32) -> usize
     text::put(out, b, 10)
 }
 
-// For version 23, which of the two hashes matches.
-fn put_report(out: &mut [u8], at: usize, report: Report) -> usize
-    ensures { λ r. ⌜ Put (now (out .entry)) at (reportWord report) r (now (out .exit)) ⌝ }
-{
-    match report {
-        Report::Silent => at,
-        Report::Vista => text::put_all(out, at, b" vista"),
-        Report::Hash2008 => text::put_all(out, at, b" 2008"),
-        Report::Both => text::put_all(out, at, b" both"),
-    }
-}
-
 fn put_path(out: &mut [u8], at: usize, found: PathAnswer) -> usize
     ensures { λ r. ⌜ Put (now (out .entry)) at (pathText found) r (now (out .exit)) ⌝ }
 {
     match found {
-        PathAnswer::Entry { index, report } => {
-            let end = text::put_decimal(out, at, index as u64);
-            put_report(out, end, report)
-        }
+        PathAnswer::Entry(index) => text::put_decimal(out, at, index as u64),
         PathAnswer::NoPath => text::put_all(out, at, b"none"),
     }
 }

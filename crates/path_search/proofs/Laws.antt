@@ -6,10 +6,9 @@ use mathlib.Core.List.{List}
 use Prim.Native.Nat.{ℕ, _+_, _-_, _*_, _/_, _≤_, _<_}
 use native.Mathlib.Nat.{le-trans, le-div-iff-mul-le, div-lt-iff-lt-mul, add-mul, one-mul}
 use native.Mathlib.Omega.{arith}
-use lib.Dec.{ltb}
+use lib.Dec.{eqb, ltb}
 use lib.ListN.{length, take, drop}
-use borrow.Author.Tests.{lt-ltb, le-leb, lt-leb, ltb-true, ltb-false}
-use Rattle.lists.specs.Count.{pick}
+use borrow.Author.Tests.{eq-eqb, ne-eqb, lt-ltb, le-leb, lt-leb, ltb-true, ltb-false}
 use Rattle.lists.proofs.Count.{true-false}
 use Rattle.lists.specs.First.{first}
 use Rattle.lists.proofs.First.{first-at, first-nothing, first-is-at, first-is-nothing}
@@ -31,106 +30,62 @@ use Rattle.head.specs.declared.checks.Opening.{Opening}
 use Rattle.names.specs.Names.{nameAt, nameUnits, fits, sound}
 use Rattle.names.proofs.Laws.{name-past}
 use Rattle.query.specs.Queries.{bytesAt, entryShown, namePlace}
-use Rattle.path_search.specs.Search.{numbersOf, matches, reportOf, entryNumbers, firstMatch, reported, pathFound, PathFound}
+use Rattle.path_search.specs.Search.{numbersOf, hashOf, matches, entryNumbers, firstMatch, answered, pathFound, PathFound}
 use Rattle.query.specs.Private.{nameSound, nameIn}
-use Rattle.path_search.specs.Private.{oneHash, twoHashes, matchOf, whereSound, numbersIn, matchIn, testIn, entriesIn, reportedIn, searched}
+use Rattle.path_search.specs.Private.{numbersIn, testIn, entriesIn, searched}
 use Rattle.query.proofs.Laws.{both, name-inside, part-there, part-low, part-bytes}
-use Rattle.path_search.specs.declared.Report.{Report}
 use Rattle.path_search.specs.declared.PathAnswer.{PathAnswer}
 use Rattle.path_search.specs.declared.PathAnswer.the-variants as pathAnswer
-use Rattle.path_search.specs.declared.Match.{Match}
-use Rattle.path_search.specs.declared.Match.the-variants as match
 
--- ---- a name against the stored hash, by version
-pub match-17 : {v : Version} (numbers : List ℕ) (hash : ℕ) {h : ℕ} {r : Match} → v ≡ V17 → h ≡ xp numbers → r ≡ oneHash h hash → r ≡ matchOf v numbers hash
-unfolding matchOf
-match-17 numbers hash ev eh e = rw (ev, ← eh) e
+-- ---- the hash of a name, by version
+module _ {v : Version} (numbers : List ℕ) {h : ℕ} where
+  pub hash-17 : v ≡ V17 → h ≡ xp numbers → h ≡ hashOf v numbers
+  hash-17 ev e = rw ev e
 
-pub match-23 : {v : Version} (numbers : List ℕ) (hash : ℕ) {a b : ℕ} {r : Match} → v ≡ V23 → a ≡ vista numbers → b ≡ hash2008 numbers
-    → r ≡ twoHashes a b hash → r ≡ matchOf v numbers hash
-unfolding matchOf
-match-23 numbers hash ev ea eb e = rw (ev, ← ea, ← eb) e
+  pub hash-23 : v ≡ V23 → h ≡ vista numbers → h ≡ hashOf v numbers
+  hash-23 ev e = rw ev e
 
-pub match-26 : {v : Version} (numbers : List ℕ) (hash : ℕ) {h : ℕ} {r : Match} → v ≡ V26 → h ≡ hash2008 numbers → r ≡ oneHash h hash
-    → r ≡ matchOf v numbers hash
-unfolding matchOf
-match-26 numbers hash ev eh e = rw (ev, ← eh) e
+  pub hash-26 : v ≡ V26 → h ≡ hash2008 numbers → h ≡ hashOf v numbers
+  hash-26 ev e = rw ev e
 
-pub ruleset by-version = (match-17, match-23, match-26)
-
--- ---- a name with the stored hash
-pub where-true : (strings : List ℕ) (at units : ℕ) (x : Report) {r : Bool} → r ≡ sound strings at units → r ≡ true
-    → match.Equal x ≡ whereSound strings at units x
-where-true strings at units x e q = rw (sym e ∙ q)
-
-pub where-false : (strings : List ℕ) (at units : ℕ) (x : Report) {r : Bool} → r ≡ sound strings at units → r ≡ false
-    → match.Differs ≡ whereSound strings at units x
-where-false strings at units x e q = rw (sym e ∙ q)
-
-pub ruleset by-sound = (where-true, where-false)
+pub ruleset by-version = (hash-17, hash-23, hash-26)
 
 -- ---- the name of an entry: `at` and `units` are its fields, and `end` is where its units end
 module _ (v : Version) (l : Layout) (metrics strings : List ℕ) (hash i : ℕ) {at units : ℕ} (a : at ≡ nameAt l metrics i)
     (u : units ≡ nameUnits l metrics i) where
-  pub match-misfit : fits (length strings) at units ≡ false → match.Differs ≡ matchIn v l metrics strings hash i
-  unfolding matchIn nameSound
+  pub match-misfit : fits (length strings) at units ≡ false → false ≡ testIn v l metrics strings hash i
+  unfolding testIn nameSound
   match-misfit e = rw (← a, ← u, ← name-past strings at units e)
 
-  -- the match by the fields
-  match-here : {m : Match} {end : ℕ} → end ≡ at + 2 * units → m ≡ matchOf v (numbersOf (take (end - at) (drop at strings))) hash
-      → matchIn v l metrics strings hash i ≡ pick (sound strings at units) m match.Differs
-  unfolding matchIn nameSound
+  -- the test by the fields, where the hash of the name is `h`
+  match-here : {h end : ℕ} → end ≡ at + 2 * units → h ≡ hashOf v (numbersOf (take (end - at) (drop at strings)))
+      → testIn v l metrics strings hash i ≡ (sound strings at units && eqb h hash)
+  unfolding testIn nameSound
   match-here {end = end} d e =
       let l : end - at ≡ 2 * units = omega arith in
       rw (← a, ← u, e, l)
 
-  pub match-differs : {m : Match} {end : ℕ} → end ≡ at + 2 * units → m ≡ matchOf v (numbersOf (take (end - at) (drop at strings))) hash → m ≡ match.Differs
-      → match.Differs ≡ matchIn v l metrics strings hash i
-  match-differs d e q = sym (match-here d e ∙ rw q (neither (sound strings at units)))
+  pub match-differs : {h end : ℕ} → end ≡ at + 2 * units → h ≡ hashOf v (numbersOf (take (end - at) (drop at strings))) → (h ≡ hash → ⊥)
+      → false ≡ testIn v l metrics strings hash i
+  match-differs {h} d e n = sym (match-here d e ∙ rw (ne-eqb h hash n) (neither (sound strings at units)))
     where
-      neither : (b : Bool) → pick b match.Differs match.Differs ≡ match.Differs
+      neither : (b : Bool) → (b && false) ≡ false
       neither true = refl
       neither false = refl
 
-  pub match-equals : {m r : Match} {x : Report} {end : ℕ} → end ≡ at + 2 * units
-      → m ≡ matchOf v (numbersOf (take (end - at) (drop at strings))) hash → m ≡ match.Equal x
-      → r ≡ whereSound strings at units x → r ≡ matchIn v l metrics strings hash i
-  match-equals d e q h = h ∙ sym (match-here d e ∙ rw q)
-
--- ---- the loop: what an entry's answer says of the test
-pub record Equals (v : Version) (l : Layout) (metrics strings : List ℕ) (hash i : ℕ) (x : Report) : Type 0 where
-  pub passes : testIn v l metrics strings hash i ≡ true
-  pub reports : x ≡ reportOf v (numbersIn l metrics strings i) hash
-
-pub entry-equals : (v : Version) (l : Layout) (metrics strings : List ℕ) (hash i : ℕ) {r : Match} {x : Report}
-    → r ≡ matchIn v l metrics strings hash i → r ≡ match.Equal x → Equals v l metrics strings hash i x
-unfolding matchIn matchOf testIn
-entry-equals v l metrics strings hash i {x = x} e q = go (nameSound l metrics strings i) (matches v (numbersIn l metrics strings i) hash) refl refl (sym q ∙ e)
-  where
-    go : (a b : Bool) → nameSound l metrics strings i ≡ a → matches v (numbersIn l metrics strings i) hash ≡ b
-        → match.Equal x ≡ pick a (pick b (match.Equal (reportOf v (numbersIn l metrics strings i) hash)) match.Differs) match.Differs
-        → Equals v l metrics strings hash i x
-    go true true y z h = record { passes = rw (y, z); reports = cc }
-    go true false y z h = let f : _≡_ {A = ℕ} 0 1 = cc in absurd (omega arith)
-    go false b y z h = let f : _≡_ {A = ℕ} 0 1 = cc in absurd (omega arith)
-
-pub entry-differs : (v : Version) (l : Layout) (metrics strings : List ℕ) (hash i : ℕ) {r : Match} → r ≡ matchIn v l metrics strings hash i
-    → r ≡ match.Differs → testIn v l metrics strings hash i ≡ false
-unfolding matchIn matchOf testIn
-entry-differs v l metrics strings hash i e q = go (nameSound l metrics strings i) (matches v (numbersIn l metrics strings i) hash) (sym q ∙ e)
-  where
-    go : (a b : Bool) → match.Differs ≡ pick a (pick b (match.Equal (reportOf v (numbersIn l metrics strings i) hash)) match.Differs) match.Differs
-        → (a && b) ≡ false
-    go true true h = let f : _≡_ {A = ℕ} 0 1 = cc in absurd (omega arith)
-    go true false h = refl
-    go false b h = refl
+  pub match-equals : {h end : ℕ} {r : Bool} → end ≡ at + 2 * units → h ≡ hashOf v (numbersOf (take (end - at) (drop at strings))) → h ≡ hash
+      → r ≡ sound strings at units → r ≡ testIn v l metrics strings hash i
+  match-equals {h} d e q s = s ∙ sym (match-here d e ∙ rw (eq-eqb h hash q) (itself (sound strings at units)))
+    where
+      itself : (b : Bool) → (b && true) ≡ b
+      itself true = refl
+      itself false = refl
 
 -- the loop ends
-pub search-hit : (v : Version) (l : Layout) (metrics strings : List ℕ) (hash i : ℕ) {x : Report}
-    → first (testIn v l metrics strings hash) (entriesIn l metrics) ≡ At i → x ≡ reportOf v (numbersIn l metrics strings i) hash
-    → pathAnswer.Entry i x ≡ searched v l metrics strings hash
+pub search-hit : (v : Version) (l : Layout) (metrics strings : List ℕ) (hash i : ℕ)
+    → first (testIn v l metrics strings hash) (entriesIn l metrics) ≡ At i → pathAnswer.Entry i ≡ searched v l metrics strings hash
 unfolding searched
-search-hit v l metrics strings hash i h q = rw (h, q)
+search-hit v l metrics strings hash i h = rw h
 
 pub search-none : (v : Version) (l : Layout) (metrics strings : List ℕ) (hash : ℕ)
     → first (testIn v l metrics strings hash) (entriesIn l metrics) ≡ Nothing → pathAnswer.NoPath ≡ searched v l metrics strings hash
@@ -180,11 +135,6 @@ testOn o p i = testIn (o .version) (o .layout) (metricsOf o p) (stringsOf o p) (
 abbrev entriesOn : Opening → List ℕ → ℕ
 entriesOn o p = entriesIn (o .layout) (metricsOf o p)
 
-test-sound : (v : Version) (l : Layout) (metrics strings : List ℕ) (hash i : ℕ) → testIn v l metrics strings hash i ≡ true
-    → nameSound l metrics strings i ≡ true
-unfolding testIn
-test-sound v l metrics strings hash i e = both _ _ e .0
-
 module _ (o : Opening) (p : List ℕ) (f : OpenFacts p o) where
   metrics-most : length (metricsOf o p) ≤ o .head .metrics .count * metricsEntry (o .layout)
   metrics-most = omega (arith, part-there (o .head .metrics) p, open-shapes p o f .metrics-len)
@@ -209,31 +159,23 @@ module _ (o : Opening) (p : List ℕ) (f : OpenFacts p o) where
   unfolding entryShown
   cut-entry i b l = rw (lt-ltb _ _ b, lt-leb _ _ (entry-not-whole (o .layout) (open-sound p o f) (metricsOf o p) i l))
 
-  pub path-law : searched (o .version) (o .layout) (metricsOf o p) (stringsOf o p) (storedHash p) ≡ reported o p (firstMatch o p)
+  pub path-law : searched (o .version) (o .layout) (metricsOf o p) (stringsOf o p) (storedHash p) ≡ answered (firstMatch o p)
   unfolding searched firstMatch
-  path-law = go (first (testOn o p) (entriesOn o p)) refl
+  path-law = ap answered (go (first (testOn o p) (entriesOn o p)) refl)
     where
       none : first (testOn o p) (entriesOn o p) ≡ Nothing → (k : ℕ) → k < o .head .metrics .count → (b : Bool) → ltb k (entriesOn o p) ≡ b
           → matchAt o p k ≡ false
       none e k h true q = whole-entry k (ltb-true _ _ q) ∙ first-nothing (testOn o p) (entriesOn o p) e k (ltb-true _ _ q)
       none e k h false q = cut-entry k h (ltb-false _ _ q)
 
-      go : (x : Found) → first (testOn o p) (entriesOn o p) ≡ x
-          → reportedIn (o .version) (o .layout) (metricsOf o p) (stringsOf o p) (storedHash p) x
-          ≡ reported o p (first (matchAt o p) (o .head .metrics .count))
+      go : (x : Found) → first (testOn o p) (entriesOn o p) ≡ x → first (testOn o p) (entriesOn o p) ≡ first (matchAt o p) (o .head .metrics .count)
       go (At i) e =
           let q = first-at (testOn o p) (entriesOn o p) 0 i e in
           let l : i < entriesOn o p = omega (arith, q .1) in
-          let d : first (matchAt o p) (o .head .metrics .count) ≡ At i =
-          first-is-at (matchAt o p) (o .head .metrics .count) i (entries-below i l) (whole-entry i l ∙ q .2)
-          (λ k h. whole-entry k (omega arith) ∙ q .3 k (omega arith) h) in
-          rw d
-          (ap (λ (n : List ℕ). pathAnswer.Entry i (reportOf (o .version) (numbersOf n) (storedHash p)))
-          (name-bytes o p i (test-sound (o .version) (o .layout) (metricsOf o p) (stringsOf o p) (storedHash p) i (q .2))))
-      go Nothing e =
-          let d : first (matchAt o p) (o .head .metrics .count) ≡ Nothing =
-          first-is-nothing (matchAt o p) (o .head .metrics .count) (λ k h. none e k h (ltb k (entriesOn o p)) refl) in
-          rw d
+          e
+          ∙ sym (first-is-at (matchAt o p) (o .head .metrics .count) i (entries-below i l) (whole-entry i l ∙ q .2)
+          (λ k h. whole-entry k (omega arith) ∙ q .3 k (omega arith) h))
+      go Nothing e = e ∙ sym (first-is-nothing (matchAt o p) (o .head .metrics .count) (λ k h. none e k h (ltb k (entriesOn o p)) refl))
 
 -- for the code, which has the sections from calls
 pub metrics-low : (o : Opening) (p : List ℕ) {metrics : List ℕ} → OpenFacts p o → metrics ≡ part (o .head .metrics) p → length metrics ≤ sizeLimit
@@ -241,7 +183,7 @@ metrics-low o p f e = rw e (part-low (o .head .metrics) _ p (open-shapes p o f .
 
 pub path-given : (o : Opening) (p : List ℕ) {metrics strings : List ℕ} {hash : ℕ} {r : PathAnswer} → OpenFacts p o
     → metrics ≡ part (o .head .metrics) p → strings ≡ part (o .head .strings) p → hash ≡ storedHash p
-    → r ≡ searched (o .version) (o .layout) metrics strings hash → r ≡ reported o p (firstMatch o p)
+    → r ≡ searched (o .version) (o .layout) metrics strings hash → r ≡ answered (firstMatch o p)
 path-given o p f em es eh e =
     let g : _ ≡ searched (o .version) (o .layout) (metricsOf o p) (stringsOf o p) (storedHash p) = rw (em, es, eh) at e in
     g ∙ path-law o p f
@@ -250,15 +192,13 @@ unequal : (a b : Bool) → (a && b) ≡ false → a ≡ true → b ≡ false
 unequal true b e q = e
 unequal false b e q = absurd (true-false (sym q))
 
-pub path-found-law : (o : Opening) (p : List ℕ) (i : ℕ) (x : Report) → run openPlan p ≡ decided (accept o) → pathFound p ≡ pathAnswer.Entry i x
-    → PathFound o p i x
+pub path-found-law : (o : Opening) (p : List ℕ) (i : ℕ) → run openPlan p ≡ decided (accept o) → pathFound p ≡ pathAnswer.Entry i → PathFound o p i
 unfolding firstMatch
-path-found-law o p i x a e = go (first (matchAt o p) (o .head .metrics .count)) refl (rw a at e)
+path-found-law o p i a e = go (first (matchAt o p) (o .head .metrics .count)) refl (rw a at e)
   where
-    go : (f : Found) → first (matchAt o p) (o .head .metrics .count) ≡ f → reported o p f ≡ pathAnswer.Entry i x → PathFound o p i x
+    go : (f : Found) → first (matchAt o p) (o .head .metrics .count) ≡ f → answered f ≡ pathAnswer.Entry i → PathFound o p i
     go (At k) q h =
         let j : k ≡ i = cc in
-        let r : reportOf (o .version) (entryNumbers o p k) (storedHash p) ≡ x = cc in
         let s = first-at (matchAt o p) (o .head .metrics .count) 0 k q in
         let b = both (entryShown o p k) _ (s .2) in
         rw (← j)
@@ -266,7 +206,6 @@ path-found-law o p i x a e = go (first (matchAt o p) (o .head .metrics .count)) 
           below = omega (arith, s .1);
           shown = b .0;
           equal = b .1;
-          report = sym r;
           first = λ m l. unequal _ _ (s .3 m (omega arith) l);
         })
     go Nothing q h = let z : _≡_ {A = ℕ} 0 1 = cc in absurd (omega arith)
@@ -276,7 +215,7 @@ pub path-not-found-law : (o : Opening) (p : List ℕ) → run openPlan p ≡ dec
 unfolding firstMatch
 path-not-found-law o p a e k l = go (first (matchAt o p) (o .head .metrics .count)) refl (rw a at e)
   where
-    go : (f : Found) → first (matchAt o p) (o .head .metrics .count) ≡ f → reported o p f ≡ pathAnswer.NoPath → entryShown o p k ≡ true
+    go : (f : Found) → first (matchAt o p) (o .head .metrics .count) ≡ f → answered f ≡ pathAnswer.NoPath → entryShown o p k ≡ true
         → matches (o .version) (entryNumbers o p k) (storedHash p) ≡ false
     go (At i) q h = let z : _≡_ {A = ℕ} 0 1 = cc in absurd (omega arith)
     go Nothing q h = unequal _ _ (first-nothing (matchAt o p) (o .head .metrics .count) q k l)

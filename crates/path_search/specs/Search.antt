@@ -1,5 +1,5 @@
 -- Document 01's path search.
-use mathlib.Core.Bool.{Bool, true, false, _&&_, _||_}
+use mathlib.Core.Bool.{Bool, true, false, _&&_}
 use mathlib.Core.List.{List, [], _∷_}
 use Prim.Native.Nat.{ℕ, _<_}
 use lib.Dec.{eqb}
@@ -15,8 +15,6 @@ use Rattle.path_hash.specs.Hash.{xp, vista, hash2008}
 use Rattle.head.specs.Checks.{openPlan}
 use Rattle.head.specs.declared.checks.Opening.{Opening}
 use Rattle.query.specs.Queries.{asked, bytesAt, entryShown, namePlace}
-use Rattle.path_search.specs.declared.Report.{Report}
-use Rattle.path_search.specs.declared.Report.the-variants as report
 use Rattle.path_search.specs.declared.PathAnswer.{PathAnswer}
 use Rattle.path_search.specs.declared.PathAnswer.the-variants as pathAnswer
 use mathlib.Core.Path.{_≡_}
@@ -26,23 +24,14 @@ use mathlib.Core.Path.{_≡_}
 abbrev pub numbersOf : List ℕ → List ℕ
 numbersOf name = name
 
--- version 17 uses XP, 26 uses 2008, and 23 either of Vista and 2008
+-- the hash of a version: 17 uses XP, 23 Vista, 26 2008. The last two are equal on every list (request 108)
+abbrev pub hashOf : Version → List ℕ → ℕ
+hashOf V17 numbers = xp numbers
+hashOf V23 numbers = vista numbers
+hashOf V26 numbers = hash2008 numbers
+
 abbrev pub matches : Version → List ℕ → ℕ → Bool
-matches V17 numbers hash = eqb (xp numbers) hash
-matches V23 numbers hash = eqb (vista numbers) hash || eqb (hash2008 numbers) hash
-matches V26 numbers hash = eqb (hash2008 numbers) hash
-
-abbrev pub pickReport : Bool → Bool → Report
-pickReport true true = report.Both
-pickReport true false = report.Vista
-pickReport false true = report.Hash2008
-pickReport false false = report.Silent
-
--- version 23 reports which of the two matches
-abbrev pub reportOf : Version → List ℕ → ℕ → Report
-reportOf V17 numbers hash = report.Silent
-reportOf V23 numbers hash = pickReport (eqb (vista numbers) hash) (eqb (hash2008 numbers) hash)
-reportOf V26 numbers hash = report.Silent
+matches v numbers hash = eqb (hashOf v numbers) hash
 
 -- the numbers of entry i's name
 abbrev pub entryNumbers : Opening → List ℕ → ℕ → List ℕ
@@ -52,32 +41,24 @@ entryNumbers o p i = numbersOf (bytesAt (namePlace o p i) p)
 unfoldable pub firstMatch : Opening → List ℕ → Found
 firstMatch o p = first (λ i. entryShown o p i && matches (o .version) (entryNumbers o p i) (storedHash p)) (o .head .metrics .count)
 
-abbrev pub reported : Opening → List ℕ → Found → PathAnswer
-reported o p (At i) = pathAnswer.Entry i (reportOf (o .version) (entryNumbers o p i) (storedHash p))
-reported o p Nothing = pathAnswer.NoPath
+abbrev pub answered : Found → PathAnswer
+answered (At i) = pathAnswer.Entry i
+answered Nothing = pathAnswer.NoPath
 
 -- on bytes that don't pass checks 1 to 6 the answer is none
 abbrev pub pathFound : List ℕ → PathAnswer
-pathFound p = asked (run openPlan p) pathAnswer.NoPath (λ o. reported o p (firstMatch o p))
+pathFound p = asked (run openPlan p) pathAnswer.NoPath (λ o. answered (firstMatch o p))
 
--- the number of a report: 0 none to make, 1 Vista only, 2 2008 only, 3 both
-abbrev pub reportNumber : Report → ℕ
-reportNumber report.Silent = 0
-reportNumber report.Vista = 1
-reportNumber report.Hash2008 = 2
-reportNumber report.Both = 3
-
--- what each case says: 1 for an entry, with its index and report, or 0 for none, with zeros
+-- what each case says: 1 for an entry, with its index, or 0 for none, with zeros
 abbrev pub pathSaid : PathAnswer → Said
-pathSaid (pathAnswer.Entry i r) = record { number = 1; values = i ∷ reportNumber r ∷ [] }
-pathSaid pathAnswer.NoPath = record { number = 0; values = 0 ∷ 0 ∷ [] }
+pathSaid (pathAnswer.Entry i) = record { number = 1; values = i ∷ [] }
+pathSaid pathAnswer.NoPath = record { number = 0; values = 0 ∷ [] }
 
 -- ---- WHAT A FOUND PATH IS
 
 -- the entry can be shown, its hash equals the stored one, and no earlier entry is so
-pub record PathFound (o : Opening) (p : List ℕ) (i : ℕ) (x : Report) : Type 0 where
+pub record PathFound (o : Opening) (p : List ℕ) (i : ℕ) : Type 0 where
   pub below : i < o .head .metrics .count
   pub shown : entryShown o p i ≡ true
   pub equal : matches (o .version) (entryNumbers o p i) (storedHash p) ≡ true
-  pub report : x ≡ reportOf (o .version) (entryNumbers o p i) (storedHash p)
   pub first : (k : ℕ) → k < i → entryShown o p k ≡ true → matches (o .version) (entryNumbers o p k) (storedHash p) ≡ false

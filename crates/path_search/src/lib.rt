@@ -6,80 +6,26 @@ ghost use Rattle.lists.specs.Answer.{Answers};
 ghost use Rattle.layout.specs.Versions.{sizeLimit};
 ghost use Rattle.layout.specs.Private.{SoundLayout};
 ghost use Rattle.head.specs.Private.{OpenFacts};
-ghost use Rattle.path_search.specs.Search.{numbersOf, pathFound, pathSaid, reported, firstMatch};
-ghost use Rattle.path_search.specs.Private.{oneHash, twoHashes, matchOf, whereSound, matchIn, searched};
+ghost use Rattle.path_search.specs.Search.{numbersOf, hashOf, pathFound, pathSaid, answered, firstMatch};
+ghost use Rattle.path_search.specs.Private.{testIn, searched};
 use head::OpenAnswer;
 use head::Opening;
 use layout::Layout;
 use layout::Version;
 
-// For version 23, which of the two hashes matches; for the others there is nothing to report.
-pub enum Report {
-    Silent,
-    Vista,
-    Hash2008,
-    Both,
-}
-
 pub enum PathAnswer {
-    Entry { index: usize, report: Report },
+    Entry(usize),
     NoPath,
 }
 
-// Whether the hash of a name equals the stored one.
-pub enum Match {
-    Equal(Report),
-    Differs,
-}
-
-fn one_hash(hash: u32, stored: u32) -> Match
-    ensures { λ r. ⌜ r ≡ oneHash hash stored ⌝ }
-{
-    if hash == stored {
-        Match::Equal(Report::Silent)
-    } else {
-        Match::Differs
-    }
-}
-
-fn two_hashes(vista: u32, hash_2008: u32, stored: u32) -> Match
-    ensures { λ r. ⌜ r ≡ twoHashes vista «hash_2008» stored ⌝ }
-{
-    if vista == stored {
-        if hash_2008 == stored {
-            return Match::Equal(Report::Both);
-        }
-        return Match::Equal(Report::Vista);
-    }
-    if hash_2008 == stored {
-        return Match::Equal(Report::Hash2008);
-    }
-    Match::Differs
-}
-
-// A name against the stored hash, by the version's hash or hashes.
-fn name_matches(name: &[u8], version: Version, stored: u32) -> Match
-    ensures { λ r. ⌜ r ≡ matchOf version (numbersOf (now (name .entry))) stored ⌝ }
+// The hash of a name, by the version's hash.
+fn name_hash(name: &[u8], version: Version) -> u32
+    ensures { λ r. ⌜ r ≡ hashOf version (numbersOf (now (name .entry))) ⌝ }
 {
     match version {
-        Version::V17 => one_hash(path_hash::hash_xp_bytes(name), stored),
-        Version::V23 => two_hashes(
-            path_hash::hash_vista_bytes(name),
-            path_hash::hash_2008_bytes(name),
-            stored,
-        ),
-        Version::V26 => one_hash(path_hash::hash_2008_bytes(name), stored),
-    }
-}
-
-// A name with the stored hash counts where its text is sound.
-fn where_sound(strings: &[u8], at: u32, units: u32, report: Report) -> Match
-    ensures { λ r. ⌜ r ≡ whereSound (now (strings .entry)) at units report ⌝ }
-{
-    if names::name_sound(strings, at, units) {
-        Match::Equal(report)
-    } else {
-        Match::Differs
+        Version::V17 => path_hash::hash_xp_bytes(name),
+        Version::V23 => path_hash::hash_vista_bytes(name),
+        Version::V26 => path_hash::hash_2008_bytes(name),
     }
 }
 
@@ -92,20 +38,20 @@ fn entry_matches(
     l: Layout,
     i: u32,
     stored: u32,
-) -> Match
-    ensures { λ r. ⌜ r ≡ matchIn version l (now (metrics .entry)) (now (strings .entry)) stored i ⌝ }
+) -> bool
+    ensures { λ r. ⌜ r ≡ testIn version l (now (metrics .entry)) (now (strings .entry)) stored i ⌝ }
 {
     let at = names::name_at(metrics, l, i);
     let units = names::name_units(metrics, l, i);
     if !names::name_fits(strings.len(), at, units) {
-        return Match::Differs;
+        return false;
     }
     let start = at as usize;
     let end = start + 2 * (units as usize);
-    match name_matches(&strings[start..end], version, stored) {
-        Match::Equal(report) => where_sound(strings, at, units, report),
-        Match::Differs => Match::Differs,
+    if name_hash(&strings[start..end], version) != stored {
+        return false;
     }
+    names::name_sound(strings, at, units)
 }
 
 // The search over the entries that lie whole in the metrics: the others can't be shown.
@@ -116,18 +62,8 @@ fn search(metrics: &[u8], strings: &[u8], version: Version, l: Layout, stored: u
     let entries = metrics.len() / (l.metrics_entry as usize);
     let mut i = 0;
     while i < entries {
-        if let Match::Equal(report) = entry_matches(
-            metrics,
-            strings,
-            version,
-            l,
-            i as u32,
-            stored,
-        ) {
-            return PathAnswer::Entry {
-                index: i,
-                report: report,
-            };
+        if entry_matches(metrics, strings, version, l, i as u32, stored) {
+            return PathAnswer::Entry(i);
         }
         i += 1;
     }
@@ -137,7 +73,7 @@ fn search(metrics: &[u8], strings: &[u8], version: Version, l: Layout, stored: u
 // The search, where checks 1 to 6 pass.
 fn path_in(file: &[u8], o: Opening) -> PathAnswer
     requires { ⌜ OpenFacts (now file) o ⌝ }
-    ensures { λ r. ⌜ r ≡ reported o (now (file .entry)) (firstMatch o (now (file .entry))) ⌝ }
+    ensures { λ r. ⌜ r ≡ answered (firstMatch o (now (file .entry))) ⌝ }
 {
     let version = o.version;
     let l = o.layout;

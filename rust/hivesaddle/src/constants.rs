@@ -26,10 +26,4 @@ pub const HS_READER_OUT: usize = 13;
 /// In a slot of `predecessors`: no entry.
 pub const HS_NONE: u32 = 4294967295;
 
-/// Which of its hashes a version 23 file was matched by.
-pub const HS_REPORT_NONE: u64 = 0;
-pub const HS_REPORT_VISTA: u64 = 1;
-pub const HS_REPORT_2008: u64 = 2;
-pub const HS_REPORT_BOTH: u64 = 3;
-
 pub const HS_CATALOGUE_LINE_LENGTH: usize = 25;

@@ -18,8 +18,7 @@ pub use hashes::{
     hash_2008, hash_2008_bytes, hash_vista, hash_vista_bytes, hash_xp, hash_xp_bytes,
 };
 pub use queries::{
-    entry_name, find_path, places, program_name, reference, volume, FoundPath, Reference, Report,
-    Volume,
+    entry_name, find_path, places, program_name, reference, volume, FoundPath, Reference, Volume,
 };
 pub use readers::{read_file, read_file_alloc, read_prefix, FileContents, Record, Verdict};
 

@@ -24,21 +24,10 @@ pub struct Reference {
     pub sequence_number: u16,
 }
 
-/// Which of its two hashes a version 23 file was matched by.
-#[derive(Clone, Copy, Debug, PartialEq, Eq)]
-pub enum Report {
-    /// Versions 17 and 26 have one hash each, so there is nothing to report.
-    NoneToMake,
-    VistaOnly,
-    Only2008,
-    Both,
-}
-
 /// The metrics entry whose name has the stored hash.
 #[derive(Clone, Copy, Debug, PartialEq, Eq)]
 pub struct FoundPath {
     pub entry: u64,
-    pub report: Report,
 }
 
 /// How many slots of `predecessors` [`crate::read_prefix`] and
@@ -177,16 +166,15 @@ pub fn reference(file: &[u8], i: u64, k: u64) -> Option<Reference> {
 /// (file[100], file[104]) = (168, 4);
 /// file[148 + 12] = 1;
 /// file[168] = b'A';
-/// let found = hivesaddle::find_path(&file).unwrap();
-/// assert_eq!((found.entry, found.report), (0, hivesaddle::Report::NoneToMake));
+/// assert_eq!(hivesaddle::find_path(&file).unwrap().entry, 0);
 /// file[168] = b'B';
 /// assert_eq!(hivesaddle::find_path(&file), None);
 /// ```
 pub fn find_path(file: &[u8]) -> Option<FoundPath> {
-    let mut out = [0; 2];
+    let mut out = [0];
     let answer =
         unsafe { raw::hs_find_path(file.as_ptr(), file.len(), out.as_mut_ptr(), out.len()) };
-    yes(answer).then(|| FoundPath { entry: out[0], report: report(out[1]) })
+    yes(answer).then(|| FoundPath { entry: out[0] })
 }
 
 fn yes(answer: u32) -> bool {
@@ -194,16 +182,6 @@ fn yes(answer: u32) -> bool {
         0 => false,
         1 => true,
         other => unreachable!("no such answer: {other}"),
-    }
-}
-
-fn report(number: u64) -> Report {
-    match number {
-        raw::HS_REPORT_NONE => Report::NoneToMake,
-        raw::HS_REPORT_VISTA => Report::VistaOnly,
-        raw::HS_REPORT_2008 => Report::Only2008,
-        raw::HS_REPORT_BOTH => Report::Both,
-        other => unreachable!("no such report: {other}"),
     }
 }
 

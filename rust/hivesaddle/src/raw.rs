@@ -87,7 +87,6 @@ extern "C" {
         out: *mut u64,
         out_length: usize,
     ) -> u32;
-    /// `out`: entry index, report (from [`HS_REPORT_NONE`] to
-    /// [`HS_REPORT_BOTH`]).
+    /// `out`: entry index.
     pub fn hs_find_path(file: *const u8, length: usize, out: *mut u64, out_length: usize) -> u32;
 }

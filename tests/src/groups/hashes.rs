@@ -188,6 +188,8 @@ fn list(numbers: &[u32], tally: &mut Tally) {
     tally.same("XP", &reference::hash_xp(numbers), &hivesaddle::hash_xp(&copy), input);
     tally.same("Vista", &reference::hash_vista(numbers), &hivesaddle::hash_vista(&copy), input);
     tally.same("2008", &reference::hash_2008(numbers), &hivesaddle::hash_2008(&copy), input);
+    let (vista, hash_2008) = (hivesaddle::hash_vista(&copy), hivesaddle::hash_2008(&copy));
+    tally.same("Vista and 2008 are equal", &vista, &hash_2008, input);
     tally.same("numbers unchanged", numbers, &copy, input);
 }
 

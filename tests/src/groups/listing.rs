@@ -53,7 +53,7 @@ fn example_paths(tally: &mut Tally) {
     let path = r"\DEVICE\HARDDISKVOLUME1\WINDOWS\NOTEPAD.EXE";
     let cases = [
         (17, 0x189578DA, "path 0"),
-        (23, 0x3D2AFDB4, "path 0 both"),
+        (23, 0x3D2AFDB4, "path 0"),
         (26, 0x3D2AFDB4, "path 0"),
         (26, 0x189578DA, "path none"),
     ];

@@ -10,7 +10,7 @@ use crate::random::Random;
 use crate::reference::head::{metrics_count, volume_count};
 use crate::reference::queries as reference;
 use crate::reference::queries::Part;
-use crate::reference::search::{find_path, Found, Report};
+use crate::reference::search::find_path;
 use crate::tally::{hex, Tally};
 use hivesaddle::raw;
 
@@ -135,7 +135,7 @@ impl Queries<'_> {
     fn find_path(&mut self, file: &[u8]) {
         let found = find_path(file);
         self.seen.path.answer(found.is_some());
-        self.ask("path search", file, "", found.map(found_numbers), |out| unsafe {
+        self.ask("path search", file, "", found.map(|found| [found.entry]), |out| unsafe {
             raw::hs_find_path(file.as_ptr(), file.len(), out.as_mut_ptr(), out.len())
         });
     }
@@ -183,9 +183,9 @@ impl Queries<'_> {
         for i in 0..count(file, volume_count).min(4) {
             self.safe_volume(file, i);
         }
-        let found = hivesaddle::find_path(file);
-        let found = found.map(|found| [found.entry, report_number(found.report)]);
-        self.tally.same("find_path", &find_path(file).map(found_numbers), &found, input);
+        let expected = find_path(file).map(|found| found.entry);
+        let found = hivesaddle::find_path(file).map(|found| found.entry);
+        self.tally.same("find_path", &expected, &found, input);
     }
 
     fn safe_volume(&mut self, file: &[u8], i: u64) {
@@ -262,25 +262,6 @@ fn placed(file: &[u8], i: u64, mut volume: reference::Volume) -> reference::Volu
 fn place_of(file: &[u8], part: &[u8]) -> Part {
     let offset = (part.as_ptr() as usize).wrapping_sub(file.as_ptr() as usize);
     Part { offset: offset as u64, length: part.len() as u64 }
-}
-
-fn found_numbers(found: Found) -> [u64; 2] {
-    let report = match found.report {
-        Report::NoneToMake => raw::HS_REPORT_NONE,
-        Report::VistaOnly => raw::HS_REPORT_VISTA,
-        Report::Only2008 => raw::HS_REPORT_2008,
-        Report::Both => raw::HS_REPORT_BOTH,
-    };
-    [found.entry, report]
-}
-
-fn report_number(report: hivesaddle::Report) -> u64 {
-    match report {
-        hivesaddle::Report::NoneToMake => raw::HS_REPORT_NONE,
-        hivesaddle::Report::VistaOnly => raw::HS_REPORT_VISTA,
-        hivesaddle::Report::Only2008 => raw::HS_REPORT_2008,
-        hivesaddle::Report::Both => raw::HS_REPORT_BOTH,
-    }
 }
 
 #[derive(Default)]

@@ -8,7 +8,6 @@ use crate::tally::Tally;
 use hivesaddle::raw;
 use hivesaddle::{
     entry_name, find_path, places, program_name, read_file_alloc, reference, volume, FileContents,
-    FoundPath, Report,
 };
 use std::ptr::{null, null_mut};
 
@@ -186,26 +185,24 @@ fn paths(tally: &mut Tally) {
     let strings = b"A\0\0\0A\0B\0\0\0";
     let names = [(4, 2), (0, 1), (0, 1)];
     let cases = [
-        (17, XP_A, Some((1, Report::NoneToMake))),
+        (17, XP_A, Some(1)),
         (17, VISTA_A, None),
         (17, UNITS_XP_A, None),
-        (23, VISTA_A, Some((1, Report::Both))),
-        (23, VISTA_AB, Some((0, Report::Both))),
+        (23, VISTA_A, Some(1)),
+        (23, VISTA_AB, Some(0)),
         (23, XP_A, None),
         (23, UNITS_VISTA_A, None),
         (23, UNITS_VISTA_AB, None),
-        (26, VISTA_A, Some((1, Report::NoneToMake))),
-        (26, VISTA_AB, Some((0, Report::NoneToMake))),
+        (26, VISTA_A, Some(1)),
+        (26, VISTA_AB, Some(0)),
         (26, XP_A, None),
         (26, UNITS_VISTA_A, None),
         (26, UNITS_VISTA_AB, None),
     ];
-    for (version, stored_hash, found) in cases {
+    for (version, stored_hash, entry) in cases {
         let mut file = with_names(version, &names, strings);
         set_32(&mut file, 76, stored_hash);
-        let found = found.map(|(entry, report)| FoundPath { entry, report });
-        let name = format!("version {version}, stored hash {stored_hash}");
-        tally.named(&name, &found, &find_path(&file));
+        finds(tally, &format!("version {version}, stored hash {stored_hash}"), &file, entry);
     }
     // Of no bytes: XP gives 0, the others their start.
     for (version, stored_hash) in [(17, 0), (23, 314159), (26, 314159)] {

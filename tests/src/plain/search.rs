@@ -2,22 +2,19 @@
 //! name for its zero units and its hash.
 
 use super::*;
-use hivesaddle::{FoundPath, Report};
+use hivesaddle::FoundPath;
 
 pub fn find_path(file: &[u8]) -> Option<FoundPath> {
     let (layout, sections) = opening(file).ok()?;
     let [metrics, _, strings, _] = &sections;
     let (entries, strings) = (there(file, metrics), there(file, strings));
     let (version, stored) = (number(file, 0), number(file, 76) as u32);
-    for (entry, bytes) in entries.chunks_exact(layout.metrics_entry).enumerate() {
-        let Some(name) = name(strings, bytes, layout) else {
-            continue;
-        };
-        if let Some(report) = matches(name, version, stored) {
-            return Some(FoundPath { entry: entry as u64, report });
-        }
-    }
-    None
+    let matches = |entry: &[u8]| {
+        let name = name(strings, entry, layout);
+        name.and_then(|name| hash(version, name)) == Some(stored)
+    };
+    let entry = entries.chunks_exact(layout.metrics_entry).position(matches)?;
+    Some(FoundPath { entry: entry as u64 })
 }
 
 /// Checks 1 to 6.
@@ -44,19 +41,6 @@ fn name<'a>(strings: &'a [u8], entry: &[u8], layout: &Layout) -> Option<&'a [u8]
     let length = 2 * number(entry, layout.name_offset + 4);
     let (units, last) = strings.get(start..start + length + 2)?.split_at(length);
     is_zero(last).then_some(units)
-}
-
-fn matches(name: &[u8], version: usize, stored: u32) -> Option<Report> {
-    match version {
-        17 => (hash_xp(name)? == stored).then_some(Report::NoneToMake),
-        26 => (hash_2008(name)? == stored).then_some(Report::NoneToMake),
-        _ => match (steps(name, SEED)? == stored, hash_2008(name)? == stored) {
-            (true, true) => Some(Report::Both),
-            (true, false) => Some(Report::VistaOnly),
-            (false, true) => Some(Report::Only2008),
-            (false, false) => None,
-        },
-    }
 }
 
 const SEED: u32 = 314_159;
@@ -102,17 +86,12 @@ fn hash_xp(name: &[u8]) -> Option<u32> {
     Some((h as i32).unsigned_abs() % 1_000_000_007)
 }
 
-fn hash_2008(name: &[u8]) -> Option<u32> {
-    let (mut h, mut zero) = (SEED, false);
-    let mut rest = name;
-    while rest.len() > 8 {
-        let eight = array(rest, 0);
-        zero |= zero_in_four(eight);
-        h = sum_of_eight(eight).wrapping_sub(h.wrapping_mul(803_794_207));
-        rest = &rest[8..];
+/// Vista and 2008 are equal, so versions 23 and 26 have the same.
+fn hash(version: usize, name: &[u8]) -> Option<u32> {
+    match version {
+        17 => hash_xp(name),
+        _ => steps(name, SEED),
     }
-    (!zero).then_some(())?;
-    steps(rest, h)
 }
 
 #[cfg(test)]
@@ -124,16 +103,9 @@ mod beside_the_reference {
     use crate::reference::search;
 
     fn same(file: &[u8]) -> bool {
-        let expected = search::find_path(file);
-        let given = find_path(file);
-        let report = |report| match report {
-            search::Report::NoneToMake => Report::NoneToMake,
-            search::Report::VistaOnly => Report::VistaOnly,
-            search::Report::Only2008 => Report::Only2008,
-            search::Report::Both => Report::Both,
-        };
-        let expected = expected.map(|found| (found.entry, report(found.report)));
-        assert_eq!(expected, given.map(|found| (found.entry, found.report)));
+        let expected = search::find_path(file).map(|found| found.entry);
+        let given = find_path(file).map(|found| found.entry);
+        assert_eq!(expected, given);
         given.is_some()
     }
 

@@ -75,6 +75,18 @@ mod points {
         assert_eq!(hash_xp(&bytes(&text)), 0x189578DA);
     }
 
+    /// What #108 says of every list, on lists around the steps of eight.
+    #[test]
+    fn vista_and_2008_are_equal() {
+        for length in 0..=40u32 {
+            for start in [0, 1, 254, 65_534, u32::MAX - 20, 1 << 31] {
+                let numbers: Vec<u32> =
+                    (0..length).map(|i| start.wrapping_add(i * i * i)).collect();
+                assert_eq!(hash_vista(&numbers), hash_2008(&numbers));
+            }
+        }
+    }
+
     #[test]
     fn xp_ends() {
         assert_eq!(xp_end_step(2147483648), 147483634);

@@ -2,7 +2,7 @@
 
 use super::head::{name_unit, name_units};
 use super::readers::{read_file, Record, Verdict};
-use super::search::{find_path, Found, Report};
+use super::search::find_path;
 
 /// The longest input, and the slots of the program.
 pub const LONGEST_INPUT: usize = 49_151;
@@ -28,7 +28,7 @@ fn lines(file: &[u8], record: &Record) -> String {
         format!("files {}\n", record.metrics_count),
         format!("chains {}\n", record.chain_count),
         format!("volumes {}\n", record.volume_count),
-        format!("path {}\n", shown_path(find_path(file))),
+        format!("path {}\n", shown_path(file)),
     ]
     .concat()
 }
@@ -45,16 +45,8 @@ fn shown_unit(unit: u64) -> char {
     }
 }
 
-fn shown_path(found: Option<Found>) -> String {
-    let Some(found) = found else {
-        return "none".to_string();
-    };
-    match found.report {
-        Report::NoneToMake => format!("{}", found.entry),
-        Report::VistaOnly => format!("{} vista", found.entry),
-        Report::Only2008 => format!("{} 2008", found.entry),
-        Report::Both => format!("{} both", found.entry),
-    }
+fn shown_path(file: &[u8]) -> String {
+    find_path(file).map_or("none".to_string(), |found| found.entry.to_string())
 }
 
 #[cfg(test)]

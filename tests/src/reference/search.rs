@@ -5,44 +5,31 @@ use super::head::*;
 use super::queries::{head_and_sections_pass, name_of_shown_entry};
 
 #[derive(Clone, Copy, Debug, PartialEq, Eq)]
-pub enum Report {
-    NoneToMake,
-    VistaOnly,
-    Only2008,
-    Both,
-}
-
-#[derive(Clone, Copy, Debug, PartialEq, Eq)]
 pub struct Found {
     pub entry: u64,
-    pub report: Report,
 }
 
 pub fn find_path(file: &[u8]) -> Option<Found> {
     if !head_and_sections_pass(file) {
         return None;
     }
-    (0..metrics_count(file)).find_map(|entry| {
-        let name = name_of_shown_entry(file, entry)?;
-        let text = &file[name.offset as usize..][..name.length as usize];
-        let report = matches(file, text)?;
-        Some(Found { entry, report })
-    })
+    (0..metrics_count(file)).find(|&entry| matches(file, entry)).map(|entry| Found { entry })
 }
 
-/// Which of the version's hashes of the text's bytes equals the stored one, or
-/// none.
-fn matches(file: &[u8], text: &[u8]) -> Option<Report> {
-    let numbers = bytes(text);
-    let stored = stored_hash(file) as u32;
-    match known_layout(file).version {
-        17 => (hash_xp(&numbers) == stored).then_some(Report::NoneToMake),
-        26 => (hash_2008(&numbers) == stored).then_some(Report::NoneToMake),
-        _ => match (hash_vista(&numbers) == stored, hash_2008(&numbers) == stored) {
-            (true, true) => Some(Report::Both),
-            (true, false) => Some(Report::VistaOnly),
-            (false, true) => Some(Report::Only2008),
-            (false, false) => None,
-        },
+/// Whether the entry can be shown and its name has the stored hash.
+fn matches(file: &[u8], entry: u64) -> bool {
+    let Some(name) = name_of_shown_entry(file, entry) else {
+        return false;
+    };
+    let text = &file[name.offset as usize..][..name.length as usize];
+    hash_of(known_layout(file).version, &bytes(text)) as u64 == stored_hash(file)
+}
+
+/// The hash that a version uses, over a list of numbers.
+pub fn hash_of(version: u32, numbers: &[u32]) -> u32 {
+    match version {
+        17 => hash_xp(numbers),
+        23 => hash_vista(numbers),
+        _ => hash_2008(numbers),
     }
 }

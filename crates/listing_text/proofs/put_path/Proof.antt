@@ -1,5 +1,4 @@
--- The entry's index and its report, or `none`.
-use Rattle.text.proofs.Growth.{put-then}
+-- The entry's index, or `none`.
 use borrow.Author.Needs.{needs}
 use Rattle.listing_text.proofs.put_path.Statement.{statement}
 use Rattle.listing_text.proofs.put_path.Tie as tie
@@ -9,9 +8,6 @@ enum-known-found c = search needs
 
 put-decimal-requires : tie.Need-put-decimal-requires
 put-decimal-requires c κs = search needs
-
-put-report-requires : tie.Need-put-report-requires
-put-report-requires c κs = search needs
 
 enum-told : tie.Need-enum-told
 enum-told c = search needs
@@ -27,9 +23,8 @@ same-length c = search needs
 
 returns : tie.Need-returns
 returns c =
-    let report = c .before .before in
-    let index = report .before .before .before .before in
-    rw (index .before .before .before .found .given .1) (put-then (index .put-decimal .ensures) (report .put-report .ensures))
+    let index = c .before .before in
+    rw (index .before .before .before .found .given .1) (index .put-decimal .ensures)
 
 same-length-2 : tie.Need-same-length-2
 same-length-2 c = search needs
@@ -45,7 +40,6 @@ put-path-spec =
     (tie.spec
     enum-known-found
     put-decimal-requires
-    put-report-requires
     enum-told
     slice-aggregate-put-all
     put-all-requires

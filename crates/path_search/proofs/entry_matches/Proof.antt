@@ -34,44 +34,37 @@ mul-end c = search needs
 add-end : tie.Need-add-end
 add-end c = search needs
 
-sub-name-matches : tie.Need-sub-name-matches
-sub-name-matches c = search needs
+sub-name-hash : tie.Need-sub-name-hash
+sub-name-hash c = search needs
 
-part-name-matches-start : tie.Need-part-name-matches-start
-part-name-matches-start c = search needs
+part-name-hash-start : tie.Need-part-name-hash-start
+part-name-hash-start c = search needs
 
-part-name-matches-end : tie.Need-part-name-matches-end
-part-name-matches-end c =
+part-name-hash-end : tie.Need-part-name-hash-end
+part-name-hash-end c =
     let h = fits-le _ _ _ (sym (c .before .name-fits .ensures) ∙ not-false _ (c .if1 .left)) in
     omega arith
 
-name-matches-requires : tie.Need-name-matches-requires
-name-matches-requires c κs = search needs
-
-enum-known-report : tie.Need-enum-known-report
-enum-known-report c = search needs
-
-where-sound-requires : tie.Need-where-sound-requires
-where-sound-requires c κs = search needs
-
-enum-told : tie.Need-enum-told
-enum-told c = search needs
+name-hash-requires : tie.Need-name-hash-requires
+name-hash-requires c κs = search needs
 
 returns-2 : tie.Need-returns-2
 returns-2 c =
-    let arm = c .before .before in
-    let name = arm .before .before in
+    let name = c .before in
     let name-units = name .before .before .before .before in
     let name-at = name-units .before in
-    match-equals _ _ _ _ _ _ (name-at .name-at .ensures) (name-units .name-units .ensures) refl (name .name-matches .ensures) (arm .report .given .1)
-    (c .where-sound .ensures)
+    match-differs _ _ _ _ _ _ (name-at .name-at .ensures) (name-units .name-units .ensures) refl (name .name-hash .ensures) (c .if2 .taken)
+
+name-sound-requires : tie.Need-name-sound-requires
+name-sound-requires c κs = search needs
 
 returns-3 : tie.Need-returns-3
 returns-3 c =
     let name = c .before .before in
     let name-units = name .before .before .before .before in
     let name-at = name-units .before in
-    match-differs _ _ _ _ _ _ (name-at .name-at .ensures) (name-units .name-units .ensures) refl (name .name-matches .ensures) (c .enum-told .given .1)
+    match-equals _ _ _ _ _ _ (name-at .name-at .ensures) (name-units .name-units .ensures) refl (name .name-hash .ensures) (c .before .if2 .left)
+    (c .name-sound .ensures)
 
 pub entry-matches-spec : {M : Type 1} → statement M
 entry-matches-spec =
@@ -85,12 +78,10 @@ entry-matches-spec =
     cast-end
     mul-end
     add-end
-    sub-name-matches
-    part-name-matches-start
-    part-name-matches-end
-    name-matches-requires
-    enum-known-report
-    where-sound-requires
-    enum-told
+    sub-name-hash
+    part-name-hash-start
+    part-name-hash-end
+    name-hash-requires
     returns-2
+    name-sound-requires
     returns-3)

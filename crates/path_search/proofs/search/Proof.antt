@@ -1,8 +1,8 @@
 -- Each turn tests one entry; no entry that was passed matches, so the first that does is the first of all.
 use lib.ListN.{length}
 use native.Mathlib.Nat.{div-le-self}
-use Rattle.path_search.proofs.Laws.{metric-some, entry-equals, entry-differs, search-hit, search-none}
-use mathlib.Core.Path.{_≡_, _∙_}
+use Rattle.path_search.proofs.Laws.{metric-some, search-hit, search-none}
+use mathlib.Core.Path.{_≡_, sym, _∙_}
 use Prim.Native.Nat.{_≤_, _-_}
 use native.Mathlib.Omega.{arith}
 use Rattle.lists.specs.First.{first, firstFrom}
@@ -30,42 +30,30 @@ loop-holds c = (omega arith, first-start _ _)
 
 cast-entry-matches : tie.Need-cast-entry-matches Inv-loop μ-loop
 cast-entry-matches c =
-    let a = c .before .before .before .before .before .args in
-    omega (arith, c .before .before .before .before .before .pre .0, div-le-self (length (a .metrics .now)) (a .l .«metrics_entry»))
+    let start = c .before .before .before .before .before in
+    omega (arith, start .pre .0, div-le-self (length (start .args .metrics .now)) (start .args .l .«metrics_entry»))
 
 entry-matches-requires : tie.Need-entry-matches-requires Inv-loop μ-loop
 entry-matches-requires c κs = search needs
 
-enum-known-report : tie.Need-enum-known-report Inv-loop μ-loop
-enum-known-report c = search needs
-
 returns : tie.Need-returns Inv-loop μ-loop
 returns c =
-    let entry = c .before .before .before in
-    let a = c .before .before .before .before .before .before .before .before .before .args in
-    let w = c .before .before .before .before .before .loop in
-    let e = entry-equals (a .version) (a .l) (a .metrics .now) (a .strings .now) (a .stored) (w .i) (entry .entry-matches .ensures)
-    (c .before .report .given .1) in
-    search-hit (a .version) (a .l) _ _ _ _ (w .inv .1 ∙ first-hit _ _ _ (omega arith) (e .passes)) (e .reports)
-
-enum-told : tie.Need-enum-told Inv-loop μ-loop
-enum-told c = search needs
+    let a = c .before .before .before .before .before .before .before .args in
+    let w = c .before .before .before .loop in
+    search-hit (a .version) (a .l) _ _ _ _ (w .inv .1 ∙ first-hit _ _ _ (omega arith) (sym (c .before .entry-matches .ensures) ∙ c .if1 .taken))
 
 add-i : tie.Need-add-i Inv-loop μ-loop
 add-i c =
-    let a = c .before .before .before .before .before .before .before .before .args in
-    omega (arith, c .before .before .before .before .before .before .before .before .pre .0, div-le-self (length (a .metrics .now)) (a .l .«metrics_entry»))
+    let start = c .before .before .before .before .before .before .before in
+    omega (arith, start .pre .0, div-le-self (length (start .args .metrics .now)) (start .args .l .«metrics_entry»))
 
 loop-less : tie.Need-loop-less Inv-loop μ-loop
 loop-less c = search needs
 
 loop-again : tie.Need-loop-again Inv-loop μ-loop
 loop-again c =
-    let entry = c .before .before in
-    let a = c .before .before .before .before .before .before .before .before .args in
-    let w = c .before .before .before .before .loop in
-    let e = entry-differs (a .version) (a .l) (a .metrics .now) (a .strings .now) (a .stored) (w .i) (entry .entry-matches .ensures) (c .enum-told .given .1) in
-    (omega arith, w .inv .1 ∙ first-miss _ _ _ (omega arith) e)
+    let w = c .before .before .before .loop in
+    (omega arith, w .inv .1 ∙ first-miss _ _ _ (omega arith) (sym (c .before .entry-matches .ensures) ∙ c .if1 .left))
 
 returns-2 : tie.Need-returns-2 Inv-loop μ-loop
 returns-2 c =
@@ -84,9 +72,7 @@ search-spec =
     loop-holds
     cast-entry-matches
     entry-matches-requires
-    enum-known-report
     returns
-    enum-told
     add-i
     loop-less
     loop-again
