@@ -55,7 +55,8 @@ static int print_verdict(const struct pull *p, uint32_t verdict)
         print_record(p->out);
         return 1;
     }
-    printf("%zu bytes: refused %" PRIu64 " %" PRIu64 "\n", p->have, p->out[HS_NUMBER], p->out[HS_INDEX]);
+    printf("%zu bytes: refused %" PRIu64 " %" PRIu64 " at %" PRIu64 "\n", p->have, p->out[HS_NUMBER], p->out[HS_INDEX],
+           p->out[HS_OFFSET]);
     return 0;
 }
 

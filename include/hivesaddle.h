@@ -42,7 +42,7 @@ extern "C" {
 /* What both give back. */
 enum hs_verdict {
     HS_ACCEPTED = 0, /* the record is in out, from HS_VERSION on */
-    HS_REFUSED = 1,  /* out has HS_NUMBER and HS_INDEX */
+    HS_REFUSED = 1,  /* out has HS_NUMBER, HS_INDEX and HS_OFFSET */
     HS_WANTED = 2    /* out has HS_BYTES_WANTED; hs_read_prefix only */
 };
 
@@ -61,7 +61,8 @@ enum hs_reader_out {
     HS_TRACE_COUNT = 10,
     HS_VOLUME_COUNT = 11,
     HS_CHAIN_COUNT = 12, /* trace entries that no entry names as next */
-    HS_READER_OUT = 13   /* length of an out that holds them all */
+    HS_OFFSET = 13,      /* of the refusal: where the field at fault stands in the file */
+    HS_READER_OUT = 14   /* length of an out that holds them all */
 };
 
 /* In a slot of predecessors: no entry. */
@@ -82,29 +83,35 @@ uint32_t hs_places(const uint8_t *file, size_t length, uint64_t *out, size_t out
  * the first that is not passed gives the answer. S is the declared size, H the end of the head's last field: 148, 156 and
  * 212 for versions 17, 23 and 26. Sections are numbered 1 metrics, 2 trace, 3 strings, 4 volumes.
  *
- *  no.  required        refused exactly when                                                 index
- *   1   4               version not 17, 23 or 26                                             0
- *   2   8               signature is not "SCCA"                                              0
- *   3   16              S below H or above 16,777,215                                        0
- *   4   76              none of the 30 units of the program name is zero                     0
- *   5   H               a section that is not empty starts before H or ends after S          first such section
- *   6   H               two sections share a byte                                            smallest that shares one with
- *                                                                                            a lower section
- *   7   H               fewer slots than trace entries                                       0
- *   8   H               more volume entries than the volumes section can hold                0
- *   9   metrics end     a name, with its zero unit, runs past the strings section            first such metrics entry
- *  10   metrics and     a name has a zero unit inside, or no zero unit right behind it       first such metrics entry
- *       strings end
- *  11   trace end       a next index is neither 4,294,967,295 nor that of an entry           first such trace entry
- *  12   trace end       an entry is named as next by two or more                             smallest entry so named
- *  13   trace end       following next from an entry comes back to it                        smallest such entry
- *  14   volumes end     a path, references or a directory run past the volumes section, or   the volume
- *                       references have a size of 1 to 7, or more numbers than it holds
- *  15   volumes end     a directory does not end in a zero unit                              the volume
- *  16                   hs_read_file only: the file is shorter than S or than a check needs  0
- *  17                   hs_read_file only: the file is longer than S                         0
- *  18                   hs_catalogue_read only: not a catalogue line
- *  19                   hs_catalogue_write only: fields that form no line, or an output below 25 bytes
+ * The file offset says where the field at fault stands, from the first byte of the file: for a section its offset field,
+ * which is at 84, 92, 100 or 108; for a name the field of its metrics entry that holds the name's offset, 8 bytes into the
+ * entry in version 17 and 12 in 23 and 26; for an entry its first byte. A trace entry begins with its next index. 16 has 12
+ * also where the file is too short to have those bytes.
+ *
+ *  no.  required     refused exactly when                                                 index                file offset
+ *   1   4            version not 17, 23 or 26                                             0                    0
+ *   2   8            signature is not "SCCA"                                              0                    4
+ *   3   16           S below H or above 16,777,215                                        0                    12
+ *   4   76           none of the 30 units of the program name is zero                     0                    16
+ *   5   H            a section that is not empty starts before H or ends after S          first such section   offset field
+ *   6   H            two sections share a byte                                            smallest that shares offset field
+ *                                                                                         one with a lower
+ *   7   H            fewer slots than trace entries                                       0                    96
+ *   8   H            more volume entries than the volumes section can hold                0                    112
+ *   9   metrics end  a name, with its zero unit, runs past the strings section            first such metrics   name offset
+ *                                                                                         entry
+ *  10   metrics and  a name has a zero unit inside, or no zero unit right behind it       first such metrics   name offset
+ *       strings end                                                                       entry
+ *  11   trace end    a next index is neither 4,294,967,295 nor that of an entry           first such entry     next index
+ *  12   trace end    an entry is named as next by two or more                             smallest so named    entry
+ *  13   trace end    following next from an entry comes back to it                        smallest such entry  entry
+ *  14   volumes end  a path, references or a directory run past the volumes section,      the volume           volume entry
+ *                    or references have a size of 1 to 7, or more numbers than it holds
+ *  15   volumes end  a directory does not end in a zero unit                              the volume           volume entry
+ *  16                hs_read_file only: the file is shorter than S or than a check needs  0                    12
+ *  17                hs_read_file only: the file is longer than S                         0                    12
+ *  18                hs_catalogue_read only: not a catalogue line
+ *  19                hs_catalogue_write only: fields that form no line, or an output below 25 bytes
  *
  * 14 and 15 are found volume by volume, the first fault of the first volume that has one. The end of an empty section
  * counts as H; strings without metrics entries and a volumes section without volumes are not waited for.

@@ -3,7 +3,7 @@
  *
  *   0      the call, CALLS and above: all of them
  *   1      bits 0 to 2: file, table and out lie behind or before a page that cannot be touched; 3, 4: pointer of an empty list
- *   2      length of out, 0 to 16
+ *   2      length of out, 0 to 3 more than the readers write
  *   3      slots: as the file's trace count says, one fewer, one more, none, or as bytes 4, 5 say
  *   4      slots, 2 bytes
  *   6      2 bytes: 0 for the whole file, else a cut behind that many bytes less one
@@ -344,7 +344,7 @@ int LLVMFuzzerTestOneInput(const uint8_t *data, size_t size) {
     struct input in = {.control = control, .bytes = data + head, .length = size - head};
     size_t cut = number(control + 6, 2);
     if (cut && cut - 1 < in.length) in.length = cut - 1;
-    in.out_length = control[2] % 17;
+    in.out_length = control[2] % (HS_READER_OUT + 4);
     in.places = places(control, in.bytes, in.length);
     in.i = number(control + 8, 8);
     in.k = number(control + 16, 8);

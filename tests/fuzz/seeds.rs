@@ -8,6 +8,7 @@ use compare::generate::damage::{damage, AIMS};
 use compare::generate::{sound_of, Counts, Sample};
 use compare::random::Random;
 use compare::reference::layout::LAYOUTS;
+use hivesaddle::raw::HS_READER_OUT;
 use std::io;
 use std::path::{Path, PathBuf};
 
@@ -27,8 +28,8 @@ struct Seeds {
 impl Seeds {
     /// The choices as harness.c takes them, then the bytes.
     fn add(&mut self, call: u8, places: u8, i: u64, k: u64, bytes: &[u8]) -> io::Result<()> {
-        let mut input =
-            vec![call, self.count as u8 % 32, 13 + self.count as u8 % 4, places, 0, 0, 0, 0];
+        let out_length = HS_READER_OUT as u8 + self.count as u8 % 4;
+        let mut input = vec![call, self.count as u8 % 32, out_length, places, 0, 0, 0, 0];
         input.extend(i.to_le_bytes());
         input.extend(k.to_le_bytes());
         input.extend((self.count as u32).to_le_bytes());

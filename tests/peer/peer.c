@@ -395,7 +395,8 @@ static void fields(const char *path, int verdicts)
         if (accepted) {
             printf("accepted");
         } else {
-            printf("refused %llu %llu", (unsigned long long)out[HS_NUMBER], (unsigned long long)out[HS_INDEX]);
+            printf("refused %llu %llu at %llu", (unsigned long long)out[HS_NUMBER], (unsigned long long)out[HS_INDEX],
+                   (unsigned long long)out[HS_OFFSET]);
         }
         print_outcome(by_strings, &strings);
         print_outcome(by_entries, &entries);

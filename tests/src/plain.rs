@@ -46,14 +46,14 @@ pub fn read_file(file: &[u8], predecessors: &mut [u32]) -> Result<Record, Refusa
     answer
 }
 
-fn refused<T>(number: u32, index: usize) -> Result<T, Refusal> {
-    Err(Refusal { number, index: index as u64 })
+fn refused<T>(number: u32, index: usize, offset: usize) -> Result<T, Refusal> {
+    Err(Refusal { number, index: index as u64, offset: offset as u64 })
 }
 
 /// The bytes that a check has to have.
 fn need(file: &[u8], required: usize) -> Result<(), Refusal> {
     match file.len() < required {
-        true => refused(16, 0),
+        true => refused(16, 0, 12),
         false => Ok(()),
     }
 }
@@ -68,17 +68,17 @@ fn read(file: &[u8], predecessors: &mut [u32]) -> Result<Record, Refusal> {
     let trace_count = number(file, 96);
     let volume_count = number(file, 112);
     if predecessors.len() < trace_count {
-        return refused(7, 0);
+        return refused(7, 0, 96);
     }
     if volume_count * layout.volume_entry > volumes.length {
-        return refused(8, 0);
+        return refused(8, 0, 112);
     }
     if metrics.length > 0 {
         names(file, layout, metrics, strings)?;
     }
-    let chain_count = links(trace.bytes(file)?, &mut predecessors[..trace_count])?;
+    let chain_count = links(file, trace, &mut predecessors[..trace_count])?;
     if volume_count > 0 {
-        all_volumes(volumes.bytes(file)?, layout, volume_count)?;
+        all_volumes(file, volumes, layout, volume_count)?;
     }
     whole(file, size)?;
     Ok(Record {
@@ -101,12 +101,12 @@ fn layout(file: &[u8]) -> Result<&'static Layout, Refusal> {
         17 => &LAYOUT_17,
         23 => &LAYOUT_23,
         26 => &LAYOUT_26,
-        _ => return refused(1, 0),
+        _ => return refused(1, 0, 0),
     };
     need(file, 8)?;
     match &file[4..8] {
         b"SCCA" => Ok(layout),
-        _ => refused(2, 0),
+        _ => refused(2, 0, 4),
     }
 }
 
@@ -115,7 +115,7 @@ fn declared_size(file: &[u8], layout: &Layout) -> Result<usize, Refusal> {
     let size = number(file, 12);
     match (layout.head_end..=LARGEST_SIZE).contains(&size) {
         true => Ok(size),
-        false => refused(3, 0),
+        false => refused(3, 0, 12),
     }
 }
 
@@ -123,15 +123,15 @@ fn program_name(file: &[u8]) -> Result<u32, Refusal> {
     need(file, 76)?;
     match file[16..76].chunks_exact(2).position(is_zero) {
         Some(units) => Ok(units as u32),
-        None => refused(4, 0),
+        None => refused(4, 0, 16),
     }
 }
 
 fn whole(file: &[u8], size: usize) -> Result<(), Refusal> {
     match file.len().cmp(&size) {
-        std::cmp::Ordering::Less => refused(16, 0),
+        std::cmp::Ordering::Less => refused(16, 0, 12),
         std::cmp::Ordering::Equal => Ok(()),
-        std::cmp::Ordering::Greater => refused(17, 0),
+        std::cmp::Ordering::Greater => refused(17, 0, 12),
     }
 }
 
@@ -170,11 +170,11 @@ fn sections(file: &[u8], layout: &Layout, size: usize) -> Result<[Section; 4], R
     ];
     let outside = |s: &Section| s.length > 0 && (s.start < layout.head_end || s.end() > size);
     if let Some(place) = sections.iter().position(outside) {
-        return refused(5, place + 1);
+        return refused(5, place + 1, 84 + 8 * place);
     }
     for place in 1..4 {
         if sections[..place].iter().any(|lower| lower.touches(&sections[place])) {
-            return refused(6, place + 1);
+            return refused(6, place + 1, 84 + 8 * place);
         }
     }
     Ok(sections)
@@ -188,20 +188,21 @@ fn names(
     strings: &Section,
 ) -> Result<(), Refusal> {
     let entries = metrics.bytes(file)?.chunks_exact(layout.metrics_entry);
+    let field = |i: usize| metrics.start + i * layout.metrics_entry + layout.name_offset;
     let range = |entry: &[u8]| {
         let offset = number(entry, layout.name_offset);
         let units = number(entry, layout.name_offset + 4);
         (offset, offset + 2 * units + 2)
     };
     if let Some(i) = entries.clone().position(|entry| range(entry).1 > strings.length) {
-        return refused(9, i);
+        return refused(9, i, field(i));
     }
     let strings = strings.bytes(file)?;
     for (i, entry) in entries.enumerate() {
         let (start, end) = range(entry);
         let (units, last) = strings[start..end].split_at(end - start - 2);
         if !is_zero(last) || units.chunks_exact(2).any(is_zero) {
-            return refused(10, i);
+            return refused(10, i, field(i));
         }
     }
     Ok(())
@@ -209,7 +210,9 @@ fn names(
 
 /// Checks 11 to 13 and the chain count. The table is filled with the end and
 /// has one slot for each entry.
-fn links(trace: &[u8], table: &mut [u32]) -> Result<u32, Refusal> {
+fn links(file: &[u8], trace: &Section, table: &mut [u32]) -> Result<u32, Refusal> {
+    let refused = |number, entry| refused(number, entry, trace.start + TRACE_ENTRY * entry);
+    let trace = trace.bytes(file)?;
     let mut shared = END;
     for (entry, bytes) in trace.chunks_exact(TRACE_ENTRY).enumerate() {
         let link = u32::from_le_bytes(array(bytes, 0));
@@ -270,10 +273,17 @@ fn least_on_a_ring(trace: &[u8], table: &mut [u32]) -> usize {
 }
 
 /// Checks 14 and 15.
-fn all_volumes(section: &[u8], layout: &Layout, count: usize) -> Result<(), Refusal> {
+fn all_volumes(
+    file: &[u8],
+    volumes: &Section,
+    layout: &Layout,
+    count: usize,
+) -> Result<(), Refusal> {
+    let section = volumes.bytes(file)?;
     for i in 0..count {
-        if let Some(number) = volume_fault(section, &section[i * layout.volume_entry..]) {
-            return refused(number, i);
+        let entry = i * layout.volume_entry;
+        if let Some(number) = volume_fault(section, &section[entry..]) {
+            return refused(number, i, volumes.start + entry);
         }
     }
     Ok(())
@@ -358,7 +368,8 @@ mod beside_the_reference {
                 assert_eq!(record.chain_count, given.chain_count as u64);
             }
             (Verdict::Refused(refusal), Err(given)) => {
-                assert_eq!((refusal.number, refusal.index), (given.number as u64, given.index));
+                assert_eq!(refusal.number, given.number as u64);
+                assert_eq!((refusal.index, refusal.offset), (given.index, given.offset));
             }
             (answer, given) => panic!("{answer:?} but {given:?}"),
         }

@@ -14,7 +14,7 @@ use Rattle.trace.proofs.Steps.{length-nexts}
 use Rattle.reader.specs.declared.verdict.Verdict.{Verdict}
 use Rattle.reader.specs.declared.verdict.Verdict.the-variants.{Accepted}
 use Rattle.reader.specs.Verdict.{Acceptable, Reads}
-use Rattle.reader.specs.Checks.{nextsIn}
+use Rattle.reader.specs.Checks.{nextsIn, linkAt}
 use Rattle.reader.specs.Allowed.{Allowed}
 use Rattle.reader.proofs.Values.{same-values}
 use Rattle.reader.proofs.AllowedLaws.{trace-few, free-clear}
@@ -27,9 +27,10 @@ not-accepted-filled (decided (refuse f)) m v after r n = r .buffer
 not-accepted-filled (wants k) m v after r n = r .buffer
 
 -- links without a fault pass 11 to 13
-clear-passes : (s : List ℕ) → (astrayFault s ≡ Nowhere) × (sharedFault s ≡ Nowhere) × (cyclicFault s ≡ Nowhere) → linkChecks s ≡ accept (chains s)
+clear-passes : (at : ℕ → ℕ) (s : List ℕ) → (astrayFault at s ≡ Nowhere) × (sharedFault at s ≡ Nowhere) × (cyclicFault at s ≡ Nowhere)
+    → linkChecks at s ≡ accept (chains s)
 unfolding linkChecks
-clear-passes s c = rw (c .0, c .1, c .2)
+clear-passes at s c = rw (c .0, c .1, c .2)
 
 pub allowed-linked : (p : List ℕ) (o : Opening) → Allowed p o → Linked (nextsIn o p)
 allowed-linked p o a =
@@ -37,6 +38,7 @@ allowed-linked p o a =
     let few = trace-few p o (opens p o a) in
     record {
       short = omega (arith, size, few);
+      at = linkAt o;
       count = chains (nextsIn o p);
-      passes = clear-passes (nextsIn o p) (free-clear (nextsIn o p) _ size few (record { links = a .links; unshared = a .unshared; acyclic = a .acyclic }));
+      passes = clear-passes (linkAt o) (nextsIn o p) (free-clear (nextsIn o p) _ size few (linkAt o) (record { links = a .links; unshared = a .unshared; acyclic = a .acyclic }));
     }

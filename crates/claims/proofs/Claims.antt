@@ -15,6 +15,7 @@ use Rattle.text.proofs.Decimal.{decimal-law, decimal-only}
 use Rattle.claims.proofs.Buffer.{not-accepted-filled, allowed-linked}
 use Rattle.claims.proofs.Search.{path-exactly, path-not-open}
 use Rattle.claims.proofs.EveryName.{every-name}
+use Rattle.claims.proofs.Offsets.{offsets}
 use Rattle.claims.proofs.OneHash.{one-hash}
 use Rattle.claims.proofs.Places.{places-say}
 use Rattle.claims.proofs.EmptyPrograms.{empty-programs}
@@ -29,15 +30,16 @@ claims =
       filled-file = λ p buffer. not-accepted-filled _ _;
       demand-2 = demand-2;
       demand-3 = demand-3;
+      offsets = offsets;
       after-size = after-size;
       stands = λ t xs i j h. stands t _ _ (begins-take xs i j h);
       every-name = every-name;
       name-stops = record { part = name-part; behind = name-behind; none = name-none; whole = name-whole };
       places = places-say;
       linked = allowed-linked;
-      working-buffer = λ s places l room. working-buffer s (l .count) places (l .short) room (l .passes);
-      one-chain = λ s l. one-chain s (l .count) (l .short) (l .passes);
-      chains-ends = λ s l. chains-ends s (l .count) (l .short) (l .passes);
+      working-buffer = λ s places l room. working-buffer (l .at) s (l .count) places (l .short) room (l .passes);
+      one-chain = λ s l. one-chain (l .at) s (l .count) (l .short) (l .passes);
+      chains-ends = λ s l. chains-ends (l .at) s (l .count) (l .short) (l .passes);
       cycles = cycle-law;
       round-trip = round-trip;
       decimal-is = decimal-law;

@@ -36,9 +36,9 @@ unfoldable linked : List ℕ → ℕ
 unfolding nexts tabulate some count cyclic namers follow chains predecessors predecessor
 linked s = chains s
 
-unfoldable inVolumes : List ℕ → Layout → ℕ → ℕ → Decision Unit
+unfoldable inVolumes : List ℕ → Layout → ℕ → ℕ → ℕ → Decision Unit
 unfolding volumesFrom entryChecks pathFits referencesFit referenceCount directoryChecks stepAt
-inVolumes s l n i = volumesFrom s l n i
+inVolumes s l start n i = volumesFrom s l start n i
 
 -- all checks
 unfoldable pub answered : List ℕ → ℕ → Answer Acceptable

@@ -54,7 +54,7 @@ accepts part f h p buffer a t e =
 accepts whole f h p buffer a t e = gives whole f h p buffer _ (Accepted a) e refl
 
 -- four bytes of version 24 are refused by both
-refused-24 : (k : Reader) (m : ℕ) → answerOf k (24 ∷ 0 ∷ 0 ∷ 0 ∷ []) m ≡ decided (refuse (refusal 1 0))
+refused-24 : (k : Reader) (m : ℕ) → answerOf k (24 ∷ 0 ∷ 0 ∷ 0 ∷ []) m ≡ decided (refuse (refusal 1 0 0))
 refused-24 part m = points .prefixes .version-24 m
 refused-24 whole m = ap (wholeAnswer 4) (points .prefixes .version-24 m)
 
@@ -116,7 +116,7 @@ module _ (k : Reader) (f : Program) (h : Meets k f) where
 
   never-left-refused : ((p buffer : List ℕ) (r : Refusal) → f .verdict p buffer ≡ Refused r → f .left p buffer ≡ buffer) → ⊥
   never-left-refused n =
-      let g = gives k f h (24 ∷ 0 ∷ 0 ∷ 0 ∷ []) (0 ∷ []) _ (Refused (refusal 1 0)) (refused-24 k 1) refl in
+      let g = gives k f h (24 ∷ 0 ∷ 0 ∷ 0 ∷ []) (0 ∷ []) _ (Refused (refusal 1 0 0)) (refused-24 k 1) refl in
       filled-not-zero _ (g .1) (n (24 ∷ 0 ∷ 0 ∷ 0 ∷ []) (0 ∷ []) _ (g .0))
 
   the-one-chain : (v : Version) (x y : ℕ) (a : Acceptance) → f .verdict (full v) (x ∷ y ∷ []) ≡ Accepted a → a .«chain_count» ≡ 1

@@ -2,6 +2,8 @@ pub mod Buffer
 pub mod Claims
 pub mod Computed
 pub mod EmptyPrograms
+pub mod Offsets
+pub mod Placeless
 pub mod OneHash
 pub mod EveryName
 pub mod Examples

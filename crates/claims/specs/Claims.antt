@@ -29,6 +29,7 @@ use Rattle.path_search.specs.Search.{matches, entryNumbers, pathFound, PathFoun
 use Rattle.text.specs.Decimal.{decimal, IsDecimal}
 use Rattle.claims.specs.NameStops.{NameStops}
 use Rattle.claims.specs.EveryName.{EveryName}
+use Rattle.claims.specs.Offsets.{Offsets}
 use Rattle.claims.specs.OneHash.{OneHash}
 use Rattle.claims.specs.Places.{PlacesSay}
 use Rattle.claims.specs.EmptyPrograms.{EmptyPrograms}
@@ -43,11 +44,12 @@ NotAccepted v = (a : Acceptance) → v ≡ Accepted a → ⊥
 abbrev pub Opens : List ℕ → Opening → Type 0
 Opens p o = run openPlan p ≡ decided (accept o)
 
--- checks 11 to 13 pass on the next indexes `s`, which are no more than 4,294,967,295
+-- checks 11 to 13 pass on the next indexes `s`, which are no more than 4,294,967,295, wherever in the file the entries stand
 pub record Linked (s : List ℕ) : Type 0 where
   pub short : length s ≤ end
+  pub at : ℕ → ℕ
   pub count : ℕ
-  pub passes : linkChecks s ≡ accept count
+  pub passes : linkChecks at s ≡ accept count
 
 pub record Claims : Type 1 where
   -- ---- the demands of document 00
@@ -65,6 +67,9 @@ pub record Claims : Type 1 where
       → ReadsPrefix (take i xs) buffer v after
       → ReadsPrefix (take j xs) buffer′ w after′
       → EarlyStands (take i xs) (take j xs) v w after after′
+  -- Request 103, "demand 3 covers the place too": it does as it stands, since it speaks of whole refusals, number, index and file
+  -- offset. The offset is that of the request's table.
+  pub offsets : Offsets
   -- "Beyond the first sixteen, bytes after S are never looked at by the prefix reader": bytes that agree up to there get one answer.
   pub after-size : (p q : List ℕ) (places n : ℕ)
       → 16 ≤ n

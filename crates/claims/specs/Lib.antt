@@ -1,4 +1,5 @@
 pub mod NameStops
+pub mod Offsets
 pub mod OneHash
 pub mod Claims
 pub mod EmptyPrograms

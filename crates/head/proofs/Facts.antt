@@ -64,13 +64,13 @@ pub start-facts : (p : List ℕ) → Holds (StartFacts p) (run startPlan p)
 unfolding startPlan
 start-facts p =
     holds-reach 4 _ p _ λ _.
-    holds-given _ 1 (version (versionOf (le 4 (take 4 p) 0))) _ p λ v k.
+    holds-given _ 1 0 (version (versionOf (le 4 (take 4 p) 0))) _ p λ v k.
     holds-reach 8 _ p _ λ _.
     holds-check _ 2 (signatureFault (take 8 p)) _ p λ g.
     holds-reach 16 _ p _ λ _.
     holds-check _ 3 (sizeFault (layoutOf v) (take 16 p)) _ p λ z.
     holds-reach 76 _ p _ λ w.
-    holds-given _ 4 (units (nameEnd (take 76 p))) _ p λ n e.
+    holds-given _ 4 16 (units (nameEnd (take 76 p))) _ p λ n e.
     let s = size-law (layoutOf v) p .0 (sym (size-take (layoutOf v) p) ∙ z) in
     holds-accept (StartFacts p) _ p
     (record {
@@ -89,13 +89,13 @@ start-complete p s f =
     let v = s .version in
     let l : headEnd (layoutOf v) ≤ declaredSize p = rw (← f .laid) (f .least) in
     reach-here 4 _ p (omega (arith, f .named))
-    ∙ given-some 1 _ _ p v (ap version (version-take p ∙ f .known))
+    ∙ given-some 1 _ _ _ p v (ap version (version-take p ∙ f .known))
     ∙ reach-here 8 _ p (omega (arith, f .named))
     ∙ check-passed 2 _ _ p (signature-take p ∙ f .signed)
     ∙ reach-here 16 _ p (omega (arith, f .named))
     ∙ check-passed 3 _ _ p (size-take (layoutOf v) p ∙ size-law (layoutOf v) p .1 (l, f .most))
     ∙ reach-here 76 _ p (f .named)
-    ∙ given-some 4 _ _ p (s .«name_units») (ap units (f .ended))
+    ∙ given-some 4 _ _ _ p (s .«name_units») (ap units (f .ended))
     ∙ rw (← f .laid)
 
 pub start-met : (p : List ℕ) (r : StartAnswer) (s : Start) → startOf r ≡ run startPlan p → r ≡ startAnswer.Started s → StartFacts p s
@@ -187,14 +187,14 @@ pub decided-start : (p : List ℕ) → 16 ≤ length p → declaredSize p ≤ le
 unfolding startPlan
 decided-start p h d =
     decided-reach 4 _ p (omega arith)
-    (decided-given 1 (version (versionOf (le 4 (take 4 p) 0))) _ p λ v _.
+    (decided-given 1 0 (version (versionOf (le 4 (take 4 p) 0))) _ p λ v _.
     decided-reach 8 _ p (omega arith)
     (decided-check 2 (signatureFault (take 8 p)) _ p λ _.
     decided-reach 16 _ p h
     (decided-check 3 (sizeFault (layoutOf v) (take 16 p)) _ p λ z.
     let l = size-law (layoutOf v) p .0 (sym (size-take (layoutOf v) p) ∙ z) .0 in
     decided-reach 76 _ p (omega (arith, l, layout-sound v .fixed))
-    (decided-given 4 (units (nameEnd (take 76 p))) _ p λ n _. decided-decide _ p))))
+    (decided-given 4 16 (units (nameEnd (take 76 p))) _ p λ n _. decided-decide _ p))))
 
 pub decided-open : (p : List ℕ) → 16 ≤ length p → declaredSize p ≤ length p → Decided (run openPlan p)
 unfolding openPlan

@@ -28,16 +28,16 @@ use Rattle.head.specs.Rules.{NameEnds, Within, Inside, Separate, Apart}
 
 pub signature-law : (b : List ℕ) → (signatureFault b ≡ Nowhere) ↔ (le 4 b 4 ≡ 0x41434353)
 unfolding signatureFault
-signature-law b = (λ e. eqb-true _ _ (not-false (eqb (le 4 b 4) 0x41434353) (fault-clear 0 _ e)), λ e. rw (eq-eqb _ _ e))
+signature-law b = (λ e. eqb-true _ _ (not-false (eqb (le 4 b 4) 0x41434353) (fault-clear 0 _ _ e)), λ e. rw (eq-eqb _ _ e))
 
 pub size-law : (l : Layout) (b : List ℕ) → (sizeFault l b ≡ Nowhere) ↔ ((headEnd l ≤ declaredSize b) × (declaredSize b ≤ sizeLimit))
 unfolding sizeFault
 size-law l b = (go (ltb (declaredSize b) (headEnd l)) (ltb sizeLimit (declaredSize b)) refl refl, λ h. rw (le-ltb _ _ (h .0), le-ltb _ _ (h .1)))
   where
-    go : (x y : Bool) → ltb (declaredSize b) (headEnd l) ≡ x → ltb sizeLimit (declaredSize b) ≡ y → faultAt 0 (x || y) ≡ Nowhere
+    go : (x y : Bool) → ltb (declaredSize b) (headEnd l) ≡ x → ltb sizeLimit (declaredSize b) ≡ y → faultAt 0 12 (x || y) ≡ Nowhere
         → (headEnd l ≤ declaredSize b) × (declaredSize b ≤ sizeLimit)
-    go true y p q e = absurd (at-nowhere 0 e)
-    go false true p q e = absurd (at-nowhere 0 e)
+    go true y p q e = absurd (at-nowhere 0 12 e)
+    go false true p q e = absurd (at-nowhere 0 12 e)
     go false false p q e = (ltb-false _ _ p, ltb-false _ _ q)
 
 pub name-law : (b : List ℕ) (u : ℕ) → nameEnd b ≡ found.At u → NameEnds b u
@@ -73,12 +73,12 @@ none-outside l h e =
     let o : Section → Bool = λ s. outside (headEnd l) (sizeIn h) s in
     go (o (h .metrics)) (o (h .trace)) (o (h .strings)) (o (h .volumes)) (sym (in-turn l h) ∙ e)
   where
-    go : (a b c d : Bool) → pick a (At 1) (pick b (At 2) (pick c (At 3) (pick d (At 4) Nowhere))) ≡ Nowhere
+    go : (a b c d : Bool) → pick a (At 1 84) (pick b (At 2 92) (pick c (At 3 100) (pick d (At 4 108) Nowhere))) ≡ Nowhere
         → (a ≡ false) × (b ≡ false) × (c ≡ false) × (d ≡ false)
-    go true b c d e = absurd (at-nowhere 1 e)
-    go false true c d e = absurd (at-nowhere 2 e)
-    go false false true d e = absurd (at-nowhere 3 e)
-    go false false false true e = absurd (at-nowhere 4 e)
+    go true b c d e = absurd (at-nowhere 1 84 e)
+    go false true c d e = absurd (at-nowhere 2 92 e)
+    go false false true d e = absurd (at-nowhere 3 100 e)
+    go false false false true e = absurd (at-nowhere 4 108 e)
     go false false false false e = (refl, refl, refl, refl)
 
 pub outside-law : (l : Layout) (h : Head) → (outsideFault l h ≡ Nowhere) ↔ Inside l h
@@ -129,14 +129,14 @@ separate-law s t = (go (eqb (s .len) 0) (eqb (t .len) 0) (ltb (s .at) (t .end)) 
 
 -- 6
 none-shared : (a b c d e f : Bool)
-    → pick a (At 2) (pick b (At 3) (pick c (At 3) (pick d (At 4) (pick e (At 4) (pick f (At 4) Nowhere))))) ≡ Nowhere
+    → pick a (At 2 92) (pick b (At 3 100) (pick c (At 3 100) (pick d (At 4 108) (pick e (At 4 108) (pick f (At 4 108) Nowhere))))) ≡ Nowhere
     → (a ≡ false) × (b ≡ false) × (c ≡ false) × (d ≡ false) × (e ≡ false) × (f ≡ false)
-none-shared true b c d e f q = absurd (at-nowhere 2 q)
-none-shared false true c d e f q = absurd (at-nowhere 3 q)
-none-shared false false true d e f q = absurd (at-nowhere 3 q)
-none-shared false false false true e f q = absurd (at-nowhere 4 q)
-none-shared false false false false true f q = absurd (at-nowhere 4 q)
-none-shared false false false false false true q = absurd (at-nowhere 4 q)
+none-shared true b c d e f q = absurd (at-nowhere 2 92 q)
+none-shared false true c d e f q = absurd (at-nowhere 3 100 q)
+none-shared false false true d e f q = absurd (at-nowhere 3 100 q)
+none-shared false false false true e f q = absurd (at-nowhere 4 108 q)
+none-shared false false false false true f q = absurd (at-nowhere 4 108 q)
+none-shared false false false false false true q = absurd (at-nowhere 4 108 q)
 none-shared false false false false false false q = (refl, refl, refl, refl, refl, refl)
 
 pub shares-law : (h : Head) → (sharedFault h ≡ Nowhere) ↔ Apart h

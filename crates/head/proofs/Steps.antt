@@ -7,6 +7,7 @@ use lib.ListN.{length, take}
 use Rattle.lists.specs.Answer.{Answers}
 use Rattle.lists.specs.declared.Found.{Found}
 use Rattle.lists.specs.declared.Found.the-variants.{At, Nothing}
+use Rattle.layout.specs.Head.{versionAt, programNameAt}
 use Rattle.layout.specs.Versions.{versionOf, layoutOf, headEnd, knownSaid}
 use Rattle.layout.specs.declared.Version.{Version}
 use Rattle.layout.specs.declared.Layout.{Layout}
@@ -14,6 +15,7 @@ use Rattle.layout.specs.declared.KnownVersion.{KnownVersion}
 use Rattle.layout.specs.declared.KnownVersion.the-variants.{Known, Unknown}
 use Rattle.incremental.specs.Decision.{accept, refuse, refusal}
 use Rattle.incremental.specs.Plan.{Plan, Answer, decided, wants, andThen, given, done, run}
+use Rattle.incremental.specs.declared.Refusal.{Refusal}
 use Rattle.incremental.specs.declared.Fault.{Fault}
 use Rattle.incremental.specs.declared.Fault.the-variants as fault
 use Rattle.sections.specs.declared.Head.{Head}
@@ -28,19 +30,19 @@ use Rattle.head.specs.Private.{sectionPlan}
 
 -- 1: the number read is that of a known version, or not
 module _ {B : Type 0} (m n : ℕ) (r : KnownVersion) (g : Version → Plan B) (p : List ℕ) (k : n ≡ m) (e : Answers knownSaid (versionOf n) r) where
-  pub version-known : (v : Version) (x : Answer B) → r ≡ Known v → x ≡ run (g v) p → x ≡ run (andThen (given 1 (version (versionOf m))) g) p
-  version-known v x q h = rw (given-some 1 (version (versionOf m)) g p v (ap version (sym (e .answer ∙ ap versionOf k) ∙ q))) h
+  pub version-known : (v : Version) (x : Answer B) → r ≡ Known v → x ≡ run (g v) p → x ≡ run (andThen (given 1 versionAt (version (versionOf m))) g) p
+  version-known v x q h = rw (given-some 1 versionAt (version (versionOf m)) g p v (ap version (sym (e .answer ∙ ap versionOf k) ∙ q))) h
 
-  pub version-unknown : r ≡ Unknown → decided (refuse (refusal 1 0)) ≡ run (andThen (given 1 (version (versionOf m))) g) p
-  version-unknown q = sym (given-none 1 (version (versionOf m)) g p (ap version (sym (e .answer ∙ ap versionOf k) ∙ q)))
+  pub version-unknown : r ≡ Unknown → decided (refuse (refusal 1 0 versionAt)) ≡ run (andThen (given 1 versionAt (version (versionOf m))) g) p
+  version-unknown q = sym (given-none 1 versionAt (version (versionOf m)) g p (ap version (sym (e .answer ∙ ap versionOf k) ∙ q)))
 
 -- 4: the name ends, or not
 module _ {B : Type 0} (f r : Found) (g : ℕ → Plan B) (p : List ℕ) (e : r ≡ f) where
-  pub name-ends : (n : ℕ) (x : Answer B) → r ≡ At n → x ≡ run (g n) p → x ≡ run (andThen (given 4 (units f)) g) p
-  name-ends n x q h = rw (given-some 4 (units f) g p n (ap units (sym e ∙ q))) h
+  pub name-ends : (n : ℕ) (x : Answer B) → r ≡ At n → x ≡ run (g n) p → x ≡ run (andThen (given 4 programNameAt (units f)) g) p
+  name-ends n x q h = rw (given-some 4 programNameAt (units f) g p n (ap units (sym e ∙ q))) h
 
-  pub name-endless : r ≡ Nothing → decided (refuse (refusal 4 0)) ≡ run (andThen (given 4 (units f)) g) p
-  name-endless q = sym (given-none 4 (units f) g p (ap units (sym e ∙ q)))
+  pub name-endless : r ≡ Nothing → decided (refuse (refusal 4 0 programNameAt)) ≡ run (andThen (given 4 programNameAt (units f)) g) p
+  name-endless q = sym (given-none 4 programNameAt (units f) g p (ap units (sym e ∙ q)))
 
 -- the layout that a call gave is the version's
 pub size-laid : (v : Version) (l : Layout) (b : List ℕ) (r : Fault) → r ≡ sizeFault l b → l ≡ layoutOf v → r ≡ sizeFault (layoutOf v) b
@@ -74,16 +76,18 @@ by-sections p x e = e
 
 -- 5 and 6 on the head `h` that the first H bytes give, as far as the code has come
 module _ (s : Start) (p : List ℕ) (h : Head) (k : headEnd (s .layout) ≤ length p) (e : h ≡ headOf (s .layout) (take (headEnd (s .layout)) p)) where
-  pub outside-refused : (r : Fault) (i : ℕ) → r ≡ outsideFault (s .layout) h → r ≡ fault.At i → decided (refuse (refusal 5 i)) ≡ run (sectionPlan s) p
+  pub outside-refused : (r : Fault) (i at : ℕ) (z : Refusal) → r ≡ outsideFault (s .layout) h → r ≡ fault.At i at → z ≡ refusal 5 i at
+      → decided (refuse z) ≡ run (sectionPlan s) p
   unfolding sectionPlan
-  outside-refused r i f q = reach-on _ _ p _ k (rw (← e) (check-refused 5 (outsideFault (s .layout) h) _ p i r f q))
+  outside-refused r i at z f q w = reach-on _ _ p _ k (rw (← e) (check-refused 5 (outsideFault (s .layout) h) _ p i at r z f q w))
 
   module _ (x : Fault) (inside : x ≡ outsideFault (s .layout) h) (none : x ≡ fault.Nowhere) where
-    pub shared-refused : (r : Fault) (i : ℕ) → r ≡ sharedFault h → r ≡ fault.At i → decided (refuse (refusal 6 i)) ≡ run (sectionPlan s) p
+    pub shared-refused : (r : Fault) (i at : ℕ) (z : Refusal) → r ≡ sharedFault h → r ≡ fault.At i at → z ≡ refusal 6 i at
+        → decided (refuse z) ≡ run (sectionPlan s) p
     unfolding sectionPlan
-    shared-refused r i f q =
+    shared-refused r i at z f q w =
         reach-on _ _ p _ k
-        (rw (← e) (check-on 5 (outsideFault (s .layout) h) _ p x _ inside none (check-refused 6 (sharedFault h) _ p i r f q)))
+        (rw (← e) (check-on 5 (outsideFault (s .layout) h) _ p x _ inside none (check-refused 6 (sharedFault h) _ p i at r z f q w)))
 
     pub sections-pass : (r : Fault) → r ≡ sharedFault h → r ≡ fault.Nowhere
         → _≡_ {A = Answer Opening} (decided (accept (record { version = s .version; layout = s .layout; «name_units» = s .«name_units»; head = h })))

@@ -1,10 +1,10 @@
--- Checks 1 to 6 of document 01's table in their order: required length (document 01: reach), number, fault.
+-- Checks 1 to 6 of document 01's table in their order: required length (document 01: reach), number, fault with its file offset.
 use mathlib.Core.Option.{Option, some, none}
 use Prim.Native.Nat.{ℕ}
 use Rattle.lists.specs.declared.Found.{Found}
 use Rattle.lists.specs.declared.Found.the-variants.{At, Nothing}
 use Rattle.little_endian.specs.Number.{le}
-use Rattle.layout.specs.Head.{versionAt}
+use Rattle.layout.specs.Head.{versionAt, programNameAt}
 use Rattle.layout.specs.Versions.{versionOf, layoutOf, headEnd}
 use Rattle.layout.specs.declared.Version.{Version}
 use Rattle.layout.specs.declared.KnownVersion.{KnownVersion}
@@ -32,13 +32,13 @@ units Nothing = none
 unfoldable pub startPlan : Plan Start
 startPlan = do
   b ← reach 4
-  v ← given 1 (version (versionOf (le 4 b versionAt)))
+  v ← given 1 versionAt (version (versionOf (le 4 b versionAt)))
   b ← reach 8
   check 2 (signatureFault b)
   b ← reach 16
   check 3 (sizeFault (layoutOf v) b)
   b ← reach 76
-  n ← given 4 (units (nameEnd b))
+  n ← given 4 programNameAt (units (nameEnd b))
   done (record { version = v; layout = layoutOf v; «name_units» = n })
 
 -- CHECKS 1 TO 6; they give the sections too

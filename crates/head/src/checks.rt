@@ -1,4 +1,5 @@
 ghost use mathlib.Core.Path.{_≡_};
+ghost use Rattle.incremental.specs.Decision.{refusal};
 ghost use Rattle.incremental.specs.Plan.{run};
 ghost use Rattle.head.specs.Checks.{startOf, openOf, startPlan, openPlan};
 ghost use Rattle.head.specs.Private.{sectionPlan};
@@ -37,13 +38,10 @@ pub enum OpenAnswer {
     Wanted(usize),
 }
 
-fn start_refused(number: u32, index: usize) -> StartAnswer
-    ensures { λ r. ⌜ r ≡ StartAnswer.Refused (record { number = number; index = index }) ⌝ }
+fn start_refused(number: u32, index: usize, offset: usize) -> StartAnswer
+    ensures { λ r. ⌜ r ≡ StartAnswer.Refused (refusal number index offset) ⌝ }
 {
-    StartAnswer::Refused(Refusal {
-        number: number,
-        index: index,
-    })
+    StartAnswer::Refused(incremental::refuse(number, index, offset))
 }
 
 // Checks 1 to 4, in their order: where its bytes have not come a check wants them, and where it finds a fault it refuses.
@@ -55,26 +53,26 @@ pub fn read_start(file: &[u8]) -> StartAnswer
     }
     let number = little_endian::u32_at(&file[..4], layout::VERSION_AT);
     let KnownVersion::Known(version) = Version::of(number) else {
-        return start_refused(1, 0);
+        return start_refused(1, 0, layout::VERSION_AT);
     };
     let l = Layout::of(version);
     if file.len() < 8 {
         return StartAnswer::Wanted(8);
     }
-    if let Fault::At(i) = sections::signature_fault(&file[..8]) {
-        return start_refused(2, i);
+    if let Fault::At(i, at) = sections::signature_fault(&file[..8]) {
+        return start_refused(2, i, at);
     }
     if file.len() < 16 {
         return StartAnswer::Wanted(16);
     }
-    if let Fault::At(i) = sections::size_fault(&file[..16], l) {
-        return start_refused(3, i);
+    if let Fault::At(i, at) = sections::size_fault(&file[..16], l) {
+        return start_refused(3, i, at);
     }
     if file.len() < 76 {
         return StartAnswer::Wanted(76);
     }
     let Found::At(units) = sections::name_end(&file[..76]) else {
-        return start_refused(4, 0);
+        return start_refused(4, 0, layout::PROGRAM_NAME_AT);
     };
     StartAnswer::Started(Start {
         version: version,
@@ -94,17 +92,11 @@ fn check_sections(file: &[u8], s: Start) -> OpenAnswer
         return OpenAnswer::Wanted(required);
     }
     let h = sections::head_of(l, &file[..required]);
-    if let Fault::At(i) = sections::outside_fault(l, h) {
-        return OpenAnswer::Refused(Refusal {
-            number: 5,
-            index: i,
-        });
+    if let Fault::At(i, at) = sections::outside_fault(l, h) {
+        return OpenAnswer::Refused(incremental::refuse(5, i, at));
     }
-    if let Fault::At(i) = sections::shared_fault(h) {
-        return OpenAnswer::Refused(Refusal {
-            number: 6,
-            index: i,
-        });
+    if let Fault::At(i, at) = sections::shared_fault(h) {
+        return OpenAnswer::Refused(incremental::refuse(6, i, at));
     }
     OpenAnswer::Opened(Opening {
         version: version,

@@ -28,7 +28,7 @@ pub record LineWriting (f : Fields) (before : List ℕ) (r : ℕ) (after : List 
   pub number : r ≡ pick (canWrite f (length before)) 0 19
   pub output : after ≡ pick (canWrite f (length before)) (lineOf f ++ drop 25 before) before
 
--- a verdict's values in order: refusal number and index, bytes wanted, and the acceptance record
+-- a verdict's values in order: refusal number and index, bytes wanted, the acceptance record, and the refusal's file offset
 abbrev pub verdictValues : Values → List ℕ
 verdictValues v =
     v .number
@@ -44,11 +44,13 @@ verdictValues v =
     ∷ v .fields .«trace_count»
     ∷ v .fields .«volume_count»
     ∷ v .fields .«chain_count»
+    ∷ v .offset
     ∷ []
 
--- the values of a number, an index, the bytes wanted and a record
-abbrev pub valuesWith : ℕ → ℕ → ℕ → Acceptance → List ℕ
-valuesWith number index wanted a = verdictValues (record { kind = 0; number = number; index = index; wanted = wanted; fields = a })
+-- the values of a number, an index, a file offset, the bytes wanted and a record
+abbrev pub valuesWith : ℕ → ℕ → ℕ → ℕ → Acceptance → List ℕ
+valuesWith number index offset wanted a =
+    verdictValues (record { kind = 0; number = number; index = index; offset = offset; wanted = wanted; fields = a })
 
 -- what a reader says over the C boundary: 0 accepted, 1 refused, 2 more bytes wanted; the values, and the working buffer afterwards
 pub record ReadOut (answer : Answer Acceptable) (m : ℕ) (code : ℕ) (buffer out out′ : List ℕ) : Type 0 where

@@ -137,8 +137,15 @@ pub extern "C" fn hs_catalogue_write(
     }
 }
 
-fn put_values(out: &mut [u64], number: u32, index: usize, wanted: usize, a: Acceptance)
-    ensures { λ _. ⌜ now (out .exit) ≡ overlay (now (out .entry)) (valuesWith number index wanted a) ⌝ }
+fn put_values(
+    out: &mut [u64],
+    number: u32,
+    index: usize,
+    offset: usize,
+    wanted: usize,
+    a: Acceptance,
+)
+    ensures { λ _. ⌜ now (out .exit) ≡ overlay (now (out .entry)) (valuesWith number index offset wanted a) ⌝ }
 {
     let values = [
         number as u64,
@@ -154,6 +161,7 @@ fn put_values(out: &mut [u64], number: u32, index: usize, wanted: usize, a: Acce
         a.trace_count as u64,
         a.volume_count as u64,
         a.chain_count as u64,
+        offset as u64,
     ];
     put(out, &values);
 }
@@ -182,15 +190,15 @@ fn put_verdict(v: Verdict, out: &mut [u64]) -> u32
 {
     match v {
         Verdict::Accepted(a) => {
-            put_values(out, 0, 0, 0, a);
+            put_values(out, 0, 0, 0, 0, a);
             0
         }
         Verdict::Refused(r) => {
-            put_values(out, r.number, r.index, 0, no_record());
+            put_values(out, r.number, r.index, r.offset, 0, no_record());
             1
         }
         Verdict::Wanted(k) => {
-            put_values(out, 0, 0, k, no_record());
+            put_values(out, 0, 0, 0, k, no_record());
             2
         }
     }

@@ -1,2 +1,3 @@
 pub mod Decision
 pub mod Plan
+pub mod Each

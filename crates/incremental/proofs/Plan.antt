@@ -190,17 +190,18 @@ module _ {B : Type 0} (k : ℕ) (f : List ℕ → Plan B) (p : List ℕ) where
   reach-on v h e = rw (reach-here h) e
 
 module _ {B : Type 0} (n : ℕ) (f : Fault) (g : Unit → Plan B) (p : List ℕ) where
-  pub check-fault : (i : ℕ) → f ≡ At i → run (andThen (check n f) g) p ≡ decided (refuse (refusal n i))
+  pub check-fault : (i at : ℕ) → f ≡ At i at → run (andThen (check n f) g) p ≡ decided (refuse (refusal n i at))
   unfolding check andThen run
-  check-fault i e = rw e
+  check-fault i at e = rw e
 
   pub check-passed : f ≡ Nowhere → run (andThen (check n f) g) p ≡ run (g tt) p
   unfolding check andThen run
   check-passed e = rw e
 
-  -- for `search` at a function's returns: `r` is the fault that a call gave, on which the code has matched
-  pub check-refused : (i : ℕ) (r : Fault) → r ≡ f → r ≡ At i → decided (refuse (refusal n i)) ≡ run (andThen (check n f) g) p
-  check-refused i r e q = sym (check-fault i (sym e ∙ q))
+  -- for `search` at a function's returns: `r` is the fault that a call gave, on which the code has matched, and `x` the refusal made
+  pub check-refused : (i at : ℕ) (r : Fault) (x : Refusal) → r ≡ f → r ≡ At i at → x ≡ refusal n i at
+      → decided (refuse x) ≡ run (andThen (check n f) g) p
+  check-refused i at r x e q h = rw h (sym (check-fault i at (sym e ∙ q)))
 
   pub check-on : (r : Fault) (v : Answer B) → r ≡ f → r ≡ Nowhere → v ≡ run (g tt) p → v ≡ run (andThen (check n f) g) p
   check-on r v e q h = rw (check-passed (sym e ∙ q)) h
@@ -208,43 +209,43 @@ module _ {B : Type 0} (n : ℕ) (f : Fault) (g : Unit → Plan B) (p : List ℕ)
 pub holds-check : {B : Type 0} (P : B → Type 0) (n : ℕ) (f : Fault) (g : Unit → Plan B) (p : List ℕ)
     → (f ≡ Nowhere → Holds P (run (g tt) p)) → Holds P (run (andThen (check n f) g) p)
 unfolding check andThen
-holds-check P n (At i) g p h = holds-refuse P (refusal n i) p
+holds-check P n (At i at) g p h = holds-refuse P (refusal n i at) p
 holds-check P n Nowhere g p h = h refl
 
 pub decided-check : {B : Type 0} (n : ℕ) (f : Fault) (g : Unit → Plan B) (p : List ℕ)
     → (f ≡ Nowhere → Decided (run (g tt) p)) → Decided (run (andThen (check n f) g) p)
 unfolding check andThen
-decided-check n (At i) g p h = decided-decide (refuse (refusal n i)) p
+decided-check n (At i at) g p h = decided-decide (refuse (refusal n i at)) p
 decided-check n Nowhere g p h = h refl
 
 -- what has to be there is, or is not
-module _ {A B : Type 0} (n : ℕ) (o : Option A) (g : A → Plan B) (p : List ℕ) where
-  pub given-some : (a : A) → o ≡ some a → run (andThen (given n o) g) p ≡ run (g a) p
+module _ {A B : Type 0} (n at : ℕ) (o : Option A) (g : A → Plan B) (p : List ℕ) where
+  pub given-some : (a : A) → o ≡ some a → run (andThen (given n at o) g) p ≡ run (g a) p
   unfolding given andThen run
   given-some a e = rw e
 
-  pub given-none : o ≡ none → run (andThen (given n o) g) p ≡ decided (refuse (refusal n 0))
+  pub given-none : o ≡ none → run (andThen (given n at o) g) p ≡ decided (refuse (refusal n 0 at))
   unfolding given andThen run
   given-none e = rw e
 
   -- for `search` at a function's returns
-  pub given-refused : o ≡ none → decided (refuse (refusal n 0)) ≡ run (andThen (given n o) g) p
+  pub given-refused : o ≡ none → decided (refuse (refusal n 0 at)) ≡ run (andThen (given n at o) g) p
   given-refused e = sym (given-none e)
 
-  pub given-on : (a : A) (v : Answer B) → o ≡ some a → v ≡ run (g a) p → v ≡ run (andThen (given n o) g) p
+  pub given-on : (a : A) (v : Answer B) → o ≡ some a → v ≡ run (g a) p → v ≡ run (andThen (given n at o) g) p
   given-on a v e h = rw (given-some a e) h
 
-pub holds-given : {A B : Type 0} (P : B → Type 0) (n : ℕ) (o : Option A) (g : A → Plan B) (p : List ℕ)
-    → ((a : A) → o ≡ some a → Holds P (run (g a) p)) → Holds P (run (andThen (given n o) g) p)
+pub holds-given : {A B : Type 0} (P : B → Type 0) (n at : ℕ) (o : Option A) (g : A → Plan B) (p : List ℕ)
+    → ((a : A) → o ≡ some a → Holds P (run (g a) p)) → Holds P (run (andThen (given n at o) g) p)
 unfolding given andThen
-holds-given P n (some a) g p h = h a refl
-holds-given P n none g p h = holds-refuse P (refusal n 0) p
+holds-given P n at (some a) g p h = h a refl
+holds-given P n at none g p h = holds-refuse P (refusal n 0 at) p
 
-pub decided-given : {A B : Type 0} (n : ℕ) (o : Option A) (g : A → Plan B) (p : List ℕ)
-    → ((a : A) → o ≡ some a → Decided (run (g a) p)) → Decided (run (andThen (given n o) g) p)
+pub decided-given : {A B : Type 0} (n at : ℕ) (o : Option A) (g : A → Plan B) (p : List ℕ)
+    → ((a : A) → o ≡ some a → Decided (run (g a) p)) → Decided (run (andThen (given n at o) g) p)
 unfolding given andThen
-decided-given n (some a) g p h = h a refl
-decided-given n none g p h = decided-decide (refuse (refusal n 0)) p
+decided-given n at (some a) g p h = h a refl
+decided-given n at none g p h = decided-decide (refuse (refusal n 0 at)) p
 
 -- a decision, as the last line
 pub decide-it : {A : Type 0} (d e : Decision A) (p : List ℕ) → d ≡ e → decided d ≡ run (decide e) p

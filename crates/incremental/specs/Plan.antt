@@ -44,14 +44,14 @@ _>>_ t later = andThen t (λ _. later)
 unfoldable pub reach : ℕ → Plan (List ℕ)
 reach k = await k (λ b. decide (accept b))
 
--- check n on what has been reached: a fault is refused with its index
+-- check n on what has been reached: a fault is refused with its index and file offset
 unfoldable pub check : ℕ → Fault → Plan Unit
 check n f = decide (checkNow n f)
 
--- check n on what has to be there, which is handed on: where there is none, refused with index 0
-unfoldable pub given : {A : Type 0} → ℕ → Option A → Plan A
-given n (some a) = decide (accept a)
-given n none = decide (refuse (refusal n 0))
+-- check n on what has to be there, which is handed on: where there is none, refused with index 0 and the field's file offset
+unfoldable pub given : {A : Type 0} → ℕ → ℕ → Option A → Plan A
+given n at (some a) = decide (accept a)
+given n at none = decide (refuse (refusal n 0 at))
 
 -- all checks are passed
 abbrev pub done : {A : Type 0} → A → Plan A

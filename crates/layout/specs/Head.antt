@@ -1,5 +1,5 @@
 -- Document 01's "Head": where each field of the head stands, whatever the version.
-use Prim.Native.Nat.{ℕ}
+use Prim.Native.Nat.{ℕ, _+_, _*_}
 
 abbrev pub versionAt : ℕ
 versionAt = 0
@@ -46,3 +46,7 @@ volumesCountAt = 112
 
 abbrev pub volumesSizeAt : ℕ
 volumesSizeAt = 116
+
+-- where entry i of an array starts in the file: entries of that size from `start`
+abbrev pub entryOffset : ℕ → ℕ → ℕ → ℕ
+entryOffset start size i = start + i * size

@@ -1,6 +1,8 @@
 // Where a file keeps its fields: the head's, which every version has, and the constants of each version, kept together.
 ghost use mathlib.Core.Path.{_≡_};
+ghost use Prim.Native.Nat.{_<_, _^_};
 ghost use Rattle.lists.specs.Answer.{Answers};
+ghost use Rattle.layout.specs.Head.{entryOffset};
 ghost use Rattle.layout.specs.Versions.{layoutOf, versionNumber, versionOf, knownSaid};
 
 // Offsets in the head.
@@ -134,4 +136,11 @@ impl Version {
             _ => KnownVersion::Unknown,
         }
     }
+}
+
+// Where entry i of an array starts in the file: entries of that size from `start`. No sum with it wraps.
+pub fn entry_offset(start: u32, size: u16, i: u32) -> usize
+    ensures { λ r. ⌜ (r ≡ entryOffset start size i) × (r < 2 ^ 49) ⌝ }
+{
+    start as usize + i as usize * (size as usize)
 }

@@ -134,7 +134,7 @@ module _ (p buffer : List ℕ) (h : Bytes p) where
     accepted-answer a (decided (refuse q)) e = let c : _≡_ {A = ℕ} 0 1 = ap (λ (w : Values). w .kind) e in absurd (omega arith)
     accepted-answer a (wants k) e = let c : _≡_ {A = ℕ} 0 2 = ap (λ (w : Values). w .kind) e in absurd (omega arith)
 
-    refused-answer : (f : Refusal) (x : Answer Acceptable) → refusedValues (f .number) (f .index) ≡ answerValues x
+    refused-answer : (f : Refusal) (x : Answer Acceptable) → refusedValues f ≡ answerValues x
         → answerText x p ≡ refusedText (f .number) (f .index)
     refused-answer f (decided (accept y)) e = let c : _≡_ {A = ℕ} 1 0 = ap (λ (w : Values). w .kind) e in absurd (omega arith)
     refused-answer f (decided (refuse q)) e = rw (ap (λ (w : Values). w .number) e, ap (λ (w : Values). w .index) e)

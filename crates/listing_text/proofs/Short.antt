@@ -29,7 +29,8 @@ use Rattle.text.specs.Decimal.{decimal}
 use Rattle.text.proofs.Decimal.{decimal-short}
 use Rattle.listing_text.specs.Listing.{line, too-long, pathText, acceptedText, refusedText, answerText}
 use Rattle.listing_text.specs.Listing.{fileLimit, listing, room}
-use Rattle.listing_text.proofs.Bounds.{Bytes, SmallRefusal, SmallFields, Each, low-counts, small-answer}
+use Rattle.incremental.proofs.Each.{Each}
+use Rattle.listing_text.proofs.Bounds.{Bytes, SmallRefusal, SmallFields, low-counts, small-answer}
 
 two-digits : (n : ℕ) → n < 100 → length (decimal n) ≤ 2
 two-digits n l = decimal-short 1 n l
@@ -73,7 +74,7 @@ module _ (p : List ℕ) (h : Bytes p) where
   unfolding refusedText
   refused-short r s = simp length-append (omega (arith, two-digits (r .number) (s .number), ten-digits (r .index) (s .index)))
 
-  answer-short : (b : Bool) (x : Answer Acceptable) → Each (λ y. SmallFields (y .fields)) x → length (pick b (line too-long) (answerText x p)) ≤ room
+  answer-short : (b : Bool) (x : Answer Acceptable) → Each (λ y. SmallFields (y .fields)) SmallRefusal x → length (pick b (line too-long) (answerText x p)) ≤ room
   answer-short true x k = omega arith
   answer-short false (decided (accept y)) k = accepted-short (y .fields) (k .accepts y refl)
   answer-short false (decided (refuse r)) k = refused-short r (k .refuses r refl)

@@ -8,6 +8,7 @@ use lib.ListN.{length}
 use Rattle.lists.specs.First.{first}
 use Rattle.lists.specs.Count.{some}
 use Rattle.little_endian.specs.Number.{le, zeroUnit}
+use Rattle.layout.specs.Head.{entryOffset}
 use Rattle.layout.specs.Versions.{metricsEntry, nameOffsetAt, nameLengthAt}
 use Rattle.layout.specs.declared.Layout.{Layout}
 use Rattle.incremental.specs.Decision.{faultOf}
@@ -20,13 +21,17 @@ nameAt l metrics i = le 4 metrics (i * metricsEntry l + nameOffsetAt l)
 abbrev pub nameUnits : Layout → List ℕ → ℕ → ℕ
 nameUnits l metrics i = le 4 metrics (i * metricsEntry l + nameLengthAt l)
 
+-- where in the file the name-offset field of entry i of a metrics array stands: the field at fault of 9 and 10
+abbrev pub nameFieldAt : Layout → ℕ → ℕ → ℕ
+nameFieldAt l start i = entryOffset start (metricsEntry l) i + nameOffsetAt l
+
 -- a name at an offset of a strings section of that size: offset + 2 x length + 2 doesn't exceed it
 unfoldable pub fits : ℕ → ℕ → ℕ → Bool
 fits size at units = leb (at + 2 * units + 2) size
 
--- 9: the first of the entries whose name doesn't fit a strings section of that size
-unfoldable pub misfitFault : Layout → List ℕ → ℕ → ℕ → Fault
-misfitFault l metrics entries size = faultOf (first (λ i. not (fits size (nameAt l metrics i) (nameUnits l metrics i))) entries)
+-- 9: the first of the entries, in a metrics array from `start`, whose name doesn't fit a strings section of that size
+unfoldable pub misfitFault : Layout → ℕ → List ℕ → ℕ → ℕ → Fault
+misfitFault l start metrics entries size = faultOf (nameFieldAt l start) (first (λ i. not (fits size (nameAt l metrics i) (nameUnits l metrics i))) entries)
 
 -- a name that fits has no zero unit among its units, and a zero unit directly after them
 unfoldable pub sound : List ℕ → ℕ → ℕ → Bool
@@ -34,8 +39,8 @@ sound strings at units =
     fits (length strings) at units && (not (some (λ k. zeroUnit strings (at + 2 * k)) units) && zeroUnit strings (at + 2 * units))
 
 -- 10: the first of the entries whose name isn't sound
-unfoldable pub unsoundFault : Layout → List ℕ → ℕ → List ℕ → Fault
-unsoundFault l metrics entries strings = faultOf (first (λ i. not (sound strings (nameAt l metrics i) (nameUnits l metrics i))) entries)
+unfoldable pub unsoundFault : Layout → ℕ → List ℕ → ℕ → List ℕ → Fault
+unsoundFault l start metrics entries strings = faultOf (nameFieldAt l start) (first (λ i. not (sound strings (nameAt l metrics i) (nameUnits l metrics i))) entries)
 
 -- the same in plain words: what a sound name is
 pub record SoundName (strings : List ℕ) (at units : ℕ) : Type 0 where

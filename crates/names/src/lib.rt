@@ -3,7 +3,7 @@ ghost use mathlib.Core.Path.{_≡_};
 ghost use Prim.Native.Nat.{_+_, _*_, _≤_};
 ghost use lib.ListN.{length};
 ghost use Rattle.little_endian.specs.Number.{le, zeroUnit};
-ghost use Rattle.names.specs.Names.{fits, sound, nameAt, nameUnits, misfitFault, unsoundFault};
+ghost use Rattle.names.specs.Names.{fits, sound, nameAt, nameUnits, nameFieldAt, misfitFault, unsoundFault};
 ghost use Rattle.names.specs.Private.{zeroIn, soundText};
 use incremental::Fault;
 use layout::Layout;
@@ -98,16 +98,23 @@ pub fn name_units(metrics: &[u8], l: Layout, i: u32) -> u32
     entry_field(metrics, l.metrics_entry, l.name_length_at, i)
 }
 
-// Check 9: the first entry whose name does not fit a strings section of that size.
-pub fn misfit_fault(metrics: &[u8], l: Layout, entries: u32, size: usize) -> Fault
-    ensures { λ r. ⌜ r ≡ misfitFault l (now (metrics .entry)) entries size ⌝ }
+// Where in the file the name-offset field of entry i stands, in a metrics array that starts at `start`.
+fn name_field_at(l: Layout, start: u32, i: u32) -> usize
+    ensures { λ r. ⌜ r ≡ nameFieldAt l start i ⌝ }
+{
+    layout::entry_offset(start, l.metrics_entry, i) + l.name_offset_at as usize
+}
+
+// Check 9: the first entry whose name does not fit a strings section of that size. The metrics start at `start` in the file.
+pub fn misfit_fault(metrics: &[u8], l: Layout, start: u32, entries: u32, size: usize) -> Fault
+    ensures { λ r. ⌜ r ≡ misfitFault l start (now (metrics .entry)) entries size ⌝ }
 {
     let mut i = 0;
     while i < entries {
         let at = name_at(metrics, l, i);
         let units = name_units(metrics, l, i);
         if !name_fits(size, at, units) {
-            return Fault::At(i as usize);
+            return Fault::At(i as usize, name_field_at(l, start, i));
         }
         i += 1;
     }
@@ -115,15 +122,15 @@ pub fn misfit_fault(metrics: &[u8], l: Layout, entries: u32, size: usize) -> Fau
 }
 
 // Check 10: the first entry whose name is not sound.
-pub fn unsound_fault(metrics: &[u8], l: Layout, entries: u32, strings: &[u8]) -> Fault
-    ensures { λ r. ⌜ r ≡ unsoundFault l (now (metrics .entry)) entries (now (strings .entry)) ⌝ }
+pub fn unsound_fault(metrics: &[u8], l: Layout, start: u32, entries: u32, strings: &[u8]) -> Fault
+    ensures { λ r. ⌜ r ≡ unsoundFault l start (now (metrics .entry)) entries (now (strings .entry)) ⌝ }
 {
     let mut i = 0;
     while i < entries {
         let at = name_at(metrics, l, i);
         let units = name_units(metrics, l, i);
         if !name_sound(strings, at, units) {
-            return Fault::At(i as usize);
+            return Fault::At(i as usize, name_field_at(l, start, i));
         }
         i += 1;
     }

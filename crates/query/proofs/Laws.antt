@@ -253,8 +253,8 @@ name-low o p metrics i {strings} {w = w} f es e q =
     omega (arith, r .0, f .strings, f .start .most)
 
 -- ---- volume i, by the tests in their order
-pub section-crowded : (s : Section) (v : Layout) (b : List ℕ) (i : ℕ) {x : Fault} {k : ℕ} → x ≡ entriesFault (s .count) (volumeEntry v) (s .len)
-    → x ≡ fault.At k → false ≡ sectionShown s v b i
+pub section-crowded : (s : Section) (v : Layout) (b : List ℕ) (i : ℕ) {x : Fault} {k at : ℕ} → x ≡ entriesFault (s .count) (volumeEntry v) (s .len)
+    → x ≡ fault.At k at → false ≡ sectionShown s v b i
 unfolding sectionShown
 section-crowded s v b i e h = rw (← e, h)
 
@@ -269,13 +269,13 @@ unfolding sectionShown
 section-cut s v b i e h n c = rw (← e, h, lt-ltb _ _ n, lt-leb _ _ c)
 
 pub section-refused : (s : Section) (v : Layout) (b : List ℕ) (i : ℕ) {r : Checked} {x : Refusal} {y : Fault}
-    → y ≡ entriesFault (s .count) (volumeEntry v) (s .len) → y ≡ fault.Nowhere → i < s .count → s .len ≤ length b → checkedOf r ≡ volumeChecks b v i
+    → y ≡ entriesFault (s .count) (volumeEntry v) (s .len) → y ≡ fault.Nowhere → i < s .count → s .len ≤ length b → checkedOf r ≡ volumeChecks b v (s .at) i
     → r ≡ checked.Refused x → false ≡ sectionShown s v b i
 unfolding sectionShown
 section-refused s v b i e h n c a q = rw (← e, h, lt-ltb _ _ n, le-leb _ _ c, ← a, q)
 
 pub section-passed : (s : Section) (v : Layout) (b : List ℕ) (i : ℕ) {r : Checked} {y : Fault}
-    → y ≡ entriesFault (s .count) (volumeEntry v) (s .len) → y ≡ fault.Nowhere → i < s .count → s .len ≤ length b → checkedOf r ≡ volumeChecks b v i
+    → y ≡ entriesFault (s .count) (volumeEntry v) (s .len) → y ≡ fault.Nowhere → i < s .count → s .len ≤ length b → checkedOf r ≡ volumeChecks b v (s .at) i
     → r ≡ checked.Passed → true ≡ sectionShown s v b i
 unfolding sectionShown
 section-passed s v b i e h n c a q = rw (← e, h, lt-ltb _ _ n, le-leb _ _ c, ← a, q)
@@ -290,7 +290,7 @@ pub record SectionShown (s : Section) (v : Layout) (b : List ℕ) (i : ℕ) : Ty
   pub sound : SoundVolume b (entryAt v i)
 
 clear-true : (f : Fault) → clear f ≡ true → f ≡ fault.Nowhere
-clear-true (fault.At i) e = absurd (true-false (sym e))
+clear-true (fault.At i at) e = absurd (true-false (sym e))
 clear-true fault.Nowhere e = refl
 
 accepted : (d : Decision Unit) → accepts d ≡ true → d ≡ accept tt
@@ -310,7 +310,7 @@ section-shown-law s v b i = (there, back)
           room = entries-met _ _ _ _ refl (clear-true _ (x .0));
           below = ltb-true _ _ (y .0);
           whole = leb-true _ _ (z .0);
-          sound = sound-volume b i (entryAt v i) .0 (accepted _ (z .1));
+          sound = sound-volume b i _ (entryAt v i) .0 (accepted _ (z .1));
         }
 
     back : SectionShown s v b i → sectionShown s v b i ≡ true
@@ -319,7 +319,7 @@ section-shown-law s v b i = (there, back)
           ← entries-fit (s .count) (volumeEntry v) (s .len) (f .room),
           lt-ltb _ _ (f .below),
           le-leb _ _ (f .whole),
-          sound-volume b i (entryAt v i) .1 (f .sound),
+          sound-volume b i _ (entryAt v i) .1 (f .sound),
         )
 
 pub section-met : (s : Section) (v : Layout) (b : List ℕ) (i : ℕ) {r : Bool} → r ≡ sectionShown s v b i → not r ≡ false → SectionShown s v b i

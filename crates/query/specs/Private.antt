@@ -47,4 +47,4 @@ nameShown v metrics strings i = pick (nameSound v metrics strings i) (placeAnswe
 -- ---- volume i on the bytes of its section
 unfoldable pub sectionShown : Section → Layout → List ℕ → ℕ → Bool
 sectionShown s v b i =
-    clear (entriesFault (s .count) (volumeEntry v) (s .len)) && (ltb i (s .count) && (leb (s .len) (length b) && accepts (volumeChecks b v i)))
+    clear (entriesFault (s .count) (volumeEntry v) (s .len)) && (ltb i (s .count) && (leb (s .len) (length b) && accepts (volumeChecks b v (s .at) i)))

@@ -97,7 +97,7 @@ entryPlace p i =
 -- ---- volume i
 -- no fault
 abbrev pub clear : Fault → Bool
-clear (At i) = false
+clear (At i at) = false
 clear Nowhere = true
 
 abbrev pub accepts : Decision Unit → Bool
@@ -110,7 +110,7 @@ volumeShown o p i =
     clear (entriesFault (o .head .volumes .count) (volumeEntry (o .layout)) (o .head .volumes .len))
     && (ltb i (o .head .volumes .count)
     && (leb (o .head .volumes .len) (length (part (o .head .volumes) p))
-    && accepts (volumeChecks (part (o .head .volumes) p) (o .layout) i)))
+    && accepts (volumeChecks (part (o .head .volumes) p) (o .layout) (o .head .volumes .at) i)))
 
 -- creation time, serial number, the counts of references and directories, and the path as a place of the file
 unfoldable pub volumeFacts : Opening → List ℕ → ℕ → VolumeFacts

@@ -126,7 +126,7 @@ fn entry_in(file: &[u8], o: Opening, i: usize) -> PlaceAnswer
     let strings = sections::part_of(file, text);
     match name_shown(metrics, strings, l, i as u32) {
         PlaceAnswer::Shown(w) => PlaceAnswer::Shown(Place {
-            at: text.at + w.at,
+            at: text.at as usize + w.at,
             len: w.len,
         }),
         PlaceAnswer::NotShown => PlaceAnswer::NotShown,
@@ -155,7 +155,7 @@ pub fn entry_name(file: &[u8], i: usize) -> &[u8]
 fn section_shown(s: Section, l: Layout, section: &[u8], i: usize) -> bool
     ensures { λ r. ⌜ r ≡ sectionShown s l (now (section .entry)) i ⌝ }
 {
-    if let Fault::At(_) = sections::entries_fault(s.count, l.volume_entry, s.len) {
+    if let Fault::At(_, _) = sections::entries_fault(s.count, l.volume_entry, s.len) {
         return false;
     }
     if s.count as usize <= i {
@@ -164,7 +164,7 @@ fn section_shown(s: Section, l: Layout, section: &[u8], i: usize) -> bool
     if section.len() < s.len {
         return false;
     }
-    match volumes::check_volume(section, l, i as u32) {
+    match volumes::check_volume(section, l, s.at, i as u32) {
         Checked::Passed => true,
         Checked::Refused(_) => false,
     }
@@ -189,7 +189,7 @@ fn volume_in(file: &[u8], o: Opening, i: usize) -> VolumeAnswer
         references: v.references,
         directories: v.directories,
         path: Place {
-            at: s.at + v.path,
+            at: s.at as usize + v.path,
             len: 2 * v.units,
         },
     })

@@ -47,7 +47,7 @@ use Rattle.volumes.specs.SoundVolume.{SoundVolume}
 use Rattle.volumes.proofs.SoundVolume.{volumes-sound}
 use Rattle.reader.specs.declared.verdict.Acceptance.{Acceptance}
 use Rattle.reader.specs.Verdict.{Acceptable}
-use Rattle.reader.specs.Checks.{nextsIn, recordOf, volumesRequired, namesRequired, readPlan, prefixAnswer, sizeOf, sized, whole}
+use Rattle.reader.specs.Checks.{nextsIn, linkAt, recordOf, volumesRequired, namesRequired, readPlan, prefixAnswer, sizeOf, sized, whole}
 use Rattle.reader.specs.Private.{fitsPlan, textsPlan, tracePlan, volumesPlan, EntriesFit, tablesPlan, restPlan}
 use Rattle.reader.proofs.Opens.{read-opens}
 use Rattle.reader.proofs.Stages.{answer-then}
@@ -141,9 +141,9 @@ pub record Free (s : List ℕ) (n : ℕ) : Type 0 where
   pub acyclic : (i : ℕ) → i < n → Cyclic s i → ⊥
 
 module _ (s : List ℕ) (n : ℕ) (size : length s ≡ n) (small : n ≤ end) where
-  pub free : (c : ℕ) → linkChecks s ≡ accept c → Free s n
-  free c e =
-      let a = accepted s c e in
+  pub free : (at : ℕ → ℕ) (c : ℕ) → linkChecks at s ≡ accept c → Free s n
+  free at c e =
+      let a = accepted at s c e in
       record {
         links = λ i l. rw size at (a .sound i (omega arith));
         unshared = λ i k j li lk lj x y. a .distinct i k (omega arith) (omega arith) (x ∙ sym y) (λ z. omega arith);
@@ -160,24 +160,24 @@ module _ (s : List ℕ) (n : ℕ) (size : length s ≡ n) (small : n ≤ end) wh
   not-cyclic f i l true q = absurd (f .acyclic i (omega arith) (cycle-law s i l (omega arith) .0 q))
   not-cyclic f i l false q = refl
 
-  pub free-clear : Free s n → (astrayFault s ≡ Nowhere) × (sharedFault s ≡ Nowhere) × (cyclicFault s ≡ Nowhere)
-  free-clear f = (
-    ap faultOf (first-is-nothing (astray s) (length s) (λ i l. ⊎-elim (astray-end s i) (λ h. astray-below s i (omega arith)) (f .links i (omega arith)))),
-    ap faultOf (first-is-nothing (shared s) (length s) (λ j l. le-ltb 1 _ (named-once f j l))),
-    ap faultOf (first-is-nothing (cyclic s) (length s) (λ i l. not-cyclic f i l (cyclic s i) refl)),
+  pub free-clear : (at : ℕ → ℕ) → Free s n → (astrayFault at s ≡ Nowhere) × (sharedFault at s ≡ Nowhere) × (cyclicFault at s ≡ Nowhere)
+  free-clear at f = (
+    ap (faultOf at) (first-is-nothing (astray s) (length s) (λ i l. ⊎-elim (astray-end s i) (λ h. astray-below s i (omega arith)) (f .links i (omega arith)))),
+    ap (faultOf at) (first-is-nothing (shared s) (length s) (λ j l. le-ltb 1 _ (named-once f j l))),
+    ap (faultOf at) (first-is-nothing (cyclic s) (length s) (λ i l. not-cyclic f i l (cyclic s i) refl)),
   )
 
 -- ---- a section's bytes up to a required length are the file's
 module _ (p : List ℕ) (o : Opening) (f : OpenFacts p o) where
   -- the faults that checks 9, 10, 14 and 15 find in the whole bytes
   abbrev misfitIn : List ℕ → Fault
-  misfitIn b = misfitFault (o .layout) (part (o .head .metrics) b) (o .head .metrics .count) (o .head .strings .len)
+  misfitIn b = misfitFault (o .layout) (o .head .metrics .at) (part (o .head .metrics) b) (o .head .metrics .count) (o .head .strings .len)
 
   abbrev unsoundIn : List ℕ → Fault
-  unsoundIn b = unsoundFault (o .layout) (part (o .head .metrics) b) (o .head .metrics .count) (part (o .head .strings) b)
+  unsoundIn b = unsoundFault (o .layout) (o .head .metrics .at) (part (o .head .metrics) b) (o .head .metrics .count) (part (o .head .strings) b)
 
   abbrev volumesIn : List ℕ → Decision Unit
-  volumesIn b = volumesFrom (part (o .head .volumes) b) (o .layout) (o .head .volumes .count) 0
+  volumesIn b = volumesFrom (part (o .head .volumes) b) (o .layout) (o .head .volumes .at) (o .head .volumes .count) 0
 
   metrics-take : (k : ℕ) → o .head .metrics .end ≤ k → part (o .head .metrics) (take k p) ≡ part (o .head .metrics) p
   metrics-take k l = part-take (o .head .metrics) (headEnd (o .layout)) k p (open-shapes p o f .metrics-end) l
@@ -239,9 +239,10 @@ pub record RestFacts (m : ℕ) (p : List ℕ) (o : Opening) (x : Acceptable) : T
   pub table : x .table ≡ predecessors (nextsIn o p) m
 
 -- the faults of checks 11 to 13 and their decision
-links-pass : (s : List ℕ) → astrayFault s ≡ Nowhere → sharedFault s ≡ Nowhere → cyclicFault s ≡ Nowhere → linkChecks s ≡ accept (chains s)
+links-pass : (at : ℕ → ℕ) (s : List ℕ) → astrayFault at s ≡ Nowhere → sharedFault at s ≡ Nowhere → cyclicFault at s ≡ Nowhere
+    → linkChecks at s ≡ accept (chains s)
 unfolding linkChecks
-links-pass s a b c = rw (a, b, c)
+links-pass at s a b c = rw (a, b, c)
 
 -- what a decision in a plan accepts
 decision : {A : Type 0} (d : Decision A) (a : A) (p : List ℕ) → run (decide d) p ≡ decided (accept a) → d ≡ accept a
@@ -252,7 +253,7 @@ module _ (m : ℕ) (p : List ℕ) (o : Opening) (f : OpenFacts p o) where
   names-found : unsoundIn p o f p ≡ Nowhere → (i : ℕ) → i < o .head .metrics .count
       → SoundName (part (o .head .strings) p) (nameAt (o .layout) (part (o .head .metrics) p) i) (nameUnits (o .layout) (part (o .head .metrics) p) i)
   unfolding unsoundFault
-  names-found e i l = sound-name _ _ _ .0 (not-false _ (first-nothing _ (o .head .metrics .count) (fault-nothing _ e) i l))
+  names-found e i l = sound-name _ _ _ .0 (not-false _ (first-nothing _ (o .head .metrics .count) (fault-nothing _ _ e) i l))
 
   texts-hold : Holds (λ _. unsoundIn p o f p ≡ Nowhere) (run (textsPlan o) p)
   unfolding textsPlan
@@ -260,16 +261,16 @@ module _ (m : ℕ) (p : List ℕ) (o : Opening) (f : OpenFacts p o) where
       let k = namesRequired (o .layout) (o .head) in
       holds-reach k _ p _ λ _. holds-check _ 10 (unsoundIn p o f (take k p)) _ p λ e. holds-accept _ tt p (sym (unsound-take p o f) ∙ e)
 
-  trace-hold : Holds (λ t. (t ≡ nextsIn o p) × (linkChecks (nextsIn o p) ≡ accept (chains (nextsIn o p)))) (run (tracePlan o) p)
+  trace-hold : Holds (λ t. (t ≡ nextsIn o p) × (linkChecks (linkAt o) (nextsIn o p) ≡ accept (chains (nextsIn o p)))) (run (tracePlan o) p)
   unfolding tracePlan
   trace-hold =
       let s = nextsIn o (take (o .head .trace .end) p) in
       let same : s ≡ nextsIn o p = rw (trace-take p o f) in
       holds-reach (o .head .trace .end) _ p _ λ _.
-      holds-check _ 11 (astrayFault s) _ p λ a.
-      holds-check _ 12 (sharedFault s) _ p λ b.
-      holds-check _ 13 (cyclicFault s) _ p λ c.
-      holds-accept _ s p (same, rw same at (links-pass s a b c))
+      holds-check _ 11 (astrayFault (linkAt o) s) _ p λ a.
+      holds-check _ 12 (sharedFault (linkAt o) s) _ p λ b.
+      holds-check _ 13 (cyclicFault (linkAt o) s) _ p λ c.
+      holds-accept _ s p (same, rw same at (links-pass (linkAt o) s a b c))
 
   volumes-hold : Holds (λ _. volumesIn p o f p ≡ accept tt) (run (volumesPlan o) p)
   unfolding volumesPlan
@@ -295,7 +296,7 @@ module _ (m : ℕ) (p : List ℕ) (o : Opening) (f : OpenFacts p o) where
           → o .head .trace .count ≤ m
           → EntriesFit o
           → unsoundIn p o f p ≡ Nowhere
-          → (t ≡ nextsIn o p) × (linkChecks (nextsIn o p) ≡ accept (chains (nextsIn o p)))
+          → (t ≡ nextsIn o p) × (linkChecks (linkAt o) (nextsIn o p) ≡ accept (chains (nextsIn o p)))
           → volumesIn p o f p ≡ accept tt
           → RestFacts m p o (record { fields = recordOf o (take (headEnd (o .layout)) p) (chains t); table = predecessors t m })
       accepts t places entries names links volumes =
@@ -304,8 +305,8 @@ module _ (m : ℕ) (p : List ℕ) (o : Opening) (f : OpenFacts p o) where
             places = places;
             entries = entries;
             names = names-found names;
-            free = free s _ (length-nexts _ _ _) (trace-few p o f) (chains s) (links .1);
-            volumes = volumes-sound _ _ _ .0 volumes;
+            free = free s _ (length-nexts _ _ _) (trace-few p o f) (linkAt o) (chains s) (links .1);
+            volumes = volumes-sound _ _ _ _ .0 volumes;
             fields = record-take o p (chains t) (open-sound p o f) ∙ ap (λ (x : List ℕ). recordOf o p (chains x)) (links .0);
             table = ap (λ (x : List ℕ). predecessors x m) (links .0);
           }
@@ -316,11 +317,11 @@ module _ (m : ℕ) (p : List ℕ) (o : Opening) (f : OpenFacts p o) where
     unfolding misfitFault
     none-misfit =
         let e = part-length (o .head .strings) (headEnd (o .layout)) p (open-shapes p o f .strings-end) (le-trans (f .strings) d) in
-        ap faultOf (first-is-nothing _ (o .head .metrics .count) (λ i l. ap not (le-fits _ _ _ (omega (arith, r .names i l .inside, e)))))
+        ap (faultOf _) (first-is-nothing _ (o .head .metrics .count) (λ i l. ap not (le-fits _ _ _ (omega (arith, r .names i l .inside, e)))))
 
     none-unsound : unsoundIn p o f p ≡ Nowhere
     unfolding unsoundFault
-    none-unsound = ap faultOf (first-is-nothing _ (o .head .metrics .count) (λ i l. ap not (sound-name _ _ _ .1 (r .names i l))))
+    none-unsound = ap (faultOf _) (first-is-nothing _ (o .head .metrics .count) (λ i l. ap not (sound-name _ _ _ .1 (r .names i l))))
 
     fits-complete : run (fitsPlan o) p ≡ decided (accept tt)
     unfolding fitsPlan run
@@ -336,7 +337,7 @@ module _ (m : ℕ) (p : List ℕ) (o : Opening) (f : OpenFacts p o) where
     trace-complete : run (tracePlan o) p ≡ decided (accept (nextsIn o p))
     unfolding tracePlan run
     trace-complete =
-        let c = free-clear (nextsIn o p) _ (length-nexts _ _ _) (trace-few p o f) (r .free) in
+        let c = free-clear (nextsIn o p) _ (length-nexts _ _ _) (trace-few p o f) (linkAt o) (r .free) in
         reach-here (o .head .trace .end) _ p (le-trans (f .trace) d)
         ∙ rw (trace-take p o f) (check-passed 11 _ _ p (c .0) ∙ check-passed 12 _ _ p (c .1) ∙ check-passed 13 _ _ p (c .2))
 
@@ -344,7 +345,7 @@ module _ (m : ℕ) (p : List ℕ) (o : Opening) (f : OpenFacts p o) where
     unfolding volumesPlan run andThen
     volumes-complete =
         reach-here (volumesRequired (o .layout) (o .head)) _ p (le-trans (volumes-required-low p o f) d)
-        ∙ rw (volumes-take p o f ∙ volumes-sound (part (o .head .volumes) p) (o .layout) (o .head .volumes .count) .1 (r .volumes))
+        ∙ rw (volumes-take p o f ∙ volumes-sound (part (o .head .volumes) p) (o .layout) (o .head .volumes .at) (o .head .volumes .count) .1 (r .volumes))
 
     tables-complete : run (tablesPlan m o (take (headEnd (o .layout)) p)) p ≡ decided (accept x)
     unfolding tablesPlan run

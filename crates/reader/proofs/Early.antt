@@ -28,7 +28,7 @@ use Rattle.reader.specs.declared.verdict.Verdict.{Verdict}
 use Rattle.reader.specs.declared.verdict.Verdict.the-variants.{Accepted, Refused, Wanted}
 use Rattle.reader.specs.Verdict.{Acceptable, Reads, valuesOf, answerValues, wantedValues, bufferAfter}
 use Rattle.reader.proofs.Values.{same-values, wanted-answer}
-use Rattle.reader.specs.Checks.{nextsIn, volumesRequired, namesRequired, readPlan, prefixAnswer, ReadsPrefix}
+use Rattle.reader.specs.Checks.{nextsIn, linkAt, volumesRequired, namesRequired, readPlan, prefixAnswer, ReadsPrefix}
 use Rattle.reader.specs.Private.{fitsPlan, textsPlan, tracePlan, volumesPlan, tablesPlan, restPlan}
 use Rattle.reader.proofs.Opens.{read-opens}
 use Rattle.reader.specs.Early.{EarlyStands}
@@ -55,14 +55,14 @@ module _ (p : List ℕ) (o : Opening) (f : OpenFacts p o) (d : declaredSize p �
   decided-fits =
       let b = take (o .head .metrics .end) p in
       decided-reach (o .head .metrics .end) _ p (le-trans (f .metrics) d)
-      (decided-check 9 (misfitFault (o .layout) (part (o .head .metrics) b) (o .head .metrics .count) (o .head .strings .len)) _ p λ _. decided-decide _ p)
+      (decided-check 9 (misfitFault (o .layout) (o .head .metrics .at) (part (o .head .metrics) b) (o .head .metrics .count) (o .head .strings .len)) _ p λ _. decided-decide _ p)
 
   decided-texts : Decided (run (textsPlan o) p)
   unfolding textsPlan
   decided-texts =
       let k = namesRequired (o .layout) (o .head) in
       decided-reach k _ p (le-trans (names-required-low p o f) d)
-      (decided-check 10 (unsoundFault (o .layout) (part (o .head .metrics) (take k p)) (o .head .metrics .count) (part (o .head .strings) (take k p))) _ p
+      (decided-check 10 (unsoundFault (o .layout) (o .head .metrics .at) (part (o .head .metrics) (take k p)) (o .head .metrics .count) (part (o .head .strings) (take k p))) _ p
       λ _. decided-decide _ p)
 
   decided-trace : Decided (run (tracePlan o) p)
@@ -70,9 +70,9 @@ module _ (p : List ℕ) (o : Opening) (f : OpenFacts p o) (d : declaredSize p �
   decided-trace =
       let s = nextsIn o (take (o .head .trace .end) p) in
       decided-reach (o .head .trace .end) _ p (le-trans (f .trace) d)
-      (decided-check 11 (astrayFault s) _ p λ _.
-      decided-check 12 (sharedFault s) _ p λ _.
-      decided-check 13 (cyclicFault s) _ p λ _.
+      (decided-check 11 (astrayFault (linkAt o) s) _ p λ _.
+      decided-check 12 (sharedFault (linkAt o) s) _ p λ _.
+      decided-check 13 (cyclicFault (linkAt o) s) _ p λ _.
       decided-decide _ p)
 
   decided-volumes : Decided (run (volumesPlan o) p)
@@ -80,7 +80,7 @@ module _ (p : List ℕ) (o : Opening) (f : OpenFacts p o) (d : declaredSize p �
   decided-volumes =
       let k = volumesRequired (o .layout) (o .head) in
       decided-reach k _ p (le-trans (volumes-required-low p o f) d)
-      (decided-then (decide (volumesFrom (part (o .head .volumes) (take k p)) (o .layout) (o .head .volumes .count) 0)) _ p
+      (decided-then (decide (volumesFrom (part (o .head .volumes) (take k p)) (o .layout) (o .head .volumes .at) (o .head .volumes .count) 0)) _ p
       (decided-decide _ p) λ _ _. decided-decide _ p)
 
   decided-rest : (m : ℕ) → Decided (run (restPlan m o) p)

@@ -20,7 +20,7 @@ use Rattle.head.specs.Private.{sectionPlan}
 use Rattle.head.specs.declared.checks.Start.{Start}
 use Rattle.head.specs.declared.checks.Opening.{Opening}
 use Rattle.reader.specs.Verdict.{Acceptable}
-use Rattle.reader.specs.Checks.{namesRequired, volumesRequired, nextsIn, recordOf, readPlan}
+use Rattle.reader.specs.Checks.{namesRequired, volumesRequired, nextsIn, linkAt, recordOf, readPlan}
 use Rattle.reader.specs.Private.{fitsPlan, textsPlan, tracePlan, volumesPlan, tablesPlan, restPlan}
 
 -- a line of a plan whose later lines are themselves bracketed
@@ -52,22 +52,22 @@ again k c d g p = go (leb k (length p)) refl
 in-line-9 : {B : Type 0} (o : Opening) (g : Unit → Plan B) (p : List ℕ)
     → run (fitsPlan o >>= g) p
     ≡ run (reach (o .head .metrics .end) >>= λ b.
-    check 9 (misfitFault (o .layout) (part (o .head .metrics) b) (o .head .metrics .count) (o .head .strings .len)) >> g tt) p
+    check 9 (misfitFault (o .layout) (o .head .metrics .at) (part (o .head .metrics) b) (o .head .metrics .count) (o .head .strings .len)) >> g tt) p
 unfolding fitsPlan
 in-line-9 o g p = line (reach (o .head .metrics .end)) _ g _ p (λ b. line (check 9 _) _ g _ p (λ _. last tt g p))
 
 in-line-10 : {B : Type 0} (o : Opening) (g : Unit → Plan B) (p : List ℕ)
     → run (textsPlan o >>= g) p
     ≡ run (reach (namesRequired (o .layout) (o .head)) >>= λ b.
-    check 10 (unsoundFault (o .layout) (part (o .head .metrics) b) (o .head .metrics .count) (part (o .head .strings) b)) >> g tt) p
+    check 10 (unsoundFault (o .layout) (o .head .metrics .at) (part (o .head .metrics) b) (o .head .metrics .count) (part (o .head .strings) b)) >> g tt) p
 unfolding textsPlan
 in-line-10 o g p = line (reach (namesRequired (o .layout) (o .head))) _ g _ p (λ b. line (check 10 _) _ g _ p (λ _. last tt g p))
 
 in-line-11 : {B : Type 0} (o : Opening) (g : List ℕ → Plan B) (p : List ℕ)
     → run (tracePlan o >>= g) p
     ≡ run (reach (o .head .trace .end) >>= λ b.
-    check 11 (astrayFault (nextsIn o b))
-    >> (check 12 (links.sharedFault (nextsIn o b)) >> (check 13 (cyclicFault (nextsIn o b)) >> g (nextsIn o b)))) p
+    check 11 (astrayFault (linkAt o) (nextsIn o b))
+    >> (check 12 (links.sharedFault (linkAt o) (nextsIn o b)) >> (check 13 (cyclicFault (linkAt o) (nextsIn o b)) >> g (nextsIn o b)))) p
 unfolding tracePlan
 in-line-11 o g p =
     line (reach (o .head .trace .end)) _ g _ p λ b.
@@ -79,7 +79,7 @@ in-line-11 o g p =
 in-line-14 : {B : Type 0} (o : Opening) (g : Unit → Plan B) (p : List ℕ)
     → run (volumesPlan o >>= g) p
     ≡ run (reach (volumesRequired (o .layout) (o .head)) >>= λ b.
-    decide (volumesFrom (part (o .head .volumes) b) (o .layout) (o .head .volumes .count) 0) >> g tt) p
+    decide (volumesFrom (part (o .head .volumes) b) (o .layout) (o .head .volumes .at) (o .head .volumes .count) 0) >> g tt) p
 unfolding volumesPlan
 in-line-14 o g p =
     line (reach (volumesRequired (o .layout) (o .head))) _ g _ p (λ b. line (decide _) _ g _ p (λ _. last tt g p))
@@ -89,16 +89,16 @@ in-line-14 o g p =
 abbrev fromNine : ℕ → Opening → List ℕ → Plan Acceptable
 fromNine m o top = do
   b ← reach (o .head .metrics .end)
-  check 9 (misfitFault (o .layout) (part (o .head .metrics) b) (o .head .metrics .count) (o .head .strings .len))
+  check 9 (misfitFault (o .layout) (o .head .metrics .at) (part (o .head .metrics) b) (o .head .metrics .count) (o .head .strings .len))
   b ← reach (namesRequired (o .layout) (o .head))
-  check 10 (unsoundFault (o .layout) (part (o .head .metrics) b) (o .head .metrics .count) (part (o .head .strings) b))
+  check 10 (unsoundFault (o .layout) (o .head .metrics .at) (part (o .head .metrics) b) (o .head .metrics .count) (part (o .head .strings) b))
   b ← reach (o .head .trace .end)
-  check 11 (astrayFault (nextsIn o b))
-  check 12 (links.sharedFault (nextsIn o b))
-  check 13 (cyclicFault (nextsIn o b))
+  check 11 (astrayFault (linkAt o) (nextsIn o b))
+  check 12 (links.sharedFault (linkAt o) (nextsIn o b))
+  check 13 (cyclicFault (linkAt o) (nextsIn o b))
   let s = nextsIn o b
   b ← reach (volumesRequired (o .layout) (o .head))
-  decide (volumesFrom (part (o .head .volumes) b) (o .layout) (o .head .volumes .count) 0)
+  decide (volumesFrom (part (o .head .volumes) b) (o .layout) (o .head .volumes .at) (o .head .volumes .count) 0)
   done (record { fields = recordOf o top (chains s); table = predecessors s m })
 
 tables-in-line : (m : ℕ) (o : Opening) (top p : List ℕ) → run (tablesPlan m o top) p ≡ run (fromNine m o top) p
@@ -150,13 +150,13 @@ start-in-line : (m : ℕ) (p : List ℕ) → run (startPlan >>= fromFive m) p �
 unfolding startPlan readPlan
 start-in-line m p =
     line (reach 4) _ (fromFive m) _ p λ _.
-    line (given 1 _) _ (fromFive m) _ p λ v.
+    line (given 1 _ _) _ (fromFive m) _ p λ v.
     line (reach 8) _ (fromFive m) _ p λ _.
     line (check 2 _) _ (fromFive m) _ p λ _.
     line (reach 16) _ (fromFive m) _ p λ _.
     line (check 3 _) _ (fromFive m) _ p λ _.
     line (reach 76) _ (fromFive m) _ p λ _.
-    line (given 4 _) _ (fromFive m) _ p λ n.
+    line (given 4 _ _) _ (fromFive m) _ p λ n.
     last _ (fromFive m) p
 
 pub read-opens : (m : ℕ) (p : List ℕ) → run (openPlan >>= restPlan m) p ≡ run (readPlan m) p

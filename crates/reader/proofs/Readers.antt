@@ -3,7 +3,8 @@ use mathlib.Core.Path.{_≡_, refl, sym, ap, _∙_}
 use mathlib.Core.List.{List}
 use Prim.Native.Nat.{ℕ, _≤_, _<_}
 use borrow.Author.Tests.{lt-ltb, le-ltb}
-use Rattle.incremental.specs.Decision.{accept, refuse}
+use Rattle.layout.specs.Head.{declaredSizeAt}
+use Rattle.incremental.specs.Decision.{accept, refuse, refusal}
 use Rattle.incremental.specs.Plan.{Answer, decided, wants}
 use Rattle.incremental.specs.declared.Refusal.{Refusal}
 use Rattle.trace.specs.Links.{filled}
@@ -33,6 +34,11 @@ pub reads-wanted : (answer : Answer Acceptable) (m : ℕ) (after last : List ℕ
 reads-wanted answer m after last v k e q f =
     let x : answer ≡ wants k = sym e ∙ ap (λ (y : Verdict). verdictOf y after) q in
     rw x (record { verdict = refl; buffer = f })
+
+-- 16 or 17, by the refusal that was made
+pub reads-wrong : (number m : ℕ) (x : Refusal) (after : List ℕ) → x ≡ refusal number 0 declaredSizeAt → after ≡ filled m
+    → Reads (wrongLength number) m (Refused x) after
+reads-wrong number m x after e f = rw e (record { verdict = refl; buffer = f })
 
 -- ---- the whole-file reader
 module _ (n m : ℕ) (answer : Answer Acceptable) (v : Verdict) (after : List ℕ) (r : Reads answer m v after) where

@@ -37,7 +37,7 @@ use Rattle.volumes.proofs.Laws.{volumes-room}
 use Rattle.reader.specs.declared.checks.TraceOutcome.the-variants as outcome
 use Rattle.reader.specs.declared.verdict.Acceptance.{Acceptance}
 use Rattle.reader.specs.Verdict.{Acceptable}
-use Rattle.reader.specs.Checks.{namesRequired, volumesRequired, nextsIn, recordOf}
+use Rattle.reader.specs.Checks.{namesRequired, volumesRequired, nextsIn, linkAt, recordOf}
 use Rattle.reader.specs.Private.{fitsPlan, textsPlan, tracePlan, TraceAnswer, volumesPlan, EntriesFit, tablesPlan, restPlan}
 
 -- ---- 9
@@ -47,13 +47,13 @@ module _ (o : Opening) (p : List ℕ) where
   fits-short h = reach-wants _ _ p h
 
   module _ (a : List ℕ) (h : o .head .metrics .end ≤ length p) (e : a ≡ part (o .head .metrics) (take (o .head .metrics .end) p)) (r : Fault)
-      (f : r ≡ misfitFault (o .layout) a (o .head .metrics .count) (o .head .strings .len)) where
-    misfit : r ≡ misfitFault (o .layout) (part (o .head .metrics) (take (o .head .metrics .end) p)) (o .head .metrics .count) (o .head .strings .len)
+      (f : r ≡ misfitFault (o .layout) (o .head .metrics .at) a (o .head .metrics .count) (o .head .strings .len)) where
+    misfit : r ≡ misfitFault (o .layout) (o .head .metrics .at) (part (o .head .metrics) (take (o .head .metrics .end) p)) (o .head .metrics .count) (o .head .strings .len)
     misfit = rw (← e) f
 
-    pub fits-refused : (i : ℕ) → r ≡ At i → decided (refuse (refusal 9 i)) ≡ run (fitsPlan o) p
+    pub fits-refused : (i at : ℕ) (x : Refusal) → r ≡ At i at → x ≡ refusal 9 i at → decided (refuse x) ≡ run (fitsPlan o) p
     unfolding fitsPlan
-    fits-refused i q = reach-on _ _ p _ h (check-refused 9 _ _ p i r misfit q)
+    fits-refused i at x q w = reach-on _ _ p _ h (check-refused 9 _ _ p i at r x misfit q w)
 
     pub fits-pass : r ≡ Nowhere → decided (accept tt) ≡ run (fitsPlan o) p
     unfolding fitsPlan
@@ -63,7 +63,7 @@ module _ (o : Opening) (p : List ℕ) where
 abbrev textsAt : ℕ → Opening → Plan Unit
 textsAt k o = do
   b ← reach k
-  check 10 (unsoundFault (o .layout) (part (o .head .metrics) b) (o .head .metrics .count) (part (o .head .strings) b))
+  check 10 (unsoundFault (o .layout) (o .head .metrics .at) (part (o .head .metrics) b) (o .head .metrics .count) (part (o .head .strings) b))
   done tt
 
 module _ (o : Opening) (p : List ℕ) (k : ℕ) (at : k ≡ namesRequired (o .layout) (o .head)) where
@@ -75,12 +75,12 @@ module _ (o : Opening) (p : List ℕ) (k : ℕ) (at : k ≡ namesRequired (o .la
   texts-short h = texts-are _ (reach-wants k _ p h)
 
   module _ (a b : List ℕ) (h : k ≤ length p) (e : a ≡ part (o .head .metrics) (take k p)) (g : b ≡ part (o .head .strings) (take k p)) (r : Fault)
-      (f : r ≡ unsoundFault (o .layout) a (o .head .metrics .count) b) where
-    unsound : r ≡ unsoundFault (o .layout) (part (o .head .metrics) (take k p)) (o .head .metrics .count) (part (o .head .strings) (take k p))
+      (f : r ≡ unsoundFault (o .layout) (o .head .metrics .at) a (o .head .metrics .count) b) where
+    unsound : r ≡ unsoundFault (o .layout) (o .head .metrics .at) (part (o .head .metrics) (take k p)) (o .head .metrics .count) (part (o .head .strings) (take k p))
     unsound = rw (← e, ← g) f
 
-    pub texts-refused : (i : ℕ) → r ≡ At i → decided (refuse (refusal 10 i)) ≡ run (textsPlan o) p
-    texts-refused i q = texts-are _ (reach-on k _ p _ h (check-refused 10 _ _ p i r unsound q))
+    pub texts-refused : (i at : ℕ) (x : Refusal) → r ≡ At i at → x ≡ refusal 10 i at → decided (refuse x) ≡ run (textsPlan o) p
+    texts-refused i at x q w = texts-are _ (reach-on k _ p _ h (check-refused 10 _ _ p i at r x unsound q w))
 
     pub texts-pass : r ≡ Nowhere → decided (accept tt) ≡ run (textsPlan o) p
     texts-pass q = texts-are _ (reach-on k _ p _ h (check-on 10 _ _ p r _ unsound q (decide-it _ _ p refl)))
@@ -96,16 +96,16 @@ decides a b c n = decision._>>_ (decision.check 11 a) (decision._>>_ (decision.c
 
 lines-refuse : (a b c : Fault) (n : ℕ) (s p : List ℕ) (f : Refusal) → decides a b c n ≡ refuse f → run (linesOf a b c s) p ≡ decided (refuse f)
 unfolding run andThen check
-lines-refuse (At i) b c n s p f e = let q : refusal 11 i ≡ f = cc in ap (λ (x : Refusal). decided (refuse x)) q
-lines-refuse Nowhere (At i) c n s p f e = let q : refusal 12 i ≡ f = cc in ap (λ (x : Refusal). decided (refuse x)) q
-lines-refuse Nowhere Nowhere (At i) n s p f e = let q : refusal 13 i ≡ f = cc in ap (λ (x : Refusal). decided (refuse x)) q
+lines-refuse (At i at) b c n s p f e = let q : refusal 11 i at ≡ f = cc in ap (λ (x : Refusal). decided (refuse x)) q
+lines-refuse Nowhere (At i at) c n s p f e = let q : refusal 12 i at ≡ f = cc in ap (λ (x : Refusal). decided (refuse x)) q
+lines-refuse Nowhere Nowhere (At i at) n s p f e = let q : refusal 13 i at ≡ f = cc in ap (λ (x : Refusal). decided (refuse x)) q
 lines-refuse Nowhere Nowhere Nowhere n s p f e = let z : _≡_ {A = ℕ} 0 1 = cc in absurd (omega arith)
 
 lines-accept : (a b c : Fault) (n k : ℕ) (s p : List ℕ) → decides a b c n ≡ accept k → (run (linesOf a b c s) p ≡ decided (accept s)) × (k ≡ n)
 unfolding run andThen check
-lines-accept (At i) b c n k s p e = let z : _≡_ {A = ℕ} 0 1 = cc in absurd (omega arith)
-lines-accept Nowhere (At i) c n k s p e = let z : _≡_ {A = ℕ} 0 1 = cc in absurd (omega arith)
-lines-accept Nowhere Nowhere (At i) n k s p e = let z : _≡_ {A = ℕ} 0 1 = cc in absurd (omega arith)
+lines-accept (At i at) b c n k s p e = let z : _≡_ {A = ℕ} 0 1 = cc in absurd (omega arith)
+lines-accept Nowhere (At i at) c n k s p e = let z : _≡_ {A = ℕ} 0 1 = cc in absurd (omega arith)
+lines-accept Nowhere Nowhere (At i at) n k s p e = let z : _≡_ {A = ℕ} 0 1 = cc in absurd (omega arith)
 lines-accept Nowhere Nowhere Nowhere n k s p e = (refl, cc)
 
 module _ (o : Opening) (p : List ℕ) (m : ℕ) where
@@ -119,14 +119,14 @@ module _ (o : Opening) (p : List ℕ) (m : ℕ) where
       }
 
   module _ (a : List ℕ) (h : o .head .trace .end ≤ length p) (e : a ≡ part (o .head .trace) (take (o .head .trace .end) p))
-      (room : o .head .trace .count ≤ m) (r : Links) (buffer : List ℕ) (w : LinkAnswer a (traceEntry (o .layout)) (o .head .trace .count) m r buffer) where
+      (room : o .head .trace .count ≤ m) (r : Links) (buffer : List ℕ) (w : LinkAnswer a (o .head .trace .at) (traceEntry (o .layout)) (o .head .trace .count) m r buffer) where
     abbrev s : List ℕ
     s = nexts a (traceEntry (o .layout)) (o .head .trace .count)
 
-    links-decide : linkChecks s ≡ linksOf r
-    links-decide = sym (w .answer ∙ trace-room s m (rw (length-nexts a (traceEntry (o .layout)) (o .head .trace .count)) room))
+    links-decide : linkChecks (linkAt o) s ≡ linksOf r
+    links-decide = sym (w .answer ∙ trace-room (linkAt o) s m (rw (length-nexts a (traceEntry (o .layout)) (o .head .trace .count)) room))
 
-    lines-run : run (tracePlan o) p ≡ run (linesOf (astrayFault s) (sharedFault s) (cyclicFault s) s) p
+    lines-run : run (tracePlan o) p ≡ run (linesOf (astrayFault (linkAt o) s) (sharedFault (linkAt o) s) (cyclicFault (linkAt o) s) s) p
     unfolding tracePlan
     lines-run = reach-here (o .head .trace .end) _ p h ∙ rw (← e)
 
@@ -144,7 +144,7 @@ module _ (o : Opening) (p : List ℕ) (m : ℕ) where
     pub trace-passed : (n : ℕ) → r ≡ links.Chains n → TraceAnswer (run (tracePlan o) p) m (outcome.Chains n) buffer
     unfolding linkChecks
     trace-passed n q =
-        let l = lines-accept (astrayFault s) (sharedFault s) (cyclicFault s) (chains s) n s p (links-decide ∙ ap linksOf q) in
+        let l = lines-accept (astrayFault (linkAt o) s) (sharedFault (linkAt o) s) (cyclicFault (linkAt o) s) (chains s) n s p (links-decide ∙ ap linksOf q) in
         let t : buffer ≡ predecessors s m = w .holds ∙ ap (λ (d : Decision ℕ). held d s m) (sym (w .answer) ∙ ap linksOf q) in
         record {
           passed = λ k z. let i : n ≡ k = cc in (s, lines-run ∙ l .0, sym i ∙ l .1, t);
@@ -156,7 +156,7 @@ module _ (o : Opening) (p : List ℕ) (m : ℕ) where
 abbrev volumesAt : ℕ → Opening → Plan Unit
 volumesAt k o = do
   b ← reach k
-  decide (volumesFrom (part (o .head .volumes) b) (o .layout) (o .head .volumes .count) 0)
+  decide (volumesFrom (part (o .head .volumes) b) (o .layout) (o .head .volumes .at) (o .head .volumes .count) 0)
   done tt
 
 -- the volumes section, as far as its required length, has all its bytes
@@ -180,13 +180,13 @@ module _ (o : Opening) (p : List ℕ) (k : ℕ) (at : k ≡ volumesRequired (o .
   volumes-short h = volumes-are _ (reach-wants k _ p h)
 
   module _ (f : OpenFacts p o) (room : EntriesFit o) (a : List ℕ) (h : k ≤ length p) (e : a ≡ part (o .head .volumes) (take k p)) (r : Checked)
-      (c : checkedOf r ≡ volumesChecks a (o .layout) (o .head .volumes .count)) where
-    volumes-decide : volumesFrom (part (o .head .volumes) (take k p)) (o .layout) (o .head .volumes .count) 0 ≡ checkedOf r
+      (c : checkedOf r ≡ volumesChecks a (o .layout) (o .head .volumes .at) (o .head .volumes .count)) where
+    volumes-decide : volumesFrom (part (o .head .volumes) (take k p)) (o .layout) (o .head .volumes .at) (o .head .volumes .count) 0 ≡ checkedOf r
     volumes-decide =
         let n = o .head .volumes .count in
         let b = part (o .head .volumes) (take k p) in
         let q : entriesFault n (volumeEntry (o .layout)) (length b) ≡ Nowhere = sym (entries-fit n _ _ (volumes-all p o k f at h room)) in
-        sym (volumes-room b (o .layout) n _ refl q) ∙ ap (λ (t : List ℕ). volumesChecks t (o .layout) n) (sym e) ∙ sym c
+        sym (volumes-room b (o .layout) _ n _ refl q) ∙ ap (λ (t : List ℕ). volumesChecks t (o .layout) (o .head .volumes .at) n) (sym e) ∙ sym c
 
     pub volumes-pass : r ≡ checked.Passed → decided (accept tt) ≡ run (volumesPlan o) p
     unfolding run andThen

@@ -83,14 +83,14 @@ module _ (m : ℕ) (o : Opening) (top p : List ℕ) (r : Outcome) (e : outcomeOf
 
 -- ---- 7 and 8
 module _ (m : ℕ) (o : Opening) (p : List ℕ) (w : headEnd (o .layout) ≤ length p) (r : Fault) (e : r ≡ placesFault m (o .head .trace .count)) where
-  pub refused-7 : (i : ℕ) → r ≡ At i → decided (refuse (refusal 7 i)) ≡ run (restPlan m o) p
+  pub refused-7 : (i at : ℕ) (x : Refusal) → r ≡ At i at → x ≡ refusal 7 i at → decided (refuse x) ≡ run (restPlan m o) p
   unfolding restPlan
-  refused-7 i q = reach-on _ _ p _ w (check-refused 7 _ _ p i r e q)
+  refused-7 i at x q z = reach-on _ _ p _ w (check-refused 7 _ _ p i at r x e q z)
 
   module _ (q7 : r ≡ Nowhere) (s : Fault) (g : s ≡ entriesFault (o .head .volumes .count) (volumeEntry (o .layout)) (o .head .volumes .len)) where
-    pub refused-8 : (i : ℕ) → s ≡ At i → decided (refuse (refusal 8 i)) ≡ run (restPlan m o) p
+    pub refused-8 : (i at : ℕ) (x : Refusal) → s ≡ At i at → x ≡ refusal 8 i at → decided (refuse x) ≡ run (restPlan m o) p
     unfolding restPlan
-    refused-8 i q = reach-on _ _ p _ w (check-on 7 _ _ p r _ e q7 (check-refused 8 _ _ p i s g q))
+    refused-8 i at x q z = reach-on _ _ p _ w (check-on 7 _ _ p r _ e q7 (check-refused 8 _ _ p i at s x g q z))
 
     pub tables-next : (x : Answer Acceptable) → s ≡ Nowhere → x ≡ run (tablesPlan m o (take (headEnd (o .layout)) p)) p → x ≡ run (restPlan m o) p
     unfolding restPlan

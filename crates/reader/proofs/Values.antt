@@ -18,12 +18,13 @@ accepted-answer (decided (refuse r)) a e = let z : _≡_ {A = ℕ} 0 1 = ap (λ 
 accepted-answer (wants k) a e = let z : _≡_ {A = ℕ} 0 2 = ap (λ (w : Values). w .kind) e in absurd (omega arith)
 
 -- and so is a refusal
-pub refused-answer : (y : Answer Acceptable) (r : Refusal) → refusedValues (r .number) (r .index) ≡ answerValues y → y ≡ decided (refuse r)
+pub refused-answer : (y : Answer Acceptable) (r : Refusal) → refusedValues r ≡ answerValues y → y ≡ decided (refuse r)
 refused-answer (decided (accept x)) r e = let z : _≡_ {A = ℕ} 1 0 = ap (λ (w : Values). w .kind) e in absurd (omega arith)
 refused-answer (decided (refuse s)) r e =
     let n : s .number ≡ r .number = sym (ap (λ (w : Values). w .number) e) in
     let i : s .index ≡ r .index = sym (ap (λ (w : Values). w .index) e) in
-    λ j. decided (refuse (record { number = n j; index = i j }))
+    let o : s .offset ≡ r .offset = sym (ap (λ (w : Values). w .offset) e) in
+    λ j. decided (refuse (record { number = n j; index = i j; offset = o j }))
 refused-answer (wants k) r e = let z : _≡_ {A = ℕ} 1 2 = ap (λ (w : Values). w .kind) e in absurd (omega arith)
 
 -- and a request
@@ -35,7 +36,7 @@ wanted-answer (wants j) k e = ap wants (sym (ap (λ (w : Values). w .wanted) e))
 -- the verdict that has these values
 abbrev verdictBy : ℕ → Values → Verdict
 verdictBy zero x = Accepted (x .fields)
-verdictBy (suc zero) x = Refused (record { number = x .number; index = x .index })
+verdictBy (suc zero) x = Refused (record { number = x .number; index = x .index; offset = x .offset })
 verdictBy (suc (suc k)) x = Wanted (x .wanted)
 
 values-back : (v : Verdict) → verdictBy (valuesOf v .kind) (valuesOf v) ≡ v

@@ -1,5 +1,5 @@
--- ALL FIFTEEN CHECKS of document 01's table, from 1 to 15: required length (document 01: reach), number, fault with its index. Then the
--- whole-file reader's 16 and 17, and the promises of both readers.
+-- ALL FIFTEEN CHECKS of document 01's table, from 1 to 15: required length (document 01: reach), number, fault with its index and file
+-- offset. Then the whole-file reader's 16 and 17, and the promises of both readers.
 use mathlib.Core.Bool.{Bool, true, false}
 use mathlib.Core.List.{List}
 use Prim.Native.Nat.{ℕ, max}
@@ -7,7 +7,7 @@ use lib.Dec.{eqb, ltb}
 use lib.ListN.{length}
 use Rattle.lists.specs.Count.{pick}
 use Rattle.little_endian.specs.Number.{le}
-use Rattle.layout.specs.Head.{versionAt}
+use Rattle.layout.specs.Head.{versionAt, declaredSizeAt, programNameAt, entryOffset}
 use Rattle.layout.specs.Versions.{versionOf, versionNumber, layoutOf, headEnd, runTimeAt, runCountAt, volumeEntry, traceEntry}
 use Rattle.layout.specs.declared.Version.{Version}
 use Rattle.layout.specs.declared.Layout.{Layout}
@@ -37,6 +37,10 @@ volumesRequired l h = pick (eqb (h .volumes .count) 0) (headEnd l) (h .volumes .
 abbrev pub nextsIn : Opening → List ℕ → List ℕ
 nextsIn o b = links.nexts (part (o .head .trace) b) (traceEntry (o .layout)) (o .head .trace .count)
 
+-- where in the file each trace entry starts
+abbrev pub linkAt : Opening → ℕ → ℕ
+linkAt o = entryOffset (o .head .trace .at) (traceEntry (o .layout))
+
 -- what checks 1 to 6 give: the version with its layout, the name's length and the sections
 abbrev pub opening : Version → ℕ → Head → Opening
 opening v n h = record { version = v; layout = layoutOf v; «name_units» = n; head = h }
@@ -61,14 +65,14 @@ recordOf o b chains =
 unfoldable pub readPlan : ℕ → Plan Acceptable
 readPlan m = do
   b ← reach 4
-  v ← given 1 (version (versionOf (le 4 b versionAt)))
+  v ← given 1 versionAt (version (versionOf (le 4 b versionAt)))
   let l = layoutOf v
   b ← reach 8
   check 2 (signatureFault b)
   b ← reach 16
   check 3 (sizeFault l b)
   b ← reach 76
-  n ← given 4 (units (nameEnd b))
+  n ← given 4 programNameAt (units (nameEnd b))
   top ← reach (headEnd l)
   let h = headOf l top
   let o = opening v n h
@@ -77,16 +81,16 @@ readPlan m = do
   check 7 (placesFault m (h .trace .count))
   check 8 (entriesFault (h .volumes .count) (volumeEntry l) (h .volumes .len))
   b ← reach (h .metrics .end)
-  check 9 (misfitFault l (part (h .metrics) b) (h .metrics .count) (h .strings .len))
+  check 9 (misfitFault l (h .metrics .at) (part (h .metrics) b) (h .metrics .count) (h .strings .len))
   b ← reach (namesRequired l h)
-  check 10 (unsoundFault l (part (h .metrics) b) (h .metrics .count) (part (h .strings) b))
+  check 10 (unsoundFault l (h .metrics .at) (part (h .metrics) b) (h .metrics .count) (part (h .strings) b))
   b ← reach (h .trace .end)
   let s = nextsIn o b
-  check 11 (links.astrayFault s)
-  check 12 (links.sharedFault s)
-  check 13 (links.cyclicFault s)
+  check 11 (links.astrayFault (linkAt o) s)
+  check 12 (links.sharedFault (linkAt o) s)
+  check 13 (links.cyclicFault (linkAt o) s)
   b ← reach (volumesRequired l h)
-  decide (volumesFrom (part (h .volumes) b) l (h .volumes .count) 0)
+  decide (volumesFrom (part (h .volumes) b) l (h .volumes .at) (h .volumes .count) 0)
   done (record { fields = recordOf o top (links.chains s); table = links.predecessors s m })
 
 -- what they answer on a prefix
@@ -95,8 +99,8 @@ prefixAnswer p m = run (readPlan m) p
 
 -- the whole-file reader: a request becomes 16, as does an acceptance of a file shorter than S; that of a longer one becomes 17
 abbrev pub sized : Bool → Bool → Acceptable → Decision Acceptable
-sized true longer x = refuse (refusal 16 0)
-sized false true x = refuse (refusal 17 0)
+sized true longer x = refuse (refusal 16 0 declaredSizeAt)
+sized false true x = refuse (refusal 17 0 declaredSizeAt)
 sized false false x = accept x
 
 -- S, as the record has it
@@ -106,7 +110,7 @@ sizeOf x = x .fields .«declared_size»
 abbrev pub whole : ℕ → Answer Acceptable → Answer Acceptable
 whole n (decided (accept x)) = decided (sized (ltb n (sizeOf x)) (ltb (sizeOf x) n) x)
 whole n (decided (refuse r)) = decided (refuse r)
-whole n (wants k) = decided (refuse (refusal 16 0))
+whole n (wants k) = decided (refuse (refusal 16 0 declaredSizeAt))
 
 -- what the whole-file reader answers on a file
 abbrev pub fileAnswer : List ℕ → ℕ → Answer Acceptable

@@ -3,6 +3,7 @@ use mathlib.Core.Path.{_≡_}
 use mathlib.Core.List.{List}
 use Prim.Native.Nat.{ℕ, _*_, _≤_}
 use lib.ListN.{take}
+use Rattle.layout.specs.Head.{declaredSizeAt}
 use Rattle.layout.specs.Versions.{headEnd, volumeEntry}
 use Rattle.incremental.specs.Decision.{accept, refuse, refusal}
 use Rattle.incremental.specs.Plan.{Plan, decide, Answer, decided, wants, run, reach, check, done, _>>=_, _>>_}
@@ -17,20 +18,20 @@ use Rattle.reader.specs.declared.checks.TraceOutcome.the-variants as out
 use Rattle.reader.specs.declared.verdict.Verdict.{Verdict}
 use Rattle.reader.specs.declared.verdict.Verdict.the-variants.{Accepted, Refused, Wanted}
 use Rattle.reader.specs.Verdict.{Acceptable}
-use Rattle.reader.specs.Checks.{namesRequired, volumesRequired, nextsIn, recordOf}
+use Rattle.reader.specs.Checks.{namesRequired, volumesRequired, nextsIn, linkAt, recordOf}
 
 -- 9
 unfoldable pub fitsPlan : Opening → Plan Unit
 fitsPlan o = do
   b ← reach (o .head .metrics .end)
-  check 9 (misfitFault (o .layout) (part (o .head .metrics) b) (o .head .metrics .count) (o .head .strings .len))
+  check 9 (misfitFault (o .layout) (o .head .metrics .at) (part (o .head .metrics) b) (o .head .metrics .count) (o .head .strings .len))
   done tt
 
 -- 10
 unfoldable pub textsPlan : Opening → Plan Unit
 textsPlan o = do
   b ← reach (namesRequired (o .layout) (o .head))
-  check 10 (unsoundFault (o .layout) (part (o .head .metrics) b) (o .head .metrics .count) (part (o .head .strings) b))
+  check 10 (unsoundFault (o .layout) (o .head .metrics .at) (part (o .head .metrics) b) (o .head .metrics .count) (part (o .head .strings) b))
   done tt
 
 -- 11 to 13; they give the next indexes
@@ -38,9 +39,9 @@ unfoldable pub tracePlan : Opening → Plan (List ℕ)
 tracePlan o = do
   b ← reach (o .head .trace .end)
   let s = nextsIn o b
-  check 11 (astrayFault s)
-  check 12 (sharedFault s)
-  check 13 (cyclicFault s)
+  check 11 (astrayFault (linkAt o) s)
+  check 12 (sharedFault (linkAt o) s)
+  check 13 (cyclicFault (linkAt o) s)
   done s
 
 -- what the code answers to them, and the buffer of m places afterwards: the table where they pass
@@ -53,7 +54,7 @@ pub record TraceAnswer (x : Answer (List ℕ)) (m : ℕ) (r : TraceOutcome) (buf
 unfoldable pub volumesPlan : Opening → Plan Unit
 volumesPlan o = do
   b ← reach (volumesRequired (o .layout) (o .head))
-  decide (volumesFrom (part (o .head .volumes) b) (o .layout) (o .head .volumes .count) 0)
+  decide (volumesFrom (part (o .head .volumes) b) (o .layout) (o .head .volumes .at) (o .head .volumes .count) 0)
   done tt
 
 -- 8 has passed
@@ -89,4 +90,4 @@ verdictOf (Wanted k) after = wants k
 
 -- a file that is not as long as it says
 abbrev pub wrongLength : ℕ → Answer Acceptable
-wrongLength number = decided (refuse (refusal number 0))
+wrongLength number = decided (refuse (refusal number 0 declaredSizeAt))

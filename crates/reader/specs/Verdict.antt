@@ -3,6 +3,7 @@ use mathlib.Core.Path.{_≡_}
 use mathlib.Core.List.{List}
 use Prim.Native.Nat.{ℕ}
 use Rattle.incremental.specs.Decision.{accept, refuse}
+use Rattle.incremental.specs.declared.Refusal.{Refusal}
 use Rattle.incremental.specs.Plan.{Answer, decided, wants}
 use Rattle.trace.specs.Links.{filled}
 use Rattle.reader.specs.declared.verdict.Acceptance.{Acceptance}
@@ -30,33 +31,34 @@ noRecord =
       «chain_count» = 0;
     }
 
--- a verdict in numbers. Its kind is 0 for an acceptance, 1 for a refusal with its number and index, and 2 for a request.
+-- a verdict in numbers. Its kind is 0 for an acceptance, 1 for a refusal with its number, index and file offset, and 2 for a request.
 pub record Values : Type 0 where
   pub kind : ℕ
   pub number : ℕ
   pub index : ℕ
+  pub offset : ℕ
   pub wanted : ℕ
   pub fields : Acceptance
 
 abbrev pub acceptedValues : Acceptance → Values
-acceptedValues a = record { kind = 0; number = 0; index = 0; wanted = 0; fields = a }
+acceptedValues a = record { kind = 0; number = 0; index = 0; offset = 0; wanted = 0; fields = a }
 
-abbrev pub refusedValues : ℕ → ℕ → Values
-refusedValues number index = record { kind = 1; number = number; index = index; wanted = 0; fields = noRecord }
+abbrev pub refusedValues : Refusal → Values
+refusedValues r = record { kind = 1; number = r .number; index = r .index; offset = r .offset; wanted = 0; fields = noRecord }
 
 abbrev pub wantedValues : ℕ → Values
-wantedValues k = record { kind = 2; number = 0; index = 0; wanted = k; fields = noRecord }
+wantedValues k = record { kind = 2; number = 0; index = 0; offset = 0; wanted = k; fields = noRecord }
 
 -- what each case of the verdict says
 abbrev pub valuesOf : Verdict → Values
 valuesOf (Accepted a) = acceptedValues a
-valuesOf (Refused r) = refusedValues (r .number) (r .index)
+valuesOf (Refused r) = refusedValues r
 valuesOf (Wanted k) = wantedValues k
 
 -- what the checks say
 abbrev pub answerValues : Answer Acceptable → Values
 answerValues (decided (accept x)) = acceptedValues (x .fields)
-answerValues (decided (refuse r)) = refusedValues (r .number) (r .index)
+answerValues (decided (refuse r)) = refusedValues r
 answerValues (wants k) = wantedValues k
 
 -- the working buffer of m places afterwards: the table after an acceptance, and filled after anything else

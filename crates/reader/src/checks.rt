@@ -49,11 +49,8 @@ fn check_fits(file: &[u8], o: Opening) -> Outcome
         return Outcome::Wanted(required);
     }
     let entries = sections::part_of(&file[..required], metrics);
-    if let Fault::At(i) = names::misfit_fault(entries, l, metrics.count, size) {
-        return Outcome::Refused(Refusal {
-            number: 9,
-            index: i,
-        });
+    if let Fault::At(i, at) = names::misfit_fault(entries, l, metrics.at, metrics.count, size) {
+        return Outcome::Refused(incremental::refuse(9, i, at));
     }
     Outcome::Passed
 }
@@ -71,11 +68,8 @@ fn check_texts(file: &[u8], o: Opening) -> Outcome
     }
     let entries = sections::part_of(&file[..required], metrics);
     let text = sections::part_of(&file[..required], strings);
-    if let Fault::At(i) = names::unsound_fault(entries, l, metrics.count, text) {
-        return Outcome::Refused(Refusal {
-            number: 10,
-            index: i,
-        });
+    if let Fault::At(i, at) = names::unsound_fault(entries, l, metrics.at, metrics.count, text) {
+        return Outcome::Refused(incremental::refuse(10, i, at));
     }
     Outcome::Passed
 }
@@ -92,7 +86,13 @@ fn check_trace(file: &[u8], o: Opening, predecessors: &mut [u32]) -> TraceOutcom
         return TraceOutcome::Wanted(required);
     }
     let links = sections::part_of(&file[..required], section);
-    match trace::check_links(links, l.trace_entry, section.count, predecessors) {
+    match trace::check_links(
+        links,
+        section.at,
+        l.trace_entry,
+        section.count,
+        predecessors,
+    ) {
         Links::Chains(n) => TraceOutcome::Chains(n),
         Links::Refused(r) => TraceOutcome::Refused(r),
     }
@@ -122,6 +122,7 @@ fn check_volumes(file: &[u8], o: Opening) -> Outcome
     match volumes::check_volumes(
         sections::part_of(&file[..required], section),
         l,
+        section.at,
         section.count,
     ) {
         Checked::Passed => Outcome::Passed,
@@ -165,17 +166,11 @@ fn check_rest(file: &[u8], o: Opening, predecessors: &mut [u32]) -> Verdict
     let volumes = o.head.volumes;
     let links = o.head.trace.count;
     let entry = o.layout.volume_entry;
-    if let Fault::At(i) = sections::places_fault(predecessors.len(), links) {
-        return Verdict::Refused(Refusal {
-            number: 7,
-            index: i,
-        });
+    if let Fault::At(i, at) = sections::places_fault(predecessors.len(), links) {
+        return Verdict::Refused(incremental::refuse(7, i, at));
     }
-    if let Fault::At(i) = sections::entries_fault(volumes.count, entry, volumes.len) {
-        return Verdict::Refused(Refusal {
-            number: 8,
-            index: i,
-        });
+    if let Fault::At(i, at) = sections::entries_fault(volumes.count, entry, volumes.len) {
+        return Verdict::Refused(incremental::refuse(8, i, at));
     }
     check_tables(file, o, predecessors)
 }
@@ -213,10 +208,7 @@ fn wrong_length(number: u32, predecessors: &mut [u32]) -> Verdict
     ensures { λ r. ⌜ Reads (wrongLength number) (length (now (predecessors .entry))) r (now (predecessors .exit)) ⌝ }
 {
     trace::fill(predecessors);
-    Verdict::Refused(Refusal {
-        number: number,
-        index: 0,
-    })
+    Verdict::Refused(incremental::refuse(number, 0, layout::DECLARED_SIZE_AT))
 }
 
 // The verdict on a whole file.

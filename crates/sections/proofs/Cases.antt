@@ -23,28 +23,28 @@ use Rattle.incremental.specs.declared.Fault.the-variants.{At, Nowhere}
 use Rattle.sections.specs.declared.Section.{Section}
 use Rattle.sections.specs.declared.Head.{Head}
 use Rattle.sections.specs.Fields.{signatureFault, sizeFault, sectionOf, headOf, sizeIn, outside}
-use Rattle.sections.specs.Fields.{shares, numbered, outsideFault, sharedFault, placesFault, entriesFault}
+use Rattle.sections.specs.Fields.{offsetFieldAt, shares, numbered, outsideFault, sharedFault, placesFault, entriesFault}
 
 -- the first section that fails a test
-pub pick-hit : (t r : Bool) (a b : Fault) → r ≡ t → r ≡ true → a ≡ pick t a b
-pick-hit t r a b p q = rw (sym p ∙ q)
+pub pick-hit : (t r : Bool) (x a b : Fault) → r ≡ t → r ≡ true → x ≡ a → x ≡ pick t a b
+pick-hit t r x a b p q e = rw (sym p ∙ q) e
 
 pub pick-miss : (t r : Bool) (x a b : Fault) → r ≡ t → r ≡ false → x ≡ b → x ≡ pick t a b
 pick-miss t r x a b p q e = rw (sym p ∙ q) e
 
 pub ruleset picks = (pick-hit, pick-miss)
 
-fault-pick : (b : Bool) (f g : Found) → faultOf (pick b f g) ≡ pick b (faultOf f) (faultOf g)
-fault-pick true f g = refl
-fault-pick false f g = refl
+fault-pick : (at : ℕ → ℕ) (b : Bool) (f g : Found) → faultOf at (pick b f g) ≡ pick b (faultOf at f) (faultOf at g)
+fault-pick at true f g = refl
+fault-pick at false f g = refl
 
 -- 5 by sections, in the order in which the code looks at them
 abbrev pub outsideInTurn : Layout → Head → Fault
 outsideInTurn l h =
-    pick (outside (headEnd l) (sizeIn h) (h .metrics)) (At 1)
-    (pick (outside (headEnd l) (sizeIn h) (h .trace)) (At 2)
-    (pick (outside (headEnd l) (sizeIn h) (h .strings)) (At 3)
-    (pick (outside (headEnd l) (sizeIn h) (h .volumes)) (At 4)
+    pick (outside (headEnd l) (sizeIn h) (h .metrics)) (At 1 84)
+    (pick (outside (headEnd l) (sizeIn h) (h .trace)) (At 2 92)
+    (pick (outside (headEnd l) (sizeIn h) (h .strings)) (At 3 100)
+    (pick (outside (headEnd l) (sizeIn h) (h .volumes)) (At 4 108)
     Nowhere)))
 
 pub in-turn : (l : Layout) (h : Head) → outsideFault l h ≡ outsideInTurn l h
@@ -53,8 +53,8 @@ in-turn l h =
     let o : Section → Bool = λ s. outside (headEnd l) (sizeIn h) s in
     go (o (h .metrics)) (o (h .trace)) (o (h .strings)) (o (h .volumes))
   where
-    go : (a b c d : Bool) → faultOf (pick a (found.At 1) (pick b (found.At 2) (pick c (found.At 3) (pick d (found.At 4) found.Nothing))))
-        ≡ pick a (At 1) (pick b (At 2) (pick c (At 3) (pick d (At 4) Nowhere)))
+    go : (a b c d : Bool) → faultOf offsetFieldAt (pick a (found.At 1) (pick b (found.At 2) (pick c (found.At 3) (pick d (found.At 4) found.Nothing))))
+        ≡ pick a (At 1 84) (pick b (At 2 92) (pick c (At 3 100) (pick d (At 4 108) Nowhere)))
     go a b c d = simp fault-pick
 
 pub by-sections : (l : Layout) (h : Head) (r : Fault) → r ≡ outsideInTurn l h → r ≡ outsideFault l h
@@ -63,12 +63,12 @@ by-sections l h r e = e ∙ sym (in-turn l h)
 -- 6 by pairs of sections, in the order in which the code compares them
 abbrev pub sharedPairs : Head → Fault
 sharedPairs h =
-    pick (shares (h .metrics) (h .trace)) (At 2)
-    (pick (shares (h .metrics) (h .strings)) (At 3)
-    (pick (shares (h .trace) (h .strings)) (At 3)
-    (pick (shares (h .metrics) (h .volumes)) (At 4)
-    (pick (shares (h .trace) (h .volumes)) (At 4)
-    (pick (shares (h .strings) (h .volumes)) (At 4)
+    pick (shares (h .metrics) (h .trace)) (At 2 92)
+    (pick (shares (h .metrics) (h .strings)) (At 3 100)
+    (pick (shares (h .trace) (h .strings)) (At 3 100)
+    (pick (shares (h .metrics) (h .volumes)) (At 4 108)
+    (pick (shares (h .trace) (h .volumes)) (At 4 108)
+    (pick (shares (h .strings) (h .volumes)) (At 4 108)
     Nowhere)))))
 
 pick-or : {A : Type 0} (a b : Bool) (x y : A) → pick (a || b) x y ≡ pick a x (pick b x y)
@@ -103,16 +103,16 @@ pub signature-right : (b : List ℕ) (r : ℕ) → r ≡ le 4 b 4 → r ≡ 0x41
 unfolding signatureFault
 signature-right b r e q = rw (eq-eqb _ _ (sym e ∙ q))
 
-pub signature-wrong : (b : List ℕ) (r : ℕ) → r ≡ le 4 b 4 → (r ≡ 0x41434353 → ⊥) → At 0 ≡ signatureFault b
+pub signature-wrong : (b : List ℕ) (r : ℕ) → r ≡ le 4 b 4 → (r ≡ 0x41434353 → ⊥) → At 0 4 ≡ signatureFault b
 unfolding signatureFault
 signature-wrong b r e q = rw (ne-eqb _ _ (λ h. q (e ∙ h)))
 
 -- 3
-pub size-low : (l : Layout) (b : List ℕ) (r : ℕ) → r ≡ le 4 b 12 → r < headEnd l → At 0 ≡ sizeFault l b
+pub size-low : (l : Layout) (b : List ℕ) (r : ℕ) → r ≡ le 4 b 12 → r < headEnd l → At 0 12 ≡ sizeFault l b
 unfolding sizeFault
 size-low l b r e h = rw (← e, lt-ltb _ _ h)
 
-pub size-high : (l : Layout) (b : List ℕ) (r : ℕ) → r ≡ le 4 b 12 → headEnd l ≤ r → sizeLimit < r → At 0 ≡ sizeFault l b
+pub size-high : (l : Layout) (b : List ℕ) (r : ℕ) → r ≡ le 4 b 12 → headEnd l ≤ r → sizeLimit < r → At 0 12 ≡ sizeFault l b
 unfolding sizeFault
 size-high l b r e h k = rw (← e, le-ltb _ _ h, lt-ltb _ _ k)
 
@@ -121,7 +121,7 @@ unfolding sizeFault
 size-right l b r e h k = rw (← e, le-ltb _ _ h, le-ltb _ _ k)
 
 -- 7 and 8
-pub places-few : (m n : ℕ) → m < n → At 0 ≡ placesFault m n
+pub places-few : (m n : ℕ) → m < n → At 0 96 ≡ placesFault m n
 unfolding placesFault
 places-few m n h = rw (lt-ltb m n h)
 
@@ -129,7 +129,7 @@ pub places-enough : (m n : ℕ) → n ≤ m → Nowhere ≡ placesFault m n
 unfolding placesFault
 places-enough m n h = rw (le-ltb m n h)
 
-pub entries-crowded : (count entry size : ℕ) → size < count * entry → At 0 ≡ entriesFault count entry size
+pub entries-crowded : (count entry size : ℕ) → size < count * entry → At 0 112 ≡ entriesFault count entry size
 unfolding entriesFault
 entries-crowded count entry size h = rw (lt-ltb size (count * entry) h)
 
@@ -140,11 +140,11 @@ entries-fit count entry size h = rw (le-ltb size (count * entry) h)
 -- what it means that 7 and 8 pass
 pub places-met : (m n : ℕ) (r : Fault) → r ≡ placesFault m n → r ≡ Nowhere → n ≤ m
 unfolding placesFault
-places-met m n r e q = ltb-false m n (fault-clear 0 _ (sym e ∙ q))
+places-met m n r e q = ltb-false m n (fault-clear 0 _ _ (sym e ∙ q))
 
 pub entries-met : (count entry size : ℕ) (r : Fault) → r ≡ entriesFault count entry size → r ≡ Nowhere → count * entry ≤ size
 unfolding entriesFault
-entries-met count entry size r e q = ltb-false size (count * entry) (fault-clear 0 _ (sym e ∙ q))
+entries-met count entry size r e q = ltb-false size (count * entry) (fault-clear 0 _ _ (sym e ∙ q))
 
 pub ruleset faults =
     (signature-right, signature-wrong, size-low, size-high, size-right, places-few, places-enough, entries-crowded, entries-fit)

@@ -1,4 +1,5 @@
--- The head's fields and sections, and what each of checks 2 to 8 finds wrong in them (document 01, "Head" and rows 2 to 8).
+-- The head's fields and sections, and what each of checks 2 to 8 finds wrong in them (document 01, "Head" and rows 2 to 8), with the
+-- file offset of the field at fault (request 103).
 use mathlib.Core.List.{List}
 use mathlib.Core.Bool.{Bool, _&&_, _||_, not}
 use Prim.Native.Nat.{ℕ, _+_, _-_, _*_, _/_}
@@ -19,7 +20,7 @@ use Rattle.sections.specs.declared.Head.{Head}
 
 -- 2: the signature differs from 53 43 43 41
 unfoldable pub signatureFault : List ℕ → Fault
-signatureFault b = faultAt 0 (not (eqb (le 4 b signatureAt) 0x41434353))
+signatureFault b = faultAt 0 signatureAt (not (eqb (le 4 b signatureAt) 0x41434353))
 
 -- S: the declared size
 abbrev pub declaredSize : List ℕ → ℕ
@@ -31,7 +32,7 @@ storedHash b = le 4 b storedHashAt
 
 -- 3: S below H or above 16,777,215
 unfoldable pub sizeFault : Layout → List ℕ → Fault
-sizeFault l b = faultAt 0 (ltb (declaredSize b) (headEnd l) || ltb sizeLimit (declaredSize b))
+sizeFault l b = faultAt 0 declaredSizeAt (ltb (declaredSize b) (headEnd l) || ltb sizeLimit (declaredSize b))
 
 -- how many of the program name's 30 units lie whole in so many bytes
 unfoldable pub nameUnitsIn : ℕ → ℕ
@@ -68,13 +69,17 @@ part s b = take (s .len) (drop (s .at) b)
 abbrev pub numbered : Head → ℕ → Section
 numbered h n = pick (eqb n 1) (h .metrics) (pick (eqb n 2) (h .trace) (pick (eqb n 3) (h .strings) (h .volumes)))
 
+-- the offset field of a section, by its number: the field at fault of 5 and 6
+abbrev pub offsetFieldAt : ℕ → ℕ
+offsetFieldAt n = pick (eqb n 1) metricsOffsetAt (pick (eqb n 2) traceOffsetAt (pick (eqb n 3) stringsOffsetAt volumesOffsetAt))
+
 -- a section of nonzero length starts before H or ends after S
 unfoldable pub outside : ℕ → ℕ → Section → Bool
 outside h size s = not (eqb (s .len) 0) && (ltb (s .at) h || ltb size (s .end))
 
 -- 5: the first such section, of the four from 1
 unfoldable pub outsideFault : Layout → Head → Fault
-outsideFault l h = faultOf (firstFrom (λ n. outside (headEnd l) (sizeIn h) (numbered h n)) 4 1)
+outsideFault l h = faultOf offsetFieldAt (firstFrom (λ n. outside (headEnd l) (sizeIn h) (numbered h n)) 4 1)
 
 -- two sections of nonzero length share a byte
 unfoldable pub shares : Section → Section → Bool
@@ -86,12 +91,12 @@ sharesLower h n = some (λ k. shares (numbered h (k + 1)) (numbered h n)) (n - 1
 
 -- 6: the smallest such section
 unfoldable pub sharedFault : Head → Fault
-sharedFault h = faultOf (firstFrom (sharesLower h) 4 1)
+sharedFault h = faultOf offsetFieldAt (firstFrom (sharesLower h) 4 1)
 
 -- 7: the working buffer has fewer places than trace entries
 unfoldable pub placesFault : ℕ → ℕ → Fault
-placesFault places count = faultAt 0 (ltb places count)
+placesFault places count = faultAt 0 traceCountAt (ltb places count)
 
 -- 8: volume count times entry size exceeds the volumes size
 unfoldable pub entriesFault : ℕ → ℕ → ℕ → Fault
-entriesFault count entry size = faultAt 0 (ltb size (count * entry))
+entriesFault count entry size = faultAt 0 volumesCountAt (ltb size (count * entry))

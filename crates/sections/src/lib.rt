@@ -2,7 +2,7 @@
 ghost use mathlib.Core.Path.{_≡_};
 ghost use Prim.Native.Nat.{_≤_};
 ghost use Rattle.lists.specs.Part.{IsPart};
-ghost use Rattle.sections.specs.Fields.{signatureFault, sizeFault, nameUnitsIn, nameEnd, sectionOf, headOf, outside, outsideFault, shares};
+ghost use Rattle.sections.specs.Fields.{offsetFieldAt, signatureFault, sizeFault, nameUnitsIn, nameEnd, sectionOf, headOf, outside, outsideFault, shares};
 ghost use Rattle.sections.specs.Fields.{sharedFault, placesFault, entriesFault};
 use incremental::Fault;
 use layout::Layout;
@@ -11,7 +11,7 @@ use lists::Found;
 
 // A section of the file: offset, length in bytes, end, and the count that its head has.
 pub struct Section {
-    pub at: usize,
+    pub at: u32,
     pub len: usize,
     pub end: usize,
     pub count: u32,
@@ -30,7 +30,7 @@ pub struct Head {
 pub fn part_of(bytes: &[u8], s: Section) -> &[u8]
     ensures { λ r. ⌜ IsPart (bytes .entry) (s .at) (s .len) r ⌝ }
 {
-    lists::part(bytes, s.at, s.len)
+    lists::part(bytes, s.at as usize, s.len)
 }
 
 // Check 2.
@@ -40,7 +40,7 @@ pub fn signature_fault(b: &[u8]) -> Fault
     if little_endian::u32_at(b, layout::SIGNATURE_AT) == layout::SIGNATURE {
         Fault::Nowhere
     } else {
-        Fault::At(0)
+        Fault::At(0, layout::SIGNATURE_AT)
     }
 }
 
@@ -50,10 +50,10 @@ pub fn size_fault(b: &[u8], l: Layout) -> Fault
 {
     let size = little_endian::u32_at(b, layout::DECLARED_SIZE_AT);
     if size < l.head_end as u32 {
-        return Fault::At(0);
+        return Fault::At(0, layout::DECLARED_SIZE_AT);
     }
     if SIZE_LIMIT < size {
-        return Fault::At(0);
+        return Fault::At(0, layout::DECLARED_SIZE_AT);
     }
     Fault::Nowhere
 }
@@ -85,14 +85,14 @@ fn section_of(h: usize, at: u32, len: usize, count: u32) -> Section
 {
     if len == 0 {
         Section {
-            at: at as usize,
+            at: at,
             len: len,
             end: h,
             count: count,
         }
     } else {
         Section {
-            at: at as usize,
+            at: at,
             len: len,
             end: at as usize + len,
             count: count,
@@ -147,10 +147,22 @@ fn is_outside(h: usize, size: u32, s: Section) -> bool
     if s.len == 0 {
         return false;
     }
-    if s.at < h {
+    if (s.at as usize) < h {
         return true;
     }
     (size as usize) < s.end
+}
+
+// The fault of a section, by its number: its field is the section's offset in the head.
+fn section_fault(n: usize) -> Fault
+    ensures { λ r. ⌜ r ≡ Fault.At n (offsetFieldAt n) ⌝ }
+{
+    match n {
+        1 => Fault::At(n, layout::METRICS_OFFSET_AT),
+        2 => Fault::At(n, layout::TRACE_OFFSET_AT),
+        3 => Fault::At(n, layout::STRINGS_OFFSET_AT),
+        _ => Fault::At(n, layout::VOLUMES_OFFSET_AT),
+    }
 }
 
 // Check 5.
@@ -164,16 +176,16 @@ pub fn outside_fault(l: Layout, h: Head) -> Fault
     let strings = h.strings;
     let volumes = h.volumes;
     if is_outside(start, size, metrics) {
-        return Fault::At(1);
+        return section_fault(1);
     }
     if is_outside(start, size, trace) {
-        return Fault::At(2);
+        return section_fault(2);
     }
     if is_outside(start, size, strings) {
-        return Fault::At(3);
+        return section_fault(3);
     }
     if is_outside(start, size, volumes) {
-        return Fault::At(4);
+        return section_fault(4);
     }
     Fault::Nowhere
 }
@@ -187,10 +199,10 @@ fn share(s: Section, t: Section) -> bool
     if t.len == 0 {
         return false;
     }
-    if t.end <= s.at {
+    if t.end <= s.at as usize {
         return false;
     }
-    t.at < s.end
+    (t.at as usize) < s.end
 }
 
 // Check 6.
@@ -202,22 +214,22 @@ pub fn shared_fault(h: Head) -> Fault
     let strings = h.strings;
     let volumes = h.volumes;
     if share(metrics, trace) {
-        return Fault::At(2);
+        return section_fault(2);
     }
     if share(metrics, strings) {
-        return Fault::At(3);
+        return section_fault(3);
     }
     if share(trace, strings) {
-        return Fault::At(3);
+        return section_fault(3);
     }
     if share(metrics, volumes) {
-        return Fault::At(4);
+        return section_fault(4);
     }
     if share(trace, volumes) {
-        return Fault::At(4);
+        return section_fault(4);
     }
     if share(strings, volumes) {
-        return Fault::At(4);
+        return section_fault(4);
     }
     Fault::Nowhere
 }
@@ -227,7 +239,7 @@ pub fn places_fault(places: usize, count: u32) -> Fault
     ensures { λ r. ⌜ r ≡ placesFault places count ⌝ }
 {
     if places < count as usize {
-        return Fault::At(0);
+        return Fault::At(0, layout::TRACE_COUNT_AT);
     }
     Fault::Nowhere
 }
@@ -237,7 +249,7 @@ pub fn entries_fault(count: u32, entry: u16, size: usize) -> Fault
     ensures { λ r. ⌜ r ≡ entriesFault count entry size ⌝ }
 {
     if size < count as usize * (entry as usize) {
-        return Fault::At(0);
+        return Fault::At(0, layout::VOLUMES_COUNT_AT);
     }
     Fault::Nowhere
 }

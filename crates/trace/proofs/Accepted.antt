@@ -77,9 +77,10 @@ distinct s h most i j hi hj e n = go (ℕ-discrete i j) (decLt i j)
     go (no z) (no l) = absurd (omega (arith, atMost, count-two named (length s) j i (omega arith) hi other mine))
 
 -- a check of an acceptance found nothing
-passed : {A : Type 0} (n : ℕ) (f : Found) (later : Decision A) (a : A) → (check n (faultOf f) >> later) ≡ accept a → (f ≡ Nothing) × (later ≡ accept a)
-passed n (At i) later a e = let z : _≡_ {A = ℕ} 0 1 = cc in absurd (omega arith)
-passed n Nothing later a e = (refl, e)
+passed : {A : Type 0} (n : ℕ) (at : ℕ → ℕ) (f : Found) (later : Decision A) (a : A) → (check n (faultOf at f) >> later) ≡ accept a
+    → (f ≡ Nothing) × (later ≡ accept a)
+passed n at (At i) later a e = let z : _≡_ {A = ℕ} 0 1 = cc in absurd (omega arith)
+passed n at Nothing later a e = (refl, e)
 
 pub record Accepted (s : List ℕ) (n : ℕ) : Type 0 where
   pub sound : InRange s
@@ -89,12 +90,12 @@ pub record Accepted (s : List ℕ) (n : ℕ) : Type 0 where
   pub counted : n ≡ chains s
 
 -- what an acceptance says
-pub accepted : (s : List ℕ) (n : ℕ) → linkChecks s ≡ accept n → Accepted s n
+pub accepted : (at : ℕ → ℕ) (s : List ℕ) (n : ℕ) → linkChecks at s ≡ accept n → Accepted s n
 unfolding linkChecks
-accepted s n e =
-    let a = passed 11 (first (astray s) (length s)) _ n e in
-    let b = passed 12 (first (shared s) (length s)) _ n (a .1) in
-    let c = passed 13 (first (cyclic s) (length s)) _ n (b .1) in
+accepted at s n e =
+    let a = passed 11 at (first (astray s) (length s)) _ n e in
+    let b = passed 12 at (first (shared s) (length s)) _ n (a .1) in
+    let c = passed 13 at (first (cyclic s) (length s)) _ n (b .1) in
     let d : accept (chains s) ≡ accept n = c .1 in
     record {
       sound = sound s (a .0);
@@ -105,6 +106,6 @@ accepted s n e =
     }
 
 -- check 7: with a place for each entry the others decide
-pub trace-room : (s : List ℕ) (m : ℕ) → length s ≤ m → traceChecks s m ≡ linkChecks s
+pub trace-room : (at : ℕ → ℕ) (s : List ℕ) (m : ℕ) → length s ≤ m → traceChecks at s m ≡ linkChecks at s
 unfolding traceChecks placesFault
-trace-room s m l = rw (le-ltb m (length s) l)
+trace-room at s m l = rw (le-ltb m (length s) l)

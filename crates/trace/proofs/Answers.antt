@@ -12,6 +12,8 @@ use Rattle.trace.specs.declared.Links.the-variants.{Refused}
 use Rattle.trace.specs.declared.Pass.the-variants.{Astray, Shared, Clear}
 use Rattle.trace.specs.Links.{nexts, filled, linkChecks, traceChecks, held, LinkAnswer}
 use Rattle.trace.proofs.Steps.{length-nexts}
+use Rattle.layout.specs.Head.{entryOffset}
+use Rattle.incremental.specs.declared.Refusal.{Refusal}
 use Rattle.incremental.specs.declared.Fault.{Fault}
 use Rattle.incremental.specs.declared.Fault.the-variants as fault
 use Rattle.sections.specs.Fields.{placesFault}
@@ -33,35 +35,36 @@ passed-clear Nothing (At j) n k e = let z : _≡_ {A = ℕ} 0 1 = cc in absurd (
 passed-clear Nothing Nothing n k e = let z : n ≡ k = cc in (refl, refl, sym z)
 
 -- a check whose search found something, and one whose search found nothing
-pub answer-at : (n i m : ℕ) (f r : Found) (later : Decision ℕ) (s buffer : List ℕ) → r ≡ f → r ≡ At i → buffer ≡ filled m
-    → LinkDecision (check n (faultOf f) >> later) s m (Refused (refusal n i)) buffer
-answer-at n i m f r later s buffer e q h =
-    let d = check-at n i (faultOf f) (faultOf r) later (ap faultOf e) (ap faultOf q) in
-    record { answer = d; holds = h ∙ ap (λ (x : Decision ℕ). held x s m) d }
+pub answer-at : (n i m : ℕ) (at : ℕ → ℕ) (f r : Found) (later : Decision ℕ) (s buffer : List ℕ) (a : Links) → r ≡ f → r ≡ At i
+    → a ≡ Refused (refusal n i (at i)) → buffer ≡ filled m → LinkDecision (check n (faultOf at f) >> later) s m a buffer
+answer-at n i m at f r later s buffer a e q w h =
+    let d = check-at n i (at i) (faultOf at f) (faultOf at r) later _ (ap (faultOf at) e) (ap (faultOf at) q) refl in
+    rw w (record { answer = d; holds = h ∙ ap (λ (x : Decision ℕ). held x s m) d })
 
-pub answer-nothing : (n m : ℕ) (f r : Found) (later : Decision ℕ) (s buffer : List ℕ) (a : Links) → r ≡ f → r ≡ Nothing
-    → LinkDecision later s m a buffer → LinkDecision (check n (faultOf f) >> later) s m a buffer
-answer-nothing n m f r later s buffer a e q h =
-    let d = check-nowhere n (faultOf f) (faultOf r) later later (ap faultOf e) (ap faultOf q) refl in
+pub answer-nothing : (n m : ℕ) (at : ℕ → ℕ) (f r : Found) (later : Decision ℕ) (s buffer : List ℕ) (a : Links) → r ≡ f → r ≡ Nothing
+    → LinkDecision later s m a buffer → LinkDecision (check n (faultOf at f) >> later) s m a buffer
+answer-nothing n m at f r later s buffer a e q h =
+    let d = check-nowhere n (faultOf at f) (faultOf at r) later later (ap (faultOf at) e) (ap (faultOf at) q) refl in
     record { answer = h .answer ∙ d; holds = h .holds ∙ ap (λ (x : Decision ℕ). held x s m) d }
 
 -- the whole answer: check 7 refuses, or the later checks decide
-pub answer-few : (section : List ℕ) (size entries m k : ℕ) (r : Fault) (buffer : List ℕ)
-    → r ≡ placesFault m entries → r ≡ fault.At k → buffer ≡ filled m
-    → LinkAnswer section size entries m (Refused (refusal 7 k)) buffer
+pub answer-few : (section : List ℕ) (start size entries m i at : ℕ) (r : Fault) (x : Refusal) (buffer : List ℕ)
+    → r ≡ placesFault m entries → r ≡ fault.At i at → x ≡ refusal 7 i at → buffer ≡ filled m
+    → LinkAnswer section start size entries m (Refused x) buffer
 unfolding traceChecks
-answer-few section size entries m k r buffer e q h =
+answer-few section start size entries m i at r x buffer e q w h =
     let s = nexts section size entries in
-    let d : refuse (refusal 7 k) ≡ traceChecks s m = check-at 7 k _ r _ (e ∙ ap (placesFault m) (sym (length-nexts section size entries))) q in
+    let d : refuse x ≡ traceChecks (entryOffset start size) s m =
+    check-at 7 i at _ r _ x (e ∙ ap (placesFault m) (sym (length-nexts section size entries))) q w in
     record { answer = d; holds = h ∙ ap (λ (x : Decision ℕ). held x s m) d }
 
-pub answer-links : (section : List ℕ) (size entries m : ℕ) (r : Fault) (a : Links) (buffer : List ℕ)
+pub answer-links : (section : List ℕ) (start size entries m : ℕ) (r : Fault) (a : Links) (buffer : List ℕ)
     → r ≡ placesFault m entries → r ≡ fault.Nowhere
-    → LinkDecision (linkChecks (nexts section size entries)) (nexts section size entries) m a buffer
-    → LinkAnswer section size entries m a buffer
+    → LinkDecision (linkChecks (entryOffset start size) (nexts section size entries)) (nexts section size entries) m a buffer
+    → LinkAnswer section start size entries m a buffer
 unfolding traceChecks
-answer-links section size entries m r a buffer e q h =
+answer-links section start size entries m r a buffer e q h =
     let s = nexts section size entries in
-    let d : linkChecks s ≡ traceChecks s m =
+    let d : linkChecks (entryOffset start size) s ≡ traceChecks (entryOffset start size) s m =
     check-nowhere 7 _ r _ _ (e ∙ ap (placesFault m) (sym (length-nexts section size entries))) q refl in
     record { answer = h .answer ∙ d; holds = h .holds ∙ ap (λ (x : Decision ℕ). held x s m) d }

@@ -76,5 +76,5 @@ chains-are-ends s l sound once =
       ends-or-on s (length s) (length s) l sound,
     )
 
-pub chains-ends : (s : List ℕ) (n : ℕ) → length s ≤ end → linkChecks s ≡ accept n → chains s ≡ ends s
-chains-ends s n l e = let a = accepted s n e in chains-are-ends s l (a .sound) (a .once)
+pub chains-ends : (at : ℕ → ℕ) (s : List ℕ) (n : ℕ) → length s ≤ end → linkChecks at s ≡ accept n → chains s ≡ ends s
+chains-ends at s n l e = let a = accepted at s n e in chains-are-ends s l (a .sound) (a .once)

@@ -124,12 +124,12 @@ module _ (s : List ℕ) (small : length s ≤ end) where
                 ∙ t .same
 
 -- every entry is on exactly one chain, at one place
-pub one-chain : (s : List ℕ) (n : ℕ) → length s ≤ end → linkChecks s ≡ accept n → (e : ℕ) → e < length s → OneChain s e
-one-chain s n small a e l =
-    let c = found s small e l (accepted s n a .acyclic) in
+pub one-chain : (at : ℕ → ℕ) (s : List ℕ) (n : ℕ) → length s ≤ end → linkChecks at s ≡ accept n → (e : ℕ) → e < length s → OneChain s e
+one-chain at s n small a e l =
+    let c = found s small e l (accepted at s n a .acyclic) in
     record {
       head = c .0;
       place = c .1;
       on = c .2;
-      only = λ h k o. only s small (accepted s n a .distinct) k (c .1) h (c .0) e l o (c .2);
+      only = λ h k o. only s small (accepted at s n a .distinct) k (c .1) h (c .0) e l o (c .2);
     }

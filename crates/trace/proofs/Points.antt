@@ -8,4 +8,4 @@ use Rattle.trace.specs.Points.{TracePoints}
 
 pub trace-points : TracePoints
 unfolding linkChecks firstFrom some count cyclic namers follow chains predecessors predecessor tabulate
-trace-points = record { one-chain = refl; one-chain-table = refl; own-next = refl; named-twice = refl }
+trace-points = record { one-chain = λ at. refl; one-chain-table = refl; own-next = λ at. refl; named-twice = λ at. refl }

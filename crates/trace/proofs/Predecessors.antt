@@ -68,12 +68,12 @@ predecessor-end s j small = (λ e i l q. to e i l q (named s (length s) j), λ f
     from f (one h p k) = absurd (f (predecessor s (length s) j) h p)
 
 -- the table is the inverse of the next indexes
-predecessor-law : (s : List ℕ) (n : ℕ) → length s ≤ end → linkChecks s ≡ accept n
+predecessor-law : (at : ℕ → ℕ) (s : List ℕ) (n : ℕ) → length s ≤ end → linkChecks at s ≡ accept n
     → (i j : ℕ) → i < length s → j < length s → (predecessor s (length s) j ≡ i) ↔ (after s i ≡ j)
-predecessor-law s n small e i j hi hj = (λ p. to p (named s (length s) j), λ q. from q (named s (length s) j))
+predecessor-law at s n small e i j hi hj = (λ p. to p (named s (length s) j), λ q. from q (named s (length s) j))
   where
     a : Accepted s n
-    a = accepted s n e
+    a = accepted at s n e
 
     to : predecessor s (length s) j ≡ i → Named s (length s) j → after s i ≡ j
     to p (none q k) = absurd (omega arith)
@@ -96,10 +96,11 @@ pub past-predecessors : (s : List ℕ) (m k d : ℕ) → k < m → length s ≤ 
 unfolding predecessors
 past-predecessors s m k d l h = getD-tabulate m (λ j. pick (ltb j (length s)) (predecessor s (length s) j) end) k d l ∙ rw (le-ltb k (length s) h)
 
-pub working-buffer : (s : List ℕ) (n m : ℕ) → length s ≤ end → length s ≤ m → linkChecks s ≡ accept n → WorkingBuffer s (predecessors s m)
-working-buffer s n m small room e =
+pub working-buffer : (at : ℕ → ℕ) (s : List ℕ) (n m : ℕ) → length s ≤ end → length s ≤ m → linkChecks at s ≡ accept n
+    → WorkingBuffer s (predecessors s m)
+working-buffer at s n m small room e =
     record {
-      named = λ i j li lj. rw (at-predecessors s m j end (omega arith) lj) (predecessor-law s n small e i j li lj);
+      named = λ i j li lj. rw (at-predecessors s m j end (omega arith) lj) (predecessor-law at s n small e i j li lj);
       unnamed = λ j l. rw (at-predecessors s m j end (omega arith) l) (predecessor-end s j small);
       rest = λ j l k. past-predecessors s m j end (omega (arith, length-predecessors s m)) l;
     }

@@ -9,6 +9,7 @@ use Rattle.lists.specs.First.{first}
 use Rattle.lists.specs.Table.{tabulate}
 use Rattle.lists.specs.Count.{some, count, pick}
 use Rattle.little_endian.specs.Number.{le}
+use Rattle.layout.specs.Head.{entryOffset}
 use Rattle.incremental.specs.Decision.{Decision, accept, refuse, faultOf, check, _>>=_, _>>_}
 use Rattle.incremental.specs.declared.Fault.{Fault}
 use Rattle.sections.specs.Fields.{placesFault}
@@ -75,34 +76,34 @@ abbrev pub linksOf : Links → Decision ℕ
 linksOf (Chains n) = accept n
 linksOf (Refused r) = refuse r
 
--- 11, 12, 13: the first such entry
-abbrev pub astrayFault : List ℕ → Fault
-astrayFault s = faultOf (first (astray s) (length s))
+-- 11, 12, 13: the first such entry; `at` says where in the file each entry starts. The next index is its first field
+abbrev pub astrayFault : (ℕ → ℕ) → List ℕ → Fault
+astrayFault at s = faultOf at (first (astray s) (length s))
 
-abbrev pub sharedFault : List ℕ → Fault
-sharedFault s = faultOf (first (shared s) (length s))
+abbrev pub sharedFault : (ℕ → ℕ) → List ℕ → Fault
+sharedFault at s = faultOf at (first (shared s) (length s))
 
-abbrev pub cyclicFault : List ℕ → Fault
-cyclicFault s = faultOf (first (cyclic s) (length s))
+abbrev pub cyclicFault : (ℕ → ℕ) → List ℕ → Fault
+cyclicFault at s = faultOf at (first (cyclic s) (length s))
 
 -- checks 11, 12 and 13 in their order; what passes them has its chain count
-unfoldable pub linkChecks : List ℕ → Decision ℕ
-linkChecks s = do
-  check 11 (astrayFault s)
-  check 12 (sharedFault s)
-  check 13 (cyclicFault s)
+unfoldable pub linkChecks : (ℕ → ℕ) → List ℕ → Decision ℕ
+linkChecks at s = do
+  check 11 (astrayFault at s)
+  check 12 (sharedFault at s)
+  check 13 (cyclicFault at s)
   accept (chains s)
 
 -- before them check 7: a buffer of m places has a place for each entry
-unfoldable pub traceChecks : List ℕ → ℕ → Decision ℕ
-traceChecks s m = check 7 (placesFault m (length s)) >> linkChecks s
+unfoldable pub traceChecks : (ℕ → ℕ) → List ℕ → ℕ → Decision ℕ
+traceChecks at s m = check 7 (placesFault m (length s)) >> linkChecks at s
 
 -- what the buffer of m places holds after a decision
 abbrev pub held : Decision ℕ → List ℕ → ℕ → List ℕ
 held (accept n) s m = predecessors s m
 held (refuse r) s m = filled m
 
--- the answer and the buffer after it, which had m places
-pub record LinkAnswer (section : List ℕ) (size entries m : ℕ) (r : Links) (buffer : List ℕ) : Type 0 where
-  pub answer : linksOf r ≡ traceChecks (nexts section size entries) m
-  pub holds : buffer ≡ held (traceChecks (nexts section size entries) m) (nexts section size entries) m
+-- the answer on a section that starts at `start` in the file, and the buffer after it, which had m places
+pub record LinkAnswer (section : List ℕ) (start size entries m : ℕ) (r : Links) (buffer : List ℕ) : Type 0 where
+  pub answer : linksOf r ≡ traceChecks (entryOffset start size) (nexts section size entries) m
+  pub holds : buffer ≡ held (traceChecks (entryOffset start size) (nexts section size entries) m) (nexts section size entries) m

@@ -35,11 +35,11 @@ abbrev pub firstCyclic : List ℕ → Found
 firstCyclic s = first (cyclic s) (length s)
 
 -- the checks from 13 on, and from 12 on
-abbrev pub cycleChecks : List ℕ → Decision ℕ
-cycleChecks s = check 13 (cyclicFault s) >> accept (chains s)
+abbrev pub cycleChecks : (ℕ → ℕ) → List ℕ → Decision ℕ
+cycleChecks at s = check 13 (cyclicFault at s) >> accept (chains s)
 
-abbrev pub sharedChecks : List ℕ → Decision ℕ
-sharedChecks s = check 12 (sharedFault s) >> cycleChecks s
+abbrev pub sharedChecks : (ℕ → ℕ) → List ℕ → Decision ℕ
+sharedChecks at s = check 12 (sharedFault at s) >> cycleChecks at s
 
 -- what one pass for checks 11 and 12 says: f and g are what they look for, and n is the number of entries that end a chain
 abbrev pub passOf : Found → Found → ℕ → Pass
@@ -90,11 +90,11 @@ pub record LinkDecision (d : Decision ℕ) (s : List ℕ) (m : ℕ) (r : Links) 
   pub holds : buffer ≡ held d s m
 
 -- check 13, and checks 11 to 13, with a buffer of m places
-abbrev pub CyclesAnswered : List ℕ → ℕ → Links → List ℕ → Type 0
-CyclesAnswered s m r buffer = LinkDecision (cycleChecks s) s m r buffer
+abbrev pub CyclesAnswered : (ℕ → ℕ) → List ℕ → ℕ → Links → List ℕ → Type 0
+CyclesAnswered at s m r buffer = LinkDecision (cycleChecks at s) s m r buffer
 
-abbrev pub LinksAnswered : List ℕ → ℕ → Links → List ℕ → Type 0
-LinksAnswered s m r buffer = LinkDecision (linkChecks s) s m r buffer
+abbrev pub LinksAnswered : (ℕ → ℕ) → List ℕ → ℕ → Links → List ℕ → Type 0
+LinksAnswered at s m r buffer = LinkDecision (linkChecks at s) s m r buffer
 
 -- every next index is above its own; the end is above all
 abbrev pub Forward : List ℕ → Type 0

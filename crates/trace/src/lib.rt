@@ -6,6 +6,8 @@ ghost use Prim.Native.Nat.{_*_, _<_};
 ghost use lib.ListN.{length};
 ghost use Rattle.lists.specs.Private.{foundBelow};
 ghost use Rattle.little_endian.specs.Number.{le};
+ghost use Rattle.layout.specs.Head.{entryOffset};
+ghost use Rattle.incremental.specs.Decision.{refusal};
 ghost use Rattle.trace.specs.Links.{end, nexts, filled, predecessors, LinkAnswer};
 ghost use Rattle.trace.specs.Private.{Distinct, Forward, firstCyclic, LinkedBuffer, FilledBuffer, FilledLinked};
 ghost use Rattle.trace.specs.Private.{TableBuilt, Stored, Passed, CyclesAnswered, LinksAnswered};
@@ -24,8 +26,8 @@ pub enum Links {
 // What the pass for checks 11 and 12 finds: the first entry astray, the smallest entry that two entries name, or the number of
 // entries that end a chain.
 enum Pass {
-    Astray(usize),
-    Shared(usize),
+    Astray(u32),
+    Shared(u32),
     Clear(usize),
 }
 
@@ -90,14 +92,14 @@ fn store_predecessors(section: &[u8], size: u16, entries: u32, buffer: &mut [u32
             ends += 1;
         } else {
             if entries <= next {
-                return Pass::Astray(i as usize);
+                return Pass::Astray(i);
             }
         }
         least = store_predecessor(buffer, i, next, least);
         i += 1;
     }
     if least < entries {
-        return Pass::Shared(least as usize);
+        return Pass::Shared(least);
     }
     Pass::Clear(ends)
 }
@@ -145,18 +147,29 @@ fn find_cycle(section: &[u8], size: u16, entries: u32, buffer: &mut [u32]) -> Fo
     first_cyclic(section, size, entries, buffer)
 }
 
+// The refusal of a check at entry i, of entries of that size from `start`.
+fn refused(number: u32, start: u32, size: u16, i: u32) -> Links
+    ensures { λ r. ⌜ r ≡ Links.Refused (refusal number i (entryOffset start size i)) ⌝ }
+{
+    Links::Refused(incremental::refuse(number, i as usize, layout::entry_offset(start, size, i)))
+}
+
 // Check 13, and the table of predecessors built again where it passes. `ends` is the number of entries that end a chain.
-fn check_cycles(section: &[u8], size: u16, entries: u32, ends: usize, buffer: &mut [u32]) -> Links
+fn check_cycles(
+    section: &[u8],
+    start: u32,
+    size: u16,
+    entries: u32,
+    ends: usize,
+    buffer: &mut [u32],
+) -> Links
     requires { ⌜ TableBuilt (nexts (now section) size entries) ends (now buffer) ⌝ }
-    ensures { λ r. ⌜ CyclesAnswered (nexts (now (section .entry)) size entries) (length (now (buffer .entry))) r (now (buffer .exit)) ⌝ }
+    ensures { λ r. ⌜ CyclesAnswered (entryOffset start size) (nexts (now (section .entry)) size entries) (length (now (buffer .entry))) r (now (buffer .exit)) ⌝ }
 {
     let found = find_cycle(section, size, entries, buffer);
     if let Found::At(i) = found {
         fill(buffer);
-        return Links::Refused(Refusal {
-            number: 13,
-            index: i,
-        });
+        return refused(13, start, size, i as u32);
     }
     build_table(section, size, entries, buffer);
     Links::Chains(ends)
@@ -177,53 +190,57 @@ fn leads_on(section: &[u8], size: u16, entries: u32) -> bool
 }
 
 // Check 13. Links that only lead on need no walk, and the table stands as it is.
-fn check_order(section: &[u8], size: u16, entries: u32, ends: usize, buffer: &mut [u32]) -> Links
+fn check_order(
+    section: &[u8],
+    start: u32,
+    size: u16,
+    entries: u32,
+    ends: usize,
+    buffer: &mut [u32],
+) -> Links
     requires { ⌜ TableBuilt (nexts (now section) size entries) ends (now buffer) ⌝ }
-    ensures { λ r. ⌜ CyclesAnswered (nexts (now (section .entry)) size entries) (length (now (buffer .entry))) r (now (buffer .exit)) ⌝ }
+    ensures { λ r. ⌜ CyclesAnswered (entryOffset start size) (nexts (now (section .entry)) size entries) (length (now (buffer .entry))) r (now (buffer .exit)) ⌝ }
 {
     if leads_on(section, size, entries) {
         return Links::Chains(ends);
     }
-    check_cycles(section, size, entries, ends, buffer)
+    check_cycles(section, start, size, entries, ends, buffer)
 }
 
 // Checks 11 to 13 with a filled buffer.
-fn check_entries(section: &[u8], size: u16, entries: u32, buffer: &mut [u32]) -> Links
+fn check_entries(section: &[u8], start: u32, size: u16, entries: u32, buffer: &mut [u32]) -> Links
     requires { ⌜ FilledBuffer (nexts (now section) size entries) (now buffer) ⌝ }
-    ensures { λ r. ⌜ LinksAnswered (nexts (now (section .entry)) size entries) (length (now (buffer .entry))) r (now (buffer .exit)) ⌝ }
+    ensures { λ r. ⌜ LinksAnswered (entryOffset start size) (nexts (now (section .entry)) size entries) (length (now (buffer .entry))) r (now (buffer .exit)) ⌝ }
 {
     let pass = store_predecessors(section, size, entries, buffer);
     match pass {
         Pass::Astray(i) => {
             fill(buffer);
-            Links::Refused(Refusal {
-                number: 11,
-                index: i,
-            })
+            refused(11, start, size, i)
         }
         Pass::Shared(i) => {
             fill(buffer);
-            Links::Refused(Refusal {
-                number: 12,
-                index: i,
-            })
+            refused(12, start, size, i)
         }
-        Pass::Clear(ends) => check_order(section, size, entries, ends, buffer),
+        Pass::Clear(ends) => check_order(section, start, size, entries, ends, buffer),
     }
 }
 
-// Check 7, then checks 11 to 13 on the section's first `entries` entries. Where all pass, the buffer becomes the table of
+// Check 7, then checks 11 to 13 on the first `entries` entries of a section that starts at `start` in the file. Where all pass, the buffer becomes the table of
 // predecessors, and else every place of it holds END.
-pub fn check_links(section: &[u8], size: u16, entries: u32, predecessors: &mut [u32]) -> Links
-    ensures { λ r. ⌜ LinkAnswer (now (section .entry)) size entries (length (now (predecessors .entry))) r (now (predecessors .exit)) ⌝ }
+pub fn check_links(
+    section: &[u8],
+    start: u32,
+    size: u16,
+    entries: u32,
+    predecessors: &mut [u32],
+) -> Links
+    ensures { λ r. ⌜ LinkAnswer (now (section .entry)) start size entries (length (now (predecessors .entry))) r (now (predecessors .exit)) ⌝ }
 {
     let places = predecessors.len();
     fill(predecessors);
-    if let Fault::At(i) = sections::places_fault(places, entries) {
-        return Links::Refused(Refusal {
-            number: 7,
-            index: i,
-        });
+    if let Fault::At(i, at) = sections::places_fault(places, entries) {
+        return Links::Refused(incremental::refuse(7, i, at));
     }
-    check_entries(section, size, entries, predecessors)
+    check_entries(section, start, size, entries, predecessors)
 }

@@ -1,2 +1,3 @@
 pub mod SoundVolume
 pub mod Laws
+pub mod Fair

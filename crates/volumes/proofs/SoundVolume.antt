@@ -84,47 +84,48 @@ is-step s at d =
     let h = d .inside in
     rw (n, le-ltb (length s) (at + 2) (omega arith), le-ltb (length s) (at + 4 + 2 * le 2 s at) (omega arith), eq-eqb _ _ (d .ended))
 
-directories-are : (s : List ℕ) (i n at : ℕ) → directoryChecks s i n at ≡ accept tt → (k : ℕ) → k < n → SoundDirectory s (directoryAt s at k)
+directories-are : (s : List ℕ) (i place n at : ℕ) → directoryChecks s i place n at ≡ accept tt → (k : ℕ) → k < n → SoundDirectory s (directoryAt s at k)
 unfolding directoryChecks
-directories-are s i zero at e k l = absurd (omega arith)
-directories-are s i (suc n) at e k l = go (stepAt s at) refl e k l (directories-are s i n)
+directories-are s i place zero at e k l = absurd (omega arith)
+directories-are s i place (suc n) at e k l = go (stepAt s at) refl e k l (directories-are s i place n)
   where
-    go : (x : Step) → stepAt s at ≡ x → onStep i x (λ next. directoryChecks s i n next) ≡ accept tt → (k : ℕ) → k < suc n
-        → ((next : ℕ) → directoryChecks s i n next ≡ accept tt → (k : ℕ) → k < n → SoundDirectory s (directoryAt s next k))
+    go : (x : Step) → stepAt s at ≡ x → onStep i place x (λ next. directoryChecks s i place n next) ≡ accept tt → (k : ℕ) → k < suc n
+        → ((next : ℕ) → directoryChecks s i place n next ≡ accept tt → (k : ℕ) → k < n → SoundDirectory s (directoryAt s next k))
         → SoundDirectory s (directoryAt s at k)
     go (Next c) q h zero l ih = step-is s at c q .0
     go (Next c) q h (suc k) l ih = rw (step-is s at c q .1) at (ih (c .at) h k (omega arith))
     go Past q h k l ih = let z : _≡_ {A = ℕ} 0 1 = cc in absurd (omega arith)
     go Unended q h k l ih = let z : _≡_ {A = ℕ} 0 1 = cc in absurd (omega arith)
 
-are-directories : (s : List ℕ) (i n at : ℕ) → ((k : ℕ) → k < n → SoundDirectory s (directoryAt s at k)) → directoryChecks s i n at ≡ accept tt
+are-directories : (s : List ℕ) (i place n at : ℕ) → ((k : ℕ) → k < n → SoundDirectory s (directoryAt s at k)) → directoryChecks s i place n at ≡ accept tt
 unfolding directoryChecks
-are-directories s i zero at f = refl
-are-directories s i (suc n) at f =
-    rw (directoryChecks, is-step s at (f 0 (omega arith))) (are-directories s i n (at + 2 + 2 * le 2 s at + 2) (λ k l. f (suc k) (omega arith)))
+are-directories s i place zero at f = refl
+are-directories s i place (suc n) at f =
+    rw (directoryChecks, is-step s at (f 0 (omega arith))) (are-directories s i place n (at + 2 + 2 * le 2 s at + 2) (λ k l. f (suc k) (omega arith)))
 
 -- ---- one volume
-check-passes : (i : ℕ) (b : Bool) (later : Decision Unit) → (check 14 (faultAt i (not b)) >> later) ≡ accept tt → (b ≡ true) × (later ≡ accept tt)
-check-passes i true later e = (refl, e)
-check-passes i false later e = let z : _≡_ {A = ℕ} 0 1 = cc in absurd (omega arith)
+check-passes : (i place : ℕ) (b : Bool) (later : Decision Unit) → (check 14 (faultAt i place (not b)) >> later) ≡ accept tt
+    → (b ≡ true) × (later ≡ accept tt)
+check-passes i place true later e = (refl, e)
+check-passes i place false later e = let z : _≡_ {A = ℕ} 0 1 = cc in absurd (omega arith)
 
-volume-is : (s : List ℕ) (i e : ℕ) → entryChecks s i e ≡ accept tt → SoundVolume s e
+volume-is : (s : List ℕ) (i place e : ℕ) → entryChecks s i place e ≡ accept tt → SoundVolume s e
 unfolding entryChecks
-volume-is s i e h =
-    let a = check-passes i (pathFits s e) _ h in
-    let b = check-passes i (referencesFit s e) _ (a .1) in
-    record { path = path-is s e (a .0); references = references-is s e (b .0); directories = directories-are s i _ _ (b .1) }
+volume-is s i place e h =
+    let a = check-passes i place (pathFits s e) _ h in
+    let b = check-passes i place (referencesFit s e) _ (a .1) in
+    record { path = path-is s e (a .0); references = references-is s e (b .0); directories = directories-are s i place _ _ (b .1) }
 
-is-volume : (s : List ℕ) (i e : ℕ) → SoundVolume s e → entryChecks s i e ≡ accept tt
-is-volume s i e v =
-    sym (entry-directories s i e (is-path s e (v .path)) (is-references s e (v .references))) ∙ are-directories s i _ _ (v .directories)
+is-volume : (s : List ℕ) (i place e : ℕ) → SoundVolume s e → entryChecks s i place e ≡ accept tt
+is-volume s i place e v =
+    sym (entry-directories s i place e (is-path s e (v .path)) (is-references s e (v .references))) ∙ are-directories s i place _ _ (v .directories)
 
-pub sound-volume : (s : List ℕ) (i e : ℕ) → (entryChecks s i e ≡ accept tt) ↔ SoundVolume s e
-sound-volume s i e = (volume-is s i e, is-volume s i e)
+pub sound-volume : (s : List ℕ) (i place e : ℕ) → (entryChecks s i place e ≡ accept tt) ↔ SoundVolume s e
+sound-volume s i place e = (volume-is s i place e, is-volume s i place e)
 
 -- the volumes pass checks 14 and 15 exactly when each of them is sound
-pub volumes-sound : (s : List ℕ) (v : Layout) (n : ℕ) → (volumesFrom s v n 0 ≡ accept tt) ↔ ((i : ℕ) → i < n → SoundVolume s (entryAt v i))
-volumes-sound s v n = (
-  (λ e i l. volume-is s i (entryAt v i) (volumes-each s v n .0 e i l)),
-  (λ f. volumes-each s v n .1 (λ i l. is-volume s i (entryAt v i) (f i l))),
+pub volumes-sound : (s : List ℕ) (v : Layout) (start n : ℕ) → (volumesFrom s v start n 0 ≡ accept tt) ↔ ((i : ℕ) → i < n → SoundVolume s (entryAt v i))
+volumes-sound s v start n = (
+  (λ e i l. volume-is s i _ (entryAt v i) (volumes-each s v start n .0 e i l)),
+  (λ f. volumes-each s v start n .1 (λ i l. is-volume s i _ (entryAt v i) (f i l))),
 )

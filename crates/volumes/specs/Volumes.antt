@@ -10,6 +10,7 @@ use Rattle.lists.specs.Count.{pick}
 use Rattle.lists.specs.declared.Found.{Found}
 use Rattle.lists.specs.declared.Found.the-variants.{At, Nothing}
 use Rattle.little_endian.specs.Number.{le, zeroUnit}
+use Rattle.layout.specs.Head.{entryOffset}
 use Rattle.layout.specs.Versions.{volumeEntry}
 use Rattle.layout.specs.declared.Layout.{Layout}
 use Rattle.incremental.specs.Decision.{Decision, accept, refuse, refusal, faultAt, check, _>>=_, _>>_}
@@ -78,39 +79,41 @@ stepSaid (Next c) = record { number = 0; values = c .at ∷ [] }
 stepSaid Past = record { number = 14; values = [] }
 stepSaid Unended = record { number = 15; values = [] }
 
--- what a step says of volume i: the later steps decide; 14 for one that runs past the section; 15 for a last unit that isn't zero
-abbrev pub onStep : ℕ → Step → (ℕ → Decision Unit) → Decision Unit
-onStep i (Next c) later = later (c .at)
-onStep i Past later = refuse (refusal 14 i)
-onStep i Unended later = refuse (refusal 15 i)
+-- what a step says of volume i: the later steps decide; 14 for one that runs past the section; 15 for a last unit that isn't zero.
+-- The volume entry starts at `place` in the file: the field at fault of 14 and 15
+abbrev pub onStep : ℕ → ℕ → Step → (ℕ → Decision Unit) → Decision Unit
+onStep i place (Next c) later = later (c .at)
+onStep i place Past later = refuse (refusal 14 i place)
+onStep i place Unended later = refuse (refusal 15 i place)
 
 -- n directory strings of volume i, one after another from a position
-unfoldable pub directoryChecks : List ℕ → ℕ → ℕ → ℕ → Decision Unit
-directoryChecks s i zero at = accept tt
-directoryChecks s i (suc n) at = onStep i (stepAt s at) (λ next. directoryChecks s i n next)
+unfoldable pub directoryChecks : List ℕ → ℕ → ℕ → ℕ → ℕ → Decision Unit
+directoryChecks s i place zero at = accept tt
+directoryChecks s i place (suc n) at = onStep i place (stepAt s at) (λ next. directoryChecks s i place n next)
 
 -- those of the volume entry at e
-abbrev pub directoriesOf : List ℕ → ℕ → ℕ → Decision Unit
-directoriesOf s i e = directoryChecks s i (directoryCount s e) (directoriesAt s e)
+abbrev pub directoriesOf : List ℕ → ℕ → ℕ → ℕ → Decision Unit
+directoriesOf s i place e = directoryChecks s i place (directoryCount s e) (directoriesAt s e)
 
--- 14 and 15 on volume i, whose entry is at e: path, references, directories
-unfoldable pub entryChecks : List ℕ → ℕ → ℕ → Decision Unit
-entryChecks s i e = do
-  check 14 (faultAt i (not (pathFits s e)))
-  check 14 (faultAt i (not (referencesFit s e)))
-  directoriesOf s i e
+-- 14 and 15 on volume i, whose entry is at e in the section: path, references, directories
+unfoldable pub entryChecks : List ℕ → ℕ → ℕ → ℕ → Decision Unit
+entryChecks s i place e = do
+  check 14 (faultAt i place (not (pathFits s e)))
+  check 14 (faultAt i place (not (referencesFit s e)))
+  directoriesOf s i place e
 
-abbrev pub volumeChecks : List ℕ → Layout → ℕ → Decision Unit
-volumeChecks s l i = entryChecks s i (entryAt l i)
+-- 14 and 15 on volume i of a section that starts at `start` in the file
+abbrev pub volumeChecks : List ℕ → Layout → ℕ → ℕ → Decision Unit
+volumeChecks s l start i = entryChecks s i (entryOffset start (volumeEntry l) i) (entryAt l i)
 
 -- the n volumes from volume i in turn
-unfoldable pub volumesFrom : List ℕ → Layout → ℕ → ℕ → Decision Unit
-volumesFrom s l zero i = accept tt
-volumesFrom s l (suc n) i = volumeChecks s l i >> volumesFrom s l n (suc i)
+unfoldable pub volumesFrom : List ℕ → Layout → ℕ → ℕ → ℕ → Decision Unit
+volumesFrom s l start zero i = accept tt
+volumesFrom s l start (suc n) i = volumeChecks s l start i >> volumesFrom s l start n (suc i)
 
 -- 14 and 15 on n volumes, after check 8
-unfoldable pub volumesChecks : List ℕ → Layout → ℕ → Decision Unit
-volumesChecks s l n = check 8 (entriesFault n (volumeEntry l) (length s)) >> volumesFrom s l n 0
+unfoldable pub volumesChecks : List ℕ → Layout → ℕ → ℕ → Decision Unit
+volumesChecks s l start n = check 8 (entriesFault n (volumeEntry l) (length s)) >> volumesFrom s l start n 0
 
 -- the units of the path before its first zero unit, or all of them
 abbrev pub orAll : Found → ℕ → ℕ

@@ -9,7 +9,6 @@ ghost use Rattle.volumes.specs.Volumes.{stepAt, stepSaid, entryAt, volum
 ghost use Rattle.volumes.specs.Volumes.{pathAt, pathCount, pathUnits, referenceCount, referencesFit, directoriesOf, entryChecks};
 use incremental::Checked;
 use incremental::Fault;
-use incremental::Refusal;
 use layout::Layout;
 use lists::Found;
 
@@ -66,14 +65,11 @@ pub struct Reference {
     pub sequence: u16,
 }
 
-// The refusal of a check for volume i.
-fn refused(number: u32, i: u32) -> Checked
-    ensures { λ r. ⌜ r ≡ Checked.Refused (refusal number i) ⌝ }
+// The refusal of a check for volume i, whose entry starts at `place` in the file.
+fn refused(number: u32, i: u32, place: usize) -> Checked
+    ensures { λ r. ⌜ r ≡ Checked.Refused (refusal number i place) ⌝ }
 {
-    Checked::Refused(Refusal {
-        number: number,
-        index: i as usize,
-    })
+    Checked::Refused(incremental::refuse(number, i as usize, place))
 }
 
 // Where volume entry i starts: below 2^48, so that no sum with it wraps.
@@ -130,9 +126,9 @@ fn references_fit(section: &[u8], entry: usize) -> bool
 
 // A step over each directory string of volume i. Each step goes on by at least 4 bytes, so the section's end stops a count
 // that is too high.
-fn check_directories(section: &[u8], i: u32, entry: usize) -> Checked
+fn check_directories(section: &[u8], i: u32, place: usize, entry: usize) -> Checked
     requires { ⌜ entry < 2 ^ 48 ⌝ }
-    ensures { λ r. ⌜ checkedOf r ≡ directoriesOf (now (section .entry)) i entry ⌝ }
+    ensures { λ r. ⌜ checkedOf r ≡ directoriesOf (now (section .entry)) i place entry ⌝ }
 {
     let count = little_endian::u32_at(section, entry + 32);
     let start = little_endian::u32_at(section, entry + 28) as usize;
@@ -143,8 +139,8 @@ fn check_directories(section: &[u8], i: u32, entry: usize) -> Checked
             Step::Next(next) => {
                 cursor = next;
             }
-            Step::Past => return refused(14, i),
-            Step::Unended => return refused(15, i),
+            Step::Past => return refused(14, i, place),
+            Step::Unended => return refused(15, i, place),
         }
         done += 1;
     }
@@ -152,40 +148,38 @@ fn check_directories(section: &[u8], i: u32, entry: usize) -> Checked
 }
 
 // Path, references, directories of volume i, in this order.
-fn check_entry(section: &[u8], i: u32, entry: usize) -> Checked
+fn check_entry(section: &[u8], i: u32, place: usize, entry: usize) -> Checked
     requires { ⌜ entry < 2 ^ 48 ⌝ }
-    ensures { λ r. ⌜ checkedOf r ≡ entryChecks (now (section .entry)) i entry ⌝ }
+    ensures { λ r. ⌜ checkedOf r ≡ entryChecks (now (section .entry)) i place entry ⌝ }
 {
     if !path_fits(section, entry) {
-        return refused(14, i);
+        return refused(14, i, place);
     }
     if !references_fit(section, entry) {
-        return refused(14, i);
+        return refused(14, i, place);
     }
-    check_directories(section, i, entry)
+    check_directories(section, i, place, entry)
 }
 
-// Checks 14 and 15 on volume i.
-pub fn check_volume(section: &[u8], l: Layout, i: u32) -> Checked
-    ensures { λ r. ⌜ checkedOf r ≡ volumeChecks (now (section .entry)) l i ⌝ }
+// Checks 14 and 15 on volume i of a section that starts at `start` in the file.
+pub fn check_volume(section: &[u8], l: Layout, start: u32, i: u32) -> Checked
+    ensures { λ r. ⌜ checkedOf r ≡ volumeChecks (now (section .entry)) l start i ⌝ }
 {
-    check_entry(section, i, entry_at(l, i))
+    let place = layout::entry_offset(start, l.volume_entry, i);
+    check_entry(section, i, place, entry_at(l, i))
 }
 
-// Check 8, then checks 14 and 15 on each of `count` volumes.
-pub fn check_volumes(section: &[u8], l: Layout, count: u32) -> Checked
-    ensures { λ r. ⌜ checkedOf r ≡ volumesChecks (now (section .entry)) l count ⌝ }
+// Check 8, then checks 14 and 15 on each of `count` volumes of a section that starts at `start` in the file.
+pub fn check_volumes(section: &[u8], l: Layout, start: u32, count: u32) -> Checked
+    ensures { λ r. ⌜ checkedOf r ≡ volumesChecks (now (section .entry)) l start count ⌝ }
 {
     let size = l.volume_entry;
-    if let Fault::At(k) = sections::entries_fault(count, size, section.len()) {
-        return Checked::Refused(Refusal {
-            number: 8,
-            index: k,
-        });
+    if let Fault::At(k, at) = sections::entries_fault(count, size, section.len()) {
+        return Checked::Refused(incremental::refuse(8, k, at));
     }
     let mut i = 0;
     while i < count {
-        let checked = check_entry(section, i, i as usize * (size as usize));
+        let checked = check_volume(section, l, start, i);
         if let Checked::Refused(refusal) = checked {
             return Checked::Refused(refusal);
         }

@@ -48,7 +48,7 @@ fn main() -> ExitCode {
             ExitCode::SUCCESS
         }
         Err(refusal) => {
-            println!("refused {} {}", refusal.number, refusal.index);
+            println!("refused {} {} at {}", refusal.number, refusal.index, refusal.offset);
             ExitCode::FAILURE
         }
     }

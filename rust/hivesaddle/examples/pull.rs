@@ -82,7 +82,8 @@ impl<L: Read> Pull<L> {
     }
 
     fn refused(&self, refusal: &Refusal) -> bool {
-        println!("{} bytes: refused {} {}", self.have, refusal.number, refusal.index);
+        let Refusal { number, index, offset } = refusal;
+        println!("{} bytes: refused {number} {index} at {offset}", self.have);
         false
     }
 }

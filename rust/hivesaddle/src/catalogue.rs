@@ -22,14 +22,15 @@ pub struct CatalogueFields {
 /// assert_eq!(fields.stored_hash, 65);
 /// assert_eq!(fields.run_count, 1);
 /// assert_eq!(fields.version, 17);
-/// assert_eq!(hivesaddle::catalogue_read(b"no line").unwrap_err().number, 18);
+/// let refusal = hivesaddle::catalogue_read(b"no line").unwrap_err();
+/// assert_eq!((refusal.number, refusal.index, refusal.offset), (18, 0, 0));
 /// ```
 pub fn catalogue_read(line: &[u8]) -> Result<CatalogueFields, Refusal> {
     let mut out = [0; 4];
     let number =
         unsafe { raw::hs_catalogue_read(line.as_ptr(), line.len(), out.as_mut_ptr(), out.len()) };
     if number != 0 {
-        return Err(Refusal { number, index: 0 });
+        return Err(Refusal { number, index: 0, offset: 0 });
     }
     // Each field is a number of at most 32 bits.
     Ok(CatalogueFields {
@@ -64,6 +65,6 @@ pub fn catalogue_write(fields: CatalogueFields, output: &mut [u8]) -> Result<(),
     };
     match number {
         0 => Ok(()),
-        number => Err(Refusal { number, index: 0 }),
+        number => Err(Refusal { number, index: 0, offset: 0 }),
     }
 }

@@ -20,8 +20,9 @@ pub const HS_METRICS_COUNT: usize = 9;
 pub const HS_TRACE_COUNT: usize = 10;
 pub const HS_VOLUME_COUNT: usize = 11;
 pub const HS_CHAIN_COUNT: usize = 12;
+pub const HS_OFFSET: usize = 13;
 /// The length of an `out` that holds them all.
-pub const HS_READER_OUT: usize = 13;
+pub const HS_READER_OUT: usize = 14;
 
 /// In a slot of `predecessors`: no entry.
 pub const HS_NONE: u32 = 4294967295;

@@ -26,12 +26,15 @@ pub use readers::{read_file, read_file_alloc, read_prefix, FileContents, Record,
 /// after an answer that is no acceptance.
 pub const NONE: u32 = raw::HS_NONE;
 
-/// A numbered refusal and what it is about. The README says what to do about
-/// each number.
+/// A numbered refusal, what it is about, and where in the file to look. The
+/// README says what to do about each number.
 #[derive(Clone, Copy, Debug, PartialEq, Eq)]
 pub struct Refusal {
     /// The number of the check that was not passed.
     pub number: u32,
     /// The section, entry or volume at fault; 0 where there is none to name.
     pub index: u64,
+    /// Where the field at fault stands in the file; 0 for 18 and 19, which
+    /// are about no file.
+    pub offset: u64,
 }

@@ -134,7 +134,7 @@ pub fn read_file(file: &[u8], predecessors: &mut [u32]) -> Result<Record, Refusa
 /// // Entry 2 names itself as next.
 /// file[148 + 24] = 2;
 /// let refusal = hivesaddle::read_file_alloc(&file).unwrap_err();
-/// assert_eq!((refusal.number, refusal.index), (13, 2));
+/// assert_eq!((refusal.number, refusal.index, refusal.offset), (13, 2, 148 + 24));
 /// ```
 pub fn read_file_alloc(file: &[u8]) -> Result<FileContents, Refusal> {
     let mut predecessors = vec![0; places(file).unwrap_or(0)];
@@ -146,7 +146,8 @@ fn verdict(answer: u32, out: &[u64; HS_READER_OUT]) -> Verdict {
     match answer {
         HS_ACCEPTED => Verdict::Accepted(record(out)),
         HS_REFUSED => {
-            Verdict::Refused(Refusal { number: out[HS_NUMBER] as u32, index: out[HS_INDEX] })
+            let [number, index, offset] = [out[HS_NUMBER], out[HS_INDEX], out[HS_OFFSET]];
+            Verdict::Refused(Refusal { number: number as u32, index, offset })
         }
         HS_WANTED => Verdict::Wanted(out[HS_BYTES_WANTED]),
         other => unreachable!("no such answer: {other}"),

@@ -25,6 +25,7 @@ pub fn numbers_of(verdict: &Verdict) -> (u32, [u64; HS_READER_OUT]) {
         Verdict::Refused(refusal) => {
             out[HS_NUMBER] = refusal.number;
             out[HS_INDEX] = refusal.index;
+            out[HS_OFFSET] = refusal.offset;
             HS_REFUSED
         }
         Verdict::Wanted(bytes) => {

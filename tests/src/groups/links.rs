@@ -108,7 +108,7 @@ impl Links<'_> {
             compare_reader(&mut self.random, self.tally, &WHOLE_READER, &answer, &file);
         }
         for places in [0, LONG - 1] {
-            let verdict = Verdict::Refused(Refusal { number: 7, index: 0 });
+            let verdict = Verdict::Refused(Refusal { number: 7, index: 0, offset: 96 });
             let answer = Answer { verdict, predecessors: vec![END; places] };
             compare_reader(&mut self.random, self.tally, &PREFIX_READER, &answer, &file);
             compare_reader(&mut self.random, self.tally, &WHOLE_READER, &answer, &file);
@@ -131,7 +131,10 @@ impl Long {
     fn answer(&self, file: &[u8], places: usize) -> Answer {
         let mut predecessors = vec![END; places];
         let verdict = match self.says {
-            Err((number, index)) => Verdict::Refused(Refusal { number, index }),
+            Err((number, index)) => {
+                let offset = section(file, TRACE).start + 12 * index;
+                Verdict::Refused(Refusal { number, index, offset })
+            }
             Ok(chain_count) => {
                 for (entry, &link) in self.links.iter().enumerate() {
                     if link != END {

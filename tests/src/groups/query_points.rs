@@ -8,6 +8,7 @@ use crate::tally::Tally;
 use hivesaddle::raw;
 use hivesaddle::{
     entry_name, find_path, places, program_name, read_file_alloc, reference, volume, FileContents,
+    Refusal,
 };
 use std::ptr::{null, null_mut};
 
@@ -103,18 +104,16 @@ fn most_places(tally: &mut Tally) {
     set_32(&mut file, 92, 148);
     set_32(&mut file, 96, 1_398_088);
     needs(tally, "the most that can be", &file, Some(1_398_088));
-    let refusal = read_file_alloc(&file).map_err(|refusal| (refusal.number, refusal.index));
-    tally.named("the most, on a head alone", &Err((16, 0)), &refusal);
+    let contents = read_file_alloc(&file);
+    tally.named("the most, on a head alone", &refused(16, 0, 12), &contents);
     set_32(&mut file, 96, 1_398_089);
     needs(tally, "one more than can be", &file, None);
-    let refusal = read_file_alloc(&file).map_err(|refusal| (refusal.number, refusal.index));
-    tally.named("one more, read", &Err((5, 2)), &refusal);
+    tally.named("one more, read", &refused(5, 2, 92), &read_file_alloc(&file));
 }
 
 fn places_allocated(tally: &mut Tally) {
     let contents = |links: &[u32]| read_file_alloc(&with_links(links));
     let table = |contents: FileContents| contents.predecessors;
-    let refusal = |number, index| Err(hivesaddle::Refusal { number, index });
     let sound: [(&[u32], &[u32]); 3] =
         [(&[], &[]), (&[END], &[END]), (&[3, END, END, 1], &[END, 3, END, 0])];
     for (links, predecessors) in sound {
@@ -123,13 +122,17 @@ fn places_allocated(tally: &mut Tally) {
         let count = contents(links).map(|contents| contents.record.trace_count as usize);
         tally.named(&name, &Ok(links.len()), &count);
     }
-    tally.named("a cycle, slots allocated", &refusal(13, 0), &contents(&[1, 0]).map(table));
+    tally.named("a cycle, slots allocated", &refused(13, 0, 148), &contents(&[1, 0]));
     let mut file = with_links(&[END, END]);
     file.push(0);
-    tally.named("too long, slots allocated", &refusal(17, 0), &read_file_alloc(&file).map(table));
-    let cut = read_file_alloc(&file[..171]).map(table);
-    tally.named("too short, slots allocated", &refusal(16, 0), &cut);
-    tally.named("nothing, slots allocated", &refusal(16, 0), &read_file_alloc(&[]).map(table));
+    tally.named("too long, slots allocated", &refused(17, 0, 12), &read_file_alloc(&file));
+    let cut = read_file_alloc(&file[..171]);
+    tally.named("too short, slots allocated", &refused(16, 0, 12), &cut);
+    tally.named("nothing, slots allocated", &refused(16, 0, 12), &read_file_alloc(&[]));
+}
+
+fn refused(number: u32, index: u64, offset: u64) -> Result<FileContents, Refusal> {
+    Err(Refusal { number, index, offset })
 }
 
 fn program_names(tally: &mut Tally) {

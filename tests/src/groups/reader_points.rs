@@ -23,13 +23,15 @@ pub fn run(tally: &mut Tally) {
     trace_links(tally);
     order_of_answers(tally);
     volumes(tally);
+    offsets_behind_the_head(tally);
     complete_files(tally);
     largest_files(tally);
     null_pointers(tally);
 }
 
-fn refused(number: u64, index: u64) -> Verdict {
-    Verdict::Refused(Refusal { number, index })
+/// The offset is that of the field at fault, worked out by hand.
+fn refused(number: u64, index: u64, offset: u64) -> Verdict {
+    Verdict::Refused(Refusal { number, index, offset })
 }
 
 /// A verdict on a file without links: every slot is filled.
@@ -71,24 +73,24 @@ fn first_bytes(tally: &mut Tally) {
     for (length, required) in wanted {
         let name = format!("{length} bytes want {required}");
         part(tally, &name, &file[..length], Verdict::Wanted(required));
-        whole(tally, &name, &file[..length], refused(16, 0));
+        whole(tally, &name, &file[..length], refused(16, 0, 12));
     }
-    part(tally, "version 24 in four bytes", &[24, 0, 0, 0], refused(1, 0));
-    part(tally, "version 30", &[30, 0, 0, 0], refused(1, 0));
-    part(tally, "version 17 and 256", &[17, 1, 0, 0], refused(1, 0));
-    part(tally, "wrong signature", b"\x11\0\0\0SCCB", refused(2, 0));
-    part(tally, "both wrong", b"\x18\0\0\0SCCB", refused(1, 0));
+    part(tally, "version 24 in four bytes", &[24, 0, 0, 0], refused(1, 0, 0));
+    part(tally, "version 30", &[30, 0, 0, 0], refused(1, 0, 0));
+    part(tally, "version 17 and 256", &[17, 1, 0, 0], refused(1, 0, 0));
+    part(tally, "wrong signature", b"\x11\0\0\0SCCB", refused(2, 0, 4));
+    part(tally, "both wrong", b"\x18\0\0\0SCCB", refused(1, 0, 0));
 }
 
 fn sizes(tally: &mut Tally) {
     for (version, head_end) in HEADS {
         let edges = [
-            (0, refused(3, 0)),
-            (head_end - 1, refused(3, 0)),
+            (0, refused(3, 0, 12)),
+            (head_end - 1, refused(3, 0, 12)),
             (head_end, Verdict::Wanted(76)),
             (16_777_215, Verdict::Wanted(76)),
-            (16_777_216, refused(3, 0)),
-            (u32::MAX, refused(3, 0)),
+            (16_777_216, refused(3, 0, 12)),
+            (u32::MAX, refused(3, 0, 12)),
         ];
         for (size, verdict) in edges {
             let mut file = bare(version, 0);
@@ -124,7 +126,7 @@ fn program_names(tally: &mut Tally) {
     for place in 0..30 {
         set_16(&mut file, 16 + 2 * place, 0x0100);
     }
-    part(tally, "a name of 30 units", &file[..76], refused(4, 0));
+    part(tally, "a name of 30 units", &file[..76], refused(4, 0, 16));
     part(tally, "30 units, one byte short", &file[..75], Verdict::Wanted(76));
 }
 
@@ -136,14 +138,29 @@ struct Alone {
     count_field: usize,
     count: u32,
     bytes: u32,
-    /// The check that finds something else to refuse once it lies inside: one
-    /// entry has no strings for its name, and one link of 0 is a cycle.
-    otherwise: Option<u64>,
+    /// The check that finds something else to refuse once it lies inside, and
+    /// the field in the section: one entry has no strings for its name, and
+    /// one link of 0 is a cycle.
+    otherwise: Option<(u64, u64)>,
 }
 
 const ALONE: [Alone; 4] = [
-    Alone { which: 1, offset_field: 84, count_field: 88, count: 1, bytes: 20, otherwise: Some(9) },
-    Alone { which: 2, offset_field: 92, count_field: 96, count: 1, bytes: 12, otherwise: Some(13) },
+    Alone {
+        which: 1,
+        offset_field: 84,
+        count_field: 88,
+        count: 1,
+        bytes: 20,
+        otherwise: Some((9, 8)),
+    },
+    Alone {
+        which: 2,
+        offset_field: 92,
+        count_field: 96,
+        count: 1,
+        bytes: 12,
+        otherwise: Some((13, 0)),
+    },
     Alone { which: 3, offset_field: 100, count_field: 104, count: 5, bytes: 5, otherwise: None },
     Alone { which: 4, offset_field: 108, count_field: 116, count: 7, bytes: 7, otherwise: None },
 ];
@@ -153,17 +170,20 @@ fn section_ends(tally: &mut Tally) {
         let mut file = bare(17, 40);
         set_32(&mut file, count_field, count);
         let accepted = Verdict::Accepted(bare_record(&file));
-        let inside = otherwise.map_or(accepted, |number| refused(number, 0));
+        let inside = |start: u32| match otherwise {
+            Some((number, field)) => refused(number, 0, start as u64 + field),
+            None => accepted,
+        };
         let cases = [
-            ("starting at H", 148, inside),
-            ("starting at H - 1", 147, refused(5, which)),
-            ("ending at S", 188 - bytes, inside),
-            ("ending at S + 1", 189 - bytes, refused(5, which)),
-            ("starting at 0", 0, refused(5, which)),
-            ("starting at S", 188, refused(5, which)),
-            ("ending at 2 to the 32", bytes.wrapping_neg(), refused(5, which)),
-            ("wrapping to H", 148u32.wrapping_sub(bytes), refused(5, which)),
-            ("starting at the last number", u32::MAX, refused(5, which)),
+            ("starting at H", 148, inside(148)),
+            ("starting at H - 1", 147, refused(5, which, offset_field as u64)),
+            ("ending at S", 188 - bytes, inside(188 - bytes)),
+            ("ending at S + 1", 189 - bytes, refused(5, which, offset_field as u64)),
+            ("starting at 0", 0, refused(5, which, offset_field as u64)),
+            ("starting at S", 188, refused(5, which, offset_field as u64)),
+            ("ending at 2 to the 32", bytes.wrapping_neg(), refused(5, which, offset_field as u64)),
+            ("wrapping to H", 148u32.wrapping_sub(bytes), refused(5, which, offset_field as u64)),
+            ("starting at the last number", u32::MAX, refused(5, which, offset_field as u64)),
         ];
         for (name, offset, verdict) in cases {
             set_32(&mut file, offset_field, offset);
@@ -183,10 +203,10 @@ fn sections_side_by_side(tally: &mut Tally) {
     let apart = Verdict::Accepted(bare_record(&file));
     let cases = [
         (156, apart),
-        (157, refused(6, 4)),
-        (160, refused(6, 4)),
-        (162, refused(6, 4)),
-        (167, refused(6, 4)),
+        (157, refused(6, 4, 108)),
+        (160, refused(6, 4, 108)),
+        (162, refused(6, 4, 108)),
+        (167, refused(6, 4, 108)),
         (168, apart),
     ];
     for (offset, verdict) in cases {
@@ -199,25 +219,25 @@ fn sections_side_by_side(tally: &mut Tally) {
     }
     set_32(&mut file, 88, 1);
     set_32(&mut file, 96, 1);
-    part(tally, "four sections on one spot", &file, refused(6, 2));
+    part(tally, "four sections on one spot", &file, refused(6, 2, 92));
     set_32(&mut file, 92, 170);
-    part(tally, "the second apart", &file, refused(6, 3));
+    part(tally, "the second apart", &file, refused(6, 3, 100));
 }
 
 /// Products and sums past 32 bits.
 fn huge_sums(tally: &mut Tally) {
     let cases = [
         // Entries of 20 bytes: 24 past 2 to the 32; of 12: 8 past; of 32: none.
-        (17, 88, 214_748_366, refused(5, 1)),
-        (17, 96, 357_913_942, refused(5, 2)),
-        (23, 88, 1 << 27, refused(5, 1)),
-        (26, 88, 1 << 27, refused(5, 1)),
-        (17, 104, u32::MAX, refused(5, 3)),
-        (17, 116, u32::MAX - 147, refused(5, 4)),
+        (17, 88, 214_748_366, refused(5, 1, 84)),
+        (17, 96, 357_913_942, refused(5, 2, 92)),
+        (23, 88, 1 << 27, refused(5, 1, 84)),
+        (26, 88, 1 << 27, refused(5, 1, 84)),
+        (17, 104, u32::MAX, refused(5, 3, 100)),
+        (17, 116, u32::MAX - 147, refused(5, 4, 108)),
         // Volumes of 40 bytes: 24 past 2 to the 32; of 104: 64 past.
-        (17, 112, 107_374_183, refused(8, 0)),
-        (23, 112, 41_297_763, refused(8, 0)),
-        (17, 112, 1, refused(8, 0)),
+        (17, 112, 107_374_183, refused(8, 0, 112)),
+        (23, 112, 41_297_763, refused(8, 0, 112)),
+        (17, 112, 1, refused(8, 0, 112)),
     ];
     for (version, field, number, verdict) in cases {
         let mut file = bare(version, 40);
@@ -272,10 +292,10 @@ fn strings_edges(tally: &mut Tally) {
         ("a unit behind with a low zero byte", 0, 1, b"A\0\0B", 10),
     ];
     for (name, offset, units, strings, number) in unsound {
-        part(tally, name, &one_name(offset, units, strings), refused(number, 0));
+        part(tally, name, &one_name(offset, units, strings), refused(number, 0, 156));
     }
     // 9 is decided as soon as the entries are there.
-    part(tally, "9 before the strings", &one_name(1, 1, b"A\0\0\0")[..168], refused(9, 0));
+    part(tally, "9 before the strings", &one_name(1, 1, b"A\0\0\0")[..168], refused(9, 0, 156));
     two_names(tally);
 }
 
@@ -289,9 +309,9 @@ fn two_names(tally: &mut Tally) {
     file[188..192].copy_from_slice(b"A\0B\0");
     set_32(&mut file, 148 + 12, 1);
     set_32(&mut file, 168 + 8, 3);
-    part(tally, "10 at entry 0, 9 at entry 1", &file, refused(9, 1));
+    part(tally, "10 at entry 0, 9 at entry 1", &file, refused(9, 1, 176));
     set_32(&mut file, 168 + 8, 0);
-    part(tally, "10 at both entries", &file, refused(10, 0));
+    part(tally, "10 at both entries", &file, refused(10, 0, 156));
 }
 
 fn trace_links(tally: &mut Tally) {
@@ -309,8 +329,9 @@ fn trace_links(tally: &mut Tally) {
     ];
     for (links, number, index) in faults {
         let name = format!("links {links:?}");
-        part(tally, &name, &with_links(links), refused(number, index));
-        whole(tally, &name, &with_links(links), refused(number, index));
+        let verdict = refused(number, index, 148 + 12 * index);
+        part(tally, &name, &with_links(links), verdict);
+        whole(tally, &name, &with_links(links), verdict);
     }
     sound_links(tally, &[1, END], 1, &[END, 0]);
     sound_links(tally, &[END, END], 2, &[END, END]);
@@ -330,7 +351,7 @@ fn sound_links(tally: &mut Tally, links: &[u32], chains: u64, predecessors: &[u3
         check_answer(tally, &name, PREFIX_READER, &file, &answer);
         check_answer(tally, &name, WHOLE_READER, &file, &answer);
     }
-    let answer = Answer { verdict: refused(7, 0), predecessors: vec![END; links.len() - 1] };
+    let answer = Answer { verdict: refused(7, 0, 96), predecessors: vec![END; links.len() - 1] };
     let name = format!("links {links:?}, one slot short");
     check_answer(tally, &name, PREFIX_READER, &file, &answer);
     check_answer(tally, &name, WHOLE_READER, &file[..148], &answer);
@@ -349,8 +370,8 @@ fn order_of_answers(tally: &mut Tally) {
     file[180..184].copy_from_slice(b"A\0\0\0");
     part(tally, "a cycle, and no metrics yet", &file[..160], Verdict::Wanted(180));
     part(tally, "a cycle, and no strings yet", &file[..180], Verdict::Wanted(184));
-    part(tally, "a cycle, and all there", &file, refused(13, 0));
-    whole(tally, "a cycle, and no strings", &file[..180], refused(16, 0));
+    part(tally, "a cycle, and all there", &file, refused(13, 0, 148));
+    whole(tally, "a cycle, and no strings", &file[..180], refused(16, 0, 12));
 }
 
 /// The section is 40 bytes and the data.
@@ -393,7 +414,7 @@ fn volumes(tally: &mut Tally) {
     for (fields, data, number) in faults {
         let name = format!("volume {fields:?}, fault {number}");
         let file = one_volume(fields, data);
-        part(tally, &name, &file, refused(number, 0));
+        part(tally, &name, &file, refused(number, 0, 148));
         let required = file.len() as u64;
         part(tally, &name, &file[..file.len() - 1], Verdict::Wanted(required));
     }
@@ -411,16 +432,16 @@ fn volumes_in_turn(tally: &mut Tally) {
     set_32(&mut file, 148 + 32, 1);
     set_32(&mut file, 188 + 4, 100);
     file[148 + 83] = 1;
-    part(tally, "15 in volume 0, 14 in volume 1", &file, refused(15, 0));
+    part(tally, "15 in volume 0, 14 in volume 1", &file, refused(15, 0, 148));
     set_32(&mut file, 148 + 4, 100);
-    part(tally, "14 and 15 in volume 0", &file, refused(14, 0));
+    part(tally, "14 and 15 in volume 0", &file, refused(14, 0, 148));
     set_32(&mut file, 148 + 4, 0);
     set_32(&mut file, 148 + 32, 0);
-    part(tally, "14 in volume 1", &file, refused(14, 1));
+    part(tally, "14 in volume 1", &file, refused(14, 1, 188));
     set_32(&mut file, 188 + 4, 0);
     set_32(&mut file, 188 + 28, 80);
     set_32(&mut file, 188 + 32, 1);
-    part(tally, "15 in volume 1", &file, refused(15, 1));
+    part(tally, "15 in volume 1", &file, refused(15, 1, 188));
 }
 
 /// Strings without metrics and a volumes section without volumes.
@@ -432,8 +453,92 @@ fn not_waited_for(tally: &mut Tally) {
     set_32(&mut file, 116, 20);
     let record = Verdict::Accepted(bare_record(&file));
     part(tally, "sections nothing needs", &file[..148], record);
-    whole(tally, "sections nothing needs, cut", &file[..148], refused(16, 0));
+    whole(tally, "sections nothing needs, cut", &file[..148], refused(16, 0, 12));
     whole(tally, "sections nothing needs, whole", &file, record);
+}
+
+/// Sizes of a version's entries, and where a name's offset stands in one.
+struct Entries {
+    version: u32,
+    head_end: usize,
+    metrics: usize,
+    name_offset: usize,
+    volume: usize,
+}
+
+const ENTRIES: [Entries; 3] = [
+    Entries { version: 17, head_end: 148, metrics: 20, name_offset: 8, volume: 40 },
+    Entries { version: 23, head_end: 156, metrics: 32, name_offset: 12, volume: 104 },
+    Entries { version: 26, head_end: 212, metrics: 32, name_offset: 12, volume: 104 },
+];
+
+/// Three of everything, four bytes apart, and then one fault in the last: the
+/// offset is that of the entry or of its field, in each version.
+fn offsets_behind_the_head(tally: &mut Tally) {
+    for Entries { version, head_end, metrics, name_offset, volume } in ENTRIES {
+        let metrics_start = head_end + 4;
+        let trace_start = metrics_start + 3 * metrics + 4;
+        let strings_start = trace_start + 36 + 4;
+        let volumes_start = strings_start + 4 + 4;
+        let mut sound = bare(version, (volumes_start + 3 * volume - head_end) as u32);
+        let fields = [
+            (84, metrics_start),
+            (88, 3),
+            (92, trace_start),
+            (96, 3),
+            (100, strings_start),
+            (104, 4),
+            (108, volumes_start),
+            (112, 3),
+            (116, 3 * volume),
+        ];
+        for (field, number) in fields {
+            set_32(&mut sound, field, number as u32);
+        }
+        for i in 0..3 {
+            set_32(&mut sound, metrics_start + i * metrics + name_offset + 4, 1);
+            set_32(&mut sound, trace_start + 12 * i, END);
+        }
+        sound[strings_start] = b'A';
+        let record = Record {
+            metrics_count: 3,
+            trace_count: 3,
+            volume_count: 3,
+            chain_count: 3,
+            ..bare_record(&sound)
+        };
+        whole(tally, "three of everything", &sound, Verdict::Accepted(record));
+        let name = metrics_start + 2 * metrics + name_offset;
+        let link = trace_start + 24;
+        let entry = volumes_start + 2 * volume;
+        let cases: [(&str, &[(usize, u32)], u64, u64, usize); 9] = [
+            ("a name offset", &[(name, 1)], 9, 2, name),
+            ("a name length", &[(name + 4, 2)], 9, 2, name),
+            ("a name without its zero", &[(name + 4, 0)], 10, 2, name),
+            ("a wild link", &[(link, 3)], 11, 2, link),
+            ("an entry named twice", &[(link - 24, 2), (link - 12, 2)], 12, 2, link),
+            ("a cycle", &[(link, 2)], 13, 2, link),
+            ("a path", &[(entry + 4, u32::MAX)], 14, 2, entry),
+            ("references", &[(entry + 24, 7)], 14, 2, entry),
+            // Directories at the first volume's creation time: no units, then 1.
+            (
+                "a directory",
+                &[(volumes_start + 8, 1 << 16), (entry + 28, 8), (entry + 32, 1)],
+                15,
+                2,
+                entry,
+            ),
+        ];
+        for (what, damage, number, index, offset) in cases {
+            let mut file = sound.clone();
+            for &(at, value) in damage {
+                set_32(&mut file, at, value);
+            }
+            let verdict = refused(number, index, offset as u64);
+            part(tally, &format!("version {version}, offset of {what}"), &file, verdict);
+            whole(tally, &format!("version {version}, offset of {what}"), &file, verdict);
+        }
+    }
 }
 
 fn complete_files(tally: &mut Tally) {
@@ -442,15 +547,15 @@ fn complete_files(tally: &mut Tally) {
         let record = Verdict::Accepted(bare_record(&file));
         whole(tally, "complete", &file, record);
         let short = file.len() - 1;
-        whole(tally, "one byte short", &file[..short], refused(16, 0));
+        whole(tally, "one byte short", &file[..short], refused(16, 0, 12));
         part(tally, "one byte short", &file[..short], record);
         file.push(1);
-        whole(tally, "one byte more", &file, refused(17, 0));
+        whole(tally, "one byte more", &file, refused(17, 0, 12));
         part(tally, "one byte more", &file, record);
         // A refusal stays, whatever the length.
         set_32(&mut file, 112, 1);
-        whole(tally, "refused and too long", &file, refused(8, 0));
-        whole(tally, "refused and too short", &file[..short], refused(8, 0));
+        whole(tally, "refused and too long", &file, refused(8, 0, 112));
+        whole(tally, "refused and too short", &file[..short], refused(8, 0, 112));
     }
 }
 
@@ -475,7 +580,7 @@ fn largest_files(tally: &mut Tally) {
     let answer = Answer { verdict: Verdict::Accepted(record), predecessors };
     check_answer(tally, "the largest file", WHOLE_READER, &file, &answer);
     set_32(&mut file, 12, 16_777_216);
-    check(tally, "one too large", WHOLE_READER, &file, refused(3, 0));
+    check(tally, "one too large", WHOLE_READER, &file, refused(3, 0, 12));
 }
 
 fn null_pointers(tally: &mut Tally) {

@@ -219,9 +219,11 @@ fn safe_verdict(verdict: hivesaddle::Verdict) -> Verdict {
             volume_count: record.volume_count.into(),
             chain_count: record.chain_count.into(),
         }),
-        hivesaddle::Verdict::Refused(refusal) => {
-            Verdict::Refused(Refusal { number: refusal.number.into(), index: refusal.index })
-        }
+        hivesaddle::Verdict::Refused(refusal) => Verdict::Refused(Refusal {
+            number: refusal.number.into(),
+            index: refusal.index,
+            offset: refusal.offset,
+        }),
         hivesaddle::Verdict::Wanted(bytes) => Verdict::Wanted(bytes),
     }
 }

@@ -9,6 +9,8 @@ use super::volumes;
 pub struct Refusal {
     pub number: u64,
     pub index: u64,
+    /// Where the field at fault stands in the file.
+    pub offset: u64,
 }
 
 /// What a check gives that isn't passed.
@@ -30,37 +32,104 @@ struct Check {
     /// The prefix length at which the check is decided, the paper's reach. The
     /// checks before it are passed.
     required: fn(&[u8]) -> u64,
-    /// The refusal, if there is one. As many bytes as required are there.
-    fault: fn(&Input) -> Option<Refusal>,
+    /// What is at fault, if anything is. As many bytes as required are there.
+    fault: fn(&Input) -> Option<Fault>,
+    /// Where the field at fault stands in the file, for its index.
+    field: fn(&[u8], u64) -> u64,
+}
+
+/// A refusal's number and index.
+pub struct Fault {
+    pub number: u64,
+    pub index: u64,
 }
 
 /// Checks 14 and 15 are one pass over the volumes.
 const CHECKS: [Check; 14] = [
-    Check { number: 1, required: |_| 4, fault: |input| at_zero(1, unknown_version(input)) },
-    Check { number: 2, required: |_| 8, fault: |input| at_zero(2, wrong_signature(input)) },
-    Check { number: 3, required: |_| 16, fault: |input| at_zero(3, wrong_size(input)) },
-    Check { number: 4, required: |_| 76, fault: |input| at_zero(4, endless_name(input)) },
-    Check { number: 5, required: head_end, fault: |input| at(5, section_outside(input)) },
-    Check { number: 6, required: head_end, fault: |input| at(6, section_shared(input)) },
-    Check { number: 7, required: head_end, fault: |input| at_zero(7, too_few_slots(input)) },
-    Check { number: 8, required: head_end, fault: |input| at_zero(8, too_many_volumes(input)) },
-    Check { number: 9, required: metrics_required, fault: |input| at(9, name_outside(input)) },
-    Check { number: 10, required: names_required, fault: |input| at(10, name_unsound(input)) },
-    Check { number: 11, required: trace_required, fault: |input| at(11, trace::wild(input.bytes)) },
+    Check {
+        number: 1,
+        required: |_| 4,
+        fault: |input| at_zero(1, unknown_version(input)),
+        field: |_, _| 0,
+    },
+    Check {
+        number: 2,
+        required: |_| 8,
+        fault: |input| at_zero(2, wrong_signature(input)),
+        field: |_, _| 4,
+    },
+    Check {
+        number: 3,
+        required: |_| 16,
+        fault: |input| at_zero(3, wrong_size(input)),
+        field: |_, _| SIZE_FIELD,
+    },
+    Check {
+        number: 4,
+        required: |_| 76,
+        fault: |input| at_zero(4, endless_name(input)),
+        field: |_, _| 16,
+    },
+    Check {
+        number: 5,
+        required: head_end,
+        fault: |input| at(5, section_outside(input)),
+        field: |_, section| offset_field(section),
+    },
+    Check {
+        number: 6,
+        required: head_end,
+        fault: |input| at(6, section_shared(input)),
+        field: |_, section| offset_field(section),
+    },
+    Check {
+        number: 7,
+        required: head_end,
+        fault: |input| at_zero(7, too_few_slots(input)),
+        field: |_, _| 96,
+    },
+    Check {
+        number: 8,
+        required: head_end,
+        fault: |input| at_zero(8, too_many_volumes(input)),
+        field: |_, _| 112,
+    },
+    Check {
+        number: 9,
+        required: metrics_required,
+        fault: |input| at(9, name_outside(input)),
+        field: name_offset_field,
+    },
+    Check {
+        number: 10,
+        required: names_required,
+        fault: |input| at(10, name_unsound(input)),
+        field: name_offset_field,
+    },
+    Check {
+        number: 11,
+        required: trace_required,
+        fault: |input| at(11, trace::wild(input.bytes)),
+        // The next index is the entry's first field.
+        field: trace::entry_start,
+    },
     Check {
         number: 12,
         required: trace_required,
         fault: |input| at(12, trace::shared(input.bytes)),
+        field: trace::entry_start,
     },
     Check {
         number: 13,
         required: trace_required,
         fault: |input| at(13, trace::cycle(input.bytes)),
+        field: trace::entry_start,
     },
     Check {
         number: 14,
         required: volumes_required,
         fault: |input| volumes::first_fault(input.bytes),
+        field: volumes::entry_start,
     },
 ];
 
@@ -83,15 +152,17 @@ fn stop(check: &Check, input: &Input) -> Option<Stop> {
     if (input.bytes.len() as u64) < required {
         return Some(Stop::Wanted(required));
     }
-    (check.fault)(input).map(Stop::Refused)
+    let Fault { number, index } = (check.fault)(input)?;
+    let offset = (check.field)(input.bytes, index);
+    Some(Stop::Refused(Refusal { number, index, offset }))
 }
 
-fn at_zero(number: u64, fault: bool) -> Option<Refusal> {
-    fault.then_some(Refusal { number, index: 0 })
+fn at_zero(number: u64, fault: bool) -> Option<Fault> {
+    fault.then_some(Fault { number, index: 0 })
 }
 
-fn at(number: u64, index: Option<u64>) -> Option<Refusal> {
-    index.map(|index| Refusal { number, index })
+fn at(number: u64, index: Option<u64>) -> Option<Fault> {
+    index.map(|index| Fault { number, index })
 }
 
 fn metrics_required(file: &[u8]) -> u64 {
@@ -177,6 +248,10 @@ impl Name {
 
 pub fn entry_start(file: &[u8], i: u64) -> u64 {
     section(file, METRICS).start + i * known_layout(file).metrics_entry
+}
+
+fn name_offset_field(file: &[u8], i: u64) -> u64 {
+    entry_start(file, i) + known_layout(file).name_offset as u64
 }
 
 pub fn name_of_entry(file: &[u8], i: u64) -> Name {

@@ -29,8 +29,11 @@ pub fn head_end(file: &[u8]) -> u64 {
     known_layout(file).head_end
 }
 
+/// Where the declared size stands.
+pub const SIZE_FIELD: u64 = 12;
+
 pub fn declared_size(file: &[u8]) -> u64 {
-    number_32(file, 12)
+    number_32(file, SIZE_FIELD as usize)
 }
 
 pub fn name_unit(file: &[u8], place: usize) -> u64 {
@@ -98,13 +101,24 @@ impl Section {
     }
 }
 
-pub fn section(file: &[u8], which: u64) -> Section {
-    let (start, length) = match which {
-        METRICS => (number_32(file, 84), metrics_count(file) * known_layout(file).metrics_entry),
-        TRACE => (number_32(file, 92), trace_count(file) * TRACE_ENTRY),
-        STRINGS => (number_32(file, 100), number_32(file, 104)),
-        VOLUMES => (number_32(file, 108), number_32(file, 116)),
+/// Where a section's offset stands.
+pub fn offset_field(which: u64) -> u64 {
+    match which {
+        METRICS => 84,
+        TRACE => 92,
+        STRINGS => 100,
+        VOLUMES => 108,
         _ => unreachable!("there are four sections"),
+    }
+}
+
+pub fn section(file: &[u8], which: u64) -> Section {
+    let start = number_32(file, offset_field(which) as usize);
+    let length = match which {
+        METRICS => metrics_count(file) * known_layout(file).metrics_entry,
+        TRACE => trace_count(file) * TRACE_ENTRY,
+        STRINGS => number_32(file, 104),
+        _ => number_32(file, 116),
     };
     Section { start, length }
 }

@@ -57,7 +57,9 @@ pub fn read_file(file: &[u8], places: usize) -> Answer {
             std::cmp::Ordering::Less => 17,
         },
     };
-    no_acceptance(Verdict::Refused(Refusal { number, index: 0 }), places)
+    // At the declared size, also where the file ends before it.
+    let refusal = Refusal { number, index: 0, offset: SIZE_FIELD };
+    no_acceptance(Verdict::Refused(refusal), places)
 }
 
 fn no_acceptance(verdict: Verdict, places: usize) -> Answer {

@@ -3,8 +3,12 @@
 use super::head::{number_32, section, trace_count, TRACE};
 use super::layout::{END, TRACE_ENTRY};
 
+pub fn entry_start(file: &[u8], entry: u64) -> u64 {
+    section(file, TRACE).start + entry * TRACE_ENTRY
+}
+
 fn next(file: &[u8], entry: u64) -> u64 {
-    number_32(file, (section(file, TRACE).start + entry * TRACE_ENTRY) as usize)
+    number_32(file, entry_start(file, entry) as usize)
 }
 
 /// All the next indexes, in order.

@@ -1,7 +1,7 @@
 //! Checks 14 and 15: for each volume its path, its references and its
 //! directories, in that order.
 
-use super::checks::Refusal;
+use super::checks::Fault;
 use super::head::*;
 
 /// A volume entry, with offsets from the start of the volumes section.
@@ -16,8 +16,12 @@ pub struct Volume {
     pub directories: u64,
 }
 
+pub fn entry_start(file: &[u8], i: u64) -> u64 {
+    section(file, VOLUMES).start + i * known_layout(file).volume_entry
+}
+
 pub fn volume(file: &[u8], i: u64) -> Volume {
-    let start = (section(file, VOLUMES).start + i * known_layout(file).volume_entry) as usize;
+    let start = entry_start(file, i) as usize;
     Volume {
         path_offset: number_32(file, start),
         path_units: number_32(file, start + 4),
@@ -31,8 +35,8 @@ pub fn volume(file: &[u8], i: u64) -> Volume {
 }
 
 /// The whole volumes section is there, and the entries fit it.
-pub fn first_fault(file: &[u8]) -> Option<Refusal> {
-    (0..volume_count(file)).find_map(|i| fault(file, i).map(|number| Refusal { number, index: i }))
+pub fn first_fault(file: &[u8]) -> Option<Fault> {
+    (0..volume_count(file)).find_map(|i| fault(file, i).map(|number| Fault { number, index: i }))
 }
 
 /// 14 or 15, or nothing where volume i is sound.

@@ -1,9 +1,9 @@
 -- While every name so far passes the test, the first fault is that of the entries from i on; the loop stops at the first that fails.
-use mathlib.Core.Path.{_≡_, sym, ap, _∙_}
+use mathlib.Core.Path.{_≡_, _∙_}
 use Prim.Native.Nat.{_≤_, _-_}
 use native.Mathlib.Omega.{arith}
 use borrow.Author.Needs.{needs}
-use Rattle.incremental.specs.Decision.{faultOf}
+use Rattle.incremental.proofs.Decision.{fault-hit, fault-none}
 use Rattle.lists.specs.First.{first, firstFrom}
 use Rattle.lists.proofs.First.{first-start, first-miss, first-hit, first-none}
 use Rattle.names.specs.Names.{sound, unsoundFault}
@@ -12,11 +12,11 @@ use Rattle.names.proofs.unsound_fault.Statement.{statement}
 use Rattle.names.proofs.unsound_fault.Tie as tie
 
 abbrev Inv-loop : tie.InvT-loop
-Inv-loop metrics l entries strings i₀ i =
+Inv-loop metrics l start entries strings i₀ i =
     (i ≤ entries) × (first (failsAt (sound strings) l metrics) entries ≡ firstFrom (failsAt (sound strings) l metrics) (entries - i) i)
 
 abbrev μ-loop : tie.MeasureT-loop
-μ-loop metrics l entries strings i₀ i = entries - i
+μ-loop metrics l start entries strings i₀ i = entries - i
 
 loop-holds : tie.Need-loop-holds Inv-loop μ-loop
 loop-holds c = (omega arith, first-start _ _)
@@ -30,18 +30,22 @@ name-units-requires c κs = search needs
 name-sound-requires : tie.Need-name-sound-requires Inv-loop μ-loop
 name-sound-requires c κs = search needs
 
-cast-t10 : tie.Need-cast-t10 Inv-loop μ-loop
-cast-t10 c = search needs
+cast-t11 : tie.Need-cast-t11 Inv-loop μ-loop
+cast-t11 c = search needs
+
+name-field-at-requires : tie.Need-name-field-at-requires Inv-loop μ-loop
+name-field-at-requires c κs = search needs
 
 returns : tie.Need-returns Inv-loop μ-loop
 unfolding unsoundFault
 returns c =
-    let name-units = c .before .before in
-    let name = c .before .before .before in
+    let test = c .before .before in
+    let name-units = test .before in
+    let name = name-units .before in
     let w = name .before .before .loop in
     let l = name .before .before .before .before .before .args .l in
-    let e = fails-at (sound _) l _ (w .i) (name .name-at .ensures) (name-units .name-units .ensures) (c .before .name-sound .ensures) in
-    sym (ap faultOf (w .inv .1 ∙ first-hit _ _ _ (omega arith) (e ∙ c .if1 .taken)))
+    let e = fails-at (sound _) l _ (w .i) (name .name-at .ensures) (name-units .name-units .ensures) (test .name-sound .ensures) in
+    fault-hit _ _ _ _ (w .inv .1 ∙ first-hit _ _ _ (omega arith) (e ∙ c .before .if1 .taken)) (c .name-field-at .ensures)
 
 add-i : tie.Need-add-i Inv-loop μ-loop
 add-i c = search needs
@@ -60,7 +64,7 @@ loop-again c =
 
 returns-2 : tie.Need-returns-2 Inv-loop μ-loop
 unfolding unsoundFault
-returns-2 c = sym (ap faultOf (c .before .loop .inv .1 ∙ first-none _ _ _ (omega arith)))
+returns-2 c = fault-none _ _ (c .before .loop .inv .1 ∙ first-none _ _ _ (omega arith))
 
 pub unsound-fault-spec : {M : Type 1} → statement M
 unsound-fault-spec =
@@ -72,7 +76,8 @@ unsound-fault-spec =
     name-at-requires
     name-units-requires
     name-sound-requires
-    cast-t10
+    cast-t11
+    name-field-at-requires
     returns
     add-i
     loop-less

@@ -44,8 +44,11 @@ name-shown-requires c κs = search needs
 enum-known-w : tie.Need-enum-known-w
 enum-known-w c = search needs
 
-add-t19 : tie.Need-add-t19
-add-t19 c =
+cast-t19 : tie.Need-cast-t19
+cast-t19 c = search needs
+
+add-t20 : tie.Need-add-t20
+add-t20 c =
     let start = c .before .before .before .before .before .before .before .before .before .before .before .before .before .before .before .before .before in
     let o = start .args .o in
     let w = c .before .before .before .w .given .0 .0 in
@@ -76,7 +79,8 @@ entry-in-spec =
     cast-name-shown
     name-shown-requires
     enum-known-w
-    add-t19
+    cast-t19
+    add-t20
     enum-told
     returns-3
     returns-4)

@@ -24,15 +24,18 @@ cast-volume-at c =
 volume-at-requires : tie.Need-volume-at-requires
 volume-at-requires c κs = search needs
 
-add-t12 : tie.Need-add-t12
-add-t12 c =
+cast-t12 : tie.Need-cast-t12
+cast-t12 c = search needs
+
+add-t13 : tie.Need-add-t13
+add-t13 c =
     let o = c .before .before .before .before .before .before .before .before .before .before .args .o in
     let v = c .before .before .volume-at .result in
     let h : o .head .volumes .at + v .path + 2 * v .units ≤ sizeLimit = search (path-low, section-met) in
     omega arith
 
-mul-t13 : tie.Need-mul-t13
-mul-t13 c =
+mul-t14 : tie.Need-mul-t14
+mul-t14 c =
     let o = c .before .before .before .before .before .before .before .before .before .before .before .args .o in
     let v = c .before .before .before .volume-at .result in
     let h : o .head .volumes .at + v .path + 2 * v .units ≤ sizeLimit = search (path-low, section-met) in
@@ -50,6 +53,7 @@ volume-in-spec =
     returns
     cast-volume-at
     volume-at-requires
-    add-t12
-    mul-t13
+    cast-t12
+    add-t13
+    mul-t14
     returns-2)

@@ -1,3 +1,4 @@
+use borrow.Author.Needs.{needs}
 use Rattle.lists.proofs.Tests.{tests}
 use Rattle.sections.specs.Fields.{outside}
 use Rattle.sections.proofs.is_outside.Statement.{statement}
@@ -6,6 +7,9 @@ use Rattle.sections.proofs.is_outside.Tie as tie
 returns : tie.Need-returns
 unfolding outside
 returns c = search tests
+
+cast-if2 : tie.Need-cast-if2
+cast-if2 c = search needs
 
 returns-2 : tie.Need-returns-2
 unfolding outside
@@ -16,4 +20,4 @@ unfolding outside
 returns-3 c = search tests
 
 pub is-outside-spec : {M : Type 1} → statement M
-is-outside-spec = tie.close (tie.spec returns returns-2 returns-3)
+is-outside-spec = tie.close (tie.spec returns cast-if2 returns-2 returns-3)

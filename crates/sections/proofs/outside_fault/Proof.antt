@@ -10,11 +10,17 @@ cast-start c = search needs
 is-outside-requires : tie.Need-is-outside-requires
 is-outside-requires c κs = search needs
 
+section-fault-requires : tie.Need-section-fault-requires
+section-fault-requires c κs = search needs
+
 returns : tie.Need-returns
 returns c = by-sections _ _ _ (search picks depth 9)
 
 is-outside-requires-2 : tie.Need-is-outside-requires-2
 is-outside-requires-2 c κs = search needs
+
+section-fault-requires-2 : tie.Need-section-fault-requires-2
+section-fault-requires-2 c κs = search needs
 
 returns-2 : tie.Need-returns-2
 returns-2 c = by-sections _ _ _ (search picks depth 9)
@@ -22,11 +28,17 @@ returns-2 c = by-sections _ _ _ (search picks depth 9)
 is-outside-requires-3 : tie.Need-is-outside-requires-3
 is-outside-requires-3 c κs = search needs
 
+section-fault-requires-3 : tie.Need-section-fault-requires-3
+section-fault-requires-3 c κs = search needs
+
 returns-3 : tie.Need-returns-3
 returns-3 c = by-sections _ _ _ (search picks depth 9)
 
 is-outside-requires-4 : tie.Need-is-outside-requires-4
 is-outside-requires-4 c κs = search needs
+
+section-fault-requires-4 : tie.Need-section-fault-requires-4
+section-fault-requires-4 c κs = search needs
 
 returns-4 : tie.Need-returns-4
 returns-4 c = by-sections _ _ _ (search picks depth 9)
@@ -40,11 +52,15 @@ outside-fault-spec =
     (tie.spec
     cast-start
     is-outside-requires
+    section-fault-requires
     returns
     is-outside-requires-2
+    section-fault-requires-2
     returns-2
     is-outside-requires-3
+    section-fault-requires-3
     returns-3
     is-outside-requires-4
+    section-fault-requires-4
     returns-4
     returns-5)

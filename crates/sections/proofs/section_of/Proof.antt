@@ -3,8 +3,8 @@ use borrow.Author.Needs.{needs}
 use Rattle.sections.proofs.section_of.Statement.{statement}
 use Rattle.sections.proofs.section_of.Tie as tie
 
-add-t10 : tie.Need-add-t10
-add-t10 c = search needs
+add-t8 : tie.Need-add-t8
+add-t8 c = search needs
 
 returns : tie.Need-returns
 returns c = simp (eq-eqb _ _ (c .if1 .taken))
@@ -13,4 +13,4 @@ returns-2 : tie.Need-returns-2
 returns-2 c = simp (ne-eqb _ _ (c .if1 .left))
 
 pub section-of-spec : {M : Type 1} → statement M
-section-of-spec = tie.close (tie.spec add-t10 returns returns-2)
+section-of-spec = tie.close (tie.spec add-t8 returns returns-2)

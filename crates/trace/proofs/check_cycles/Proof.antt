@@ -6,7 +6,8 @@ use Rattle.incremental.specs.Decision.{accept}
 use Rattle.trace.specs.declared.Links.the-variants.{Chains}
 use Rattle.trace.proofs.Steps.{length-nexts}
 use Rattle.trace.proofs.Chains.{chains-are-ends}
-use Rattle.trace.specs.Links.{nexts, filled, chains, predecessors}
+use Rattle.lists.proofs.First.{first-at}
+use Rattle.trace.specs.Links.{nexts, filled, cyclic, chains, predecessors}
 use Rattle.trace.proofs.Accepted.{distinct}
 use Rattle.trace.specs.Private.{firstCyclic}
 use Rattle.trace.proofs.Answers.{answer-at, answer-nothing}
@@ -25,18 +26,32 @@ enum-known-found c = search needs
 fill-requires : tie.Need-fill-requires
 fill-requires c κs = search needs
 
+cast-refused : tie.Need-cast-refused
+cast-refused c =
+    let fill = c .before .before in
+    let arm = fill .before .before .before in
+    let cycle = arm .before .before .before .before in
+    let a = cycle .before .before .before .before in
+    let s = nexts (a .args .section .now) (a .args .size) (a .args .entries) in
+    let l = first-at (cyclic s) (length s) 0 (arm .found .given .0 .0) (sym (cycle .find-cycle .ensures) ∙ arm .found .given .1) .1 in
+    omega (arith, l, length-nexts (a .args .section .now) (a .args .size) (a .args .entries), a .fits .entries)
+
+refused-requires : tie.Need-refused-requires
+refused-requires c κs = search needs
+
 same-length : tie.Need-same-length
 same-length c = search needs
 
 returns : tie.Need-returns
 returns c =
-    let fill = c .before .before in
-    let a = c .before .before .before .before .before .before .before .before .before .before .before .before .before in
+    let fill = c .before .before .before in
+    let arm = fill .before .before .before in
+    let cycle = arm .before .before .before .before in
+    let a = cycle .before .before .before .before in
     let s = nexts (a .args .section .now) (a .args .size) (a .args .entries) in
-    let f = c .before .before .before .before .before .before .before .before .before .find-cycle in
-    let q = c .before .before .before .before .before .found .given in
-    answer-at 13 (q .0 .0) (length (a .args .buffer .now)) (firstCyclic s) (f .result) (accept (chains s)) s (fill .fill .last .0) (f .ensures) (q .1)
-    (fill .fill .ensures ∙ ap filled (f .kept .1 .1 .1 .0))
+    let q = arm .found .given in
+    answer-at 13 (q .0 .0) (length (a .args .buffer .now)) _ (firstCyclic s) (cycle .find-cycle .result) (accept (chains s)) s (fill .fill .last .0) _
+    (cycle .find-cycle .ensures) (q .1) (c .refused .ensures) (fill .fill .ensures ∙ ap filled (cycle .find-cycle .kept .1 .1 .1 .0))
 
 enum-told : tie.Need-enum-told
 enum-told c = search needs
@@ -58,7 +73,7 @@ returns-2 c = let t = c .before .before .build-table in
     let e = length-nexts (a .args .section .now) (a .args .size) (a .args .entries) in
     let h : b ≡ predecessors s m = t .ensures ∙ ap (predecessors s) (f .kept .1 .1 .1 .0) in
     let k : a .args .ends ≡ chains s = a .pre .counted ∙ sym (chains-are-ends s (omega (arith, e, a .fits .entries)) (a .pre .sound) (a .pre .once)) in
-    answer-nothing 13 m (firstCyclic s) (f .result) (accept (chains s)) s b (Chains (a .args .ends)) (f .ensures) (n .1)
+    answer-nothing 13 m _ (firstCyclic s) (f .result) (accept (chains s)) s b (Chains (a .args .ends)) (f .ensures) (n .1)
     (record { answer = ap accept k; holds = h })
 
 pub check-cycles-spec : {M : Type 1} → statement M
@@ -68,6 +83,8 @@ check-cycles-spec =
     find-cycle-requires
     enum-known-found
     fill-requires
+    cast-refused
+    refused-requires
     same-length
     returns
     enum-told

@@ -2,8 +2,7 @@
 use mathlib.Core.Path.{refl, sym, _∙_, ap}
 use native.Mathlib.Omega.{arith}
 use lib.ListN.{length}
-use Rattle.incremental.specs.Decision.{refusal}
-use Rattle.trace.specs.declared.Links.the-variants.{Refused}
+use Rattle.layout.specs.Head.{entryOffset}
 use Rattle.trace.specs.Private.{ends, firstAstray, firstShared, sharedChecks, cycleChecks}
 use Rattle.trace.specs.Links.{nexts, filled, predecessors, linkChecks}
 use Rattle.trace.proofs.Accepted.{sound, once}
@@ -21,11 +20,17 @@ enum-known-pass c = search needs
 fill-requires : tie.Need-fill-requires
 fill-requires c κs = search needs
 
+refused-requires : tie.Need-refused-requires
+refused-requires c κs = search needs
+
 enum-known-pass-2 : tie.Need-enum-known-pass-2
 enum-known-pass-2 c = search needs
 
 fill-requires-2 : tie.Need-fill-requires-2
 fill-requires-2 c κs = search needs
+
+refused-requires-2 : tie.Need-refused-requires-2
+refused-requires-2 c κs = search needs
 
 enum-known-pass-3 : tie.Need-enum-known-pass-3
 enum-known-pass-3 c = search needs
@@ -49,13 +54,18 @@ same-length c = search needs
 
 returns : tie.Need-returns
 unfolding linkChecks
-returns c = let a = c .before .before .before .before .before .before .before .before .before .before .before .before .before in
+returns c =
+    let fill = c .before .before .before in
+    let arm = fill .before .before .before in
+    let store = arm .before .before .before .before in
+    let a = store .before .before .before .before in
     let s = nexts (a .args .section .now) (a .args .size) (a .args .entries) in
-    let r = c .before .before .before .before .before .before .before .before .before .store-predecessors in
-    let q = c .before .before .before .before .before .pass .given in
-    answer-at 11 (q .0 .0) (length (a .args .buffer .now)) (firstAstray s) (firstAstray s) (sharedChecks s) s (c .before .before .fill .last .0) refl
-    (passed-astray (firstAstray s) (firstShared s) (ends s) (q .0 .0) (sym (r .ensures .found) ∙ q .1))
-    (c .before .before .fill .ensures ∙ ap filled (r .kept .1 .1 .1 .0))
+    let at = entryOffset (a .args .start) (a .args .size) in
+    let r = store .store-predecessors in
+    let q = arm .pass .given in
+    answer-at 11 (q .0 .0) (length (a .args .buffer .now)) at (firstAstray s) (firstAstray s) (sharedChecks at s) s (fill .fill .last .0) _ refl
+    (passed-astray (firstAstray s) (firstShared s) (ends s) (q .0 .0) (sym (r .ensures .found) ∙ q .1)) (c .refused .ensures)
+    (fill .fill .ensures ∙ ap filled (r .kept .1 .1 .1 .0))
 
 same-length-2 : tie.Need-same-length-2
 same-length-2 c = search needs
@@ -63,16 +73,20 @@ same-length-2 c = search needs
 returns-2 : tie.Need-returns-2
 unfolding linkChecks
 returns-2 c =
-    let fill = c .before .before in
-    let a = c .before .before .before .before .before .before .before .before .before .before .before .before .before in
+    let fill = c .before .before .before in
+    let arm = fill .before .before .before in
+    let store = arm .before .before .before .before in
+    let a = store .before .before .before .before in
     let s = nexts (a .args .section .now) (a .args .size) (a .args .entries) in
+    let at = entryOffset (a .args .start) (a .args .size) in
     let m = length (a .args .buffer .now) in
-    let r = c .before .before .before .before .before .before .before .before .before .store-predecessors in
-    let q = c .before .before .before .before .before .pass2 .given in
-    let b = c .before .before .fill2 .last .0 in
+    let r = store .store-predecessors in
+    let q = arm .pass2 .given in
+    let b = fill .fill2 .last .0 in
     let w = passed-shared (firstAstray s) (firstShared s) (ends s) (q .0 .0) (sym (r .ensures .found) ∙ q .1) in
-    answer-nothing 11 m (firstAstray s) (firstAstray s) (sharedChecks s) s b (Refused (refusal 12 (q .0 .0))) refl (w .0)
-    (answer-at 12 (q .0 .0) m (firstShared s) (firstShared s) (cycleChecks s) s b refl (w .1) (fill .fill2 .ensures ∙ ap filled (r .kept .1 .1 .1 .0)))
+    answer-nothing 11 m at (firstAstray s) (firstAstray s) (sharedChecks at s) s b _ refl (w .0)
+    (answer-at 12 (q .0 .0) m at (firstShared s) (firstShared s) (cycleChecks at s) s b _ refl (w .1) (c .refused2 .ensures)
+    (fill .fill2 .ensures ∙ ap filled (r .kept .1 .1 .1 .0)))
 
 same-length-3 : tie.Need-same-length-3
 same-length-3 c = search needs
@@ -81,14 +95,15 @@ returns-3 : tie.Need-returns-3
 unfolding linkChecks
 returns-3 c = let a = c .before .before .before .before .before .before .before .before .before .before .before .before .before in
     let s = nexts (a .args .section .now) (a .args .size) (a .args .entries) in
+    let at = entryOffset (a .args .start) (a .args .size) in
     let m = length (a .args .buffer .now) in
     let r = c .before .before .before .before .before .before .before .before .before .store-predecessors in
     let q = c .before .before .before .before .before .pass3 .given in
     let x = c .before .before .check-order in
-    let b = x .last .1 .1 .1 .1 .0 in
+    let b = x .last .1 .1 .1 .1 .1 .0 in
     let w = passed-clear (firstAstray s) (firstShared s) (ends s) (q .0 .0) (sym (r .ensures .found) ∙ q .1) in
-    answer-nothing 11 m (firstAstray s) (firstAstray s) (sharedChecks s) s b (x .result) refl (w .0)
-    (answer-nothing 12 m (firstShared s) (firstShared s) (cycleChecks s) s b (x .result) refl (w .1) (rw (r .kept .1 .1 .1 .0) at (x .ensures)))
+    answer-nothing 11 m at (firstAstray s) (firstAstray s) (sharedChecks at s) s b (x .result) refl (w .0)
+    (answer-nothing 12 m at (firstShared s) (firstShared s) (cycleChecks at s) s b (x .result) refl (w .1) (rw (r .kept .1 .1 .1 .0) at (x .ensures)))
 
 pub check-entries-spec : {M : Type 1} → statement M
 check-entries-spec =
@@ -97,8 +112,10 @@ check-entries-spec =
     store-predecessors-requires
     enum-known-pass
     fill-requires
+    refused-requires
     enum-known-pass-2
     fill-requires-2
+    refused-requires-2
     enum-known-pass-3
     check-order-requires
     same-length

@@ -19,14 +19,18 @@ places-fault-requires c κs = search needs
 enum-known-i : tie.Need-enum-known-i
 enum-known-i c = search needs
 
+refuse-requires : tie.Need-refuse-requires
+refuse-requires c κs = search needs
+
 same-length : tie.Need-same-length
 same-length c = search needs
 
 returns : tie.Need-returns
 returns c =
-    let places = c .before .before .before in
+    let arm = c .before .before in
+    let places = arm .before .before in
     let fill = places .before .before .before in
-    answer-few _ _ _ _ _ _ _ (places .places-fault .ensures) (c .before .i .given .1) (fill .fill .ensures)
+    answer-few _ _ _ _ _ _ _ _ _ _ (places .places-fault .ensures) (arm .i .given .1) (c .refuse .ensures) (fill .fill .ensures)
 
 enum-told : tie.Need-enum-told
 enum-told c = search needs
@@ -48,7 +52,7 @@ returns-2 c =
     let places = told .before .before in
     let fill = places .before .before .before in
     let r = c .before .before .check-entries in
-    answer-links _ _ _ _ _ _ _ (places .places-fault .ensures) (told .enum-told .given .1) (rw (fill .fill .kept .0) at (r .ensures))
+    answer-links _ _ _ _ _ _ _ _ (places .places-fault .ensures) (told .enum-told .given .1) (rw (fill .fill .kept .0) at (r .ensures))
 
 pub check-links-spec : {M : Type 1} → statement M
 check-links-spec =
@@ -57,6 +61,7 @@ check-links-spec =
     fill-requires
     places-fault-requires
     enum-known-i
+    refuse-requires
     same-length
     returns
     enum-told

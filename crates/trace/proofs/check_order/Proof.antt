@@ -25,7 +25,7 @@ returns c =
     let e = length-nexts (a .args .section .now) (a .args .size) (a .args .entries) in
     let f = forward-acyclic s (omega (arith, e, a .fits .entries)) (a .pre .sound) (c .before .leads-on .ensures (c .if1 .taken)) in
     let k : a .args .ends ≡ chains s = a .pre .counted ∙ sym (chains-are-ends s (omega (arith, e, a .fits .entries)) (a .pre .sound) (a .pre .once)) in
-    answer-nothing 13 m (firstCyclic s) (firstCyclic s) (accept (chains s)) s (a .args .buffer .now) (Chains (a .args .ends)) refl f
+    answer-nothing 13 m _ (firstCyclic s) (firstCyclic s) (accept (chains s)) s (a .args .buffer .now) (Chains (a .args .ends)) refl f
     (record { answer = ap accept k; holds = a .pre .table })
 
 check-cycles-requires : tie.Need-check-cycles-requires

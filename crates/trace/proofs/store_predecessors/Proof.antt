@@ -53,9 +53,6 @@ next-at-requires c κs = search needs
 add-ends : tie.Need-add-ends Inv-loop μ-loop
 add-ends c = search needs
 
-cast-t11 : tie.Need-cast-t11 Inv-loop μ-loop
-cast-t11 c = search needs
-
 same-length : tie.Need-same-length Inv-loop μ-loop
 same-length c = ap length (c .before .before .before .before .loop .inv .1) ∙ length-tabulate _ _
 
@@ -148,9 +145,6 @@ loop-again c = let b = c .before .before .before .before .before .before .before
     ))
     (w .1)
 
-cast-t15 : tie.Need-cast-t15 Inv-loop μ-loop
-cast-t15 c = search needs
-
 same-length-2 : tie.Need-same-length-2 Inv-loop μ-loop
 same-length-2 c = ap length (c .before .before .loop .inv .1) ∙ length-tabulate _ _
 
@@ -195,14 +189,12 @@ store-predecessors-spec =
     loop-holds
     next-at-requires
     add-ends
-    cast-t11
     same-length
     returns
     store-predecessor-requires
     add-i
     loop-less
     loop-again
-    cast-t15
     same-length-2
     returns-2
     same-length-3

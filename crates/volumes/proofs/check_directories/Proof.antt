@@ -10,13 +10,13 @@ use Rattle.volumes.proofs.check_directories.Statement.{statement}
 use Rattle.volumes.proofs.check_directories.Tie as tie
 
 abbrev Inv-loop : tie.InvT-loop
-Inv-loop section i entry count start cursor₀ done₀ cursor done =
+Inv-loop section i place entry count start cursor₀ done₀ cursor done =
     (done ≤ count)
-    × (directoryChecks section i (directoryCount section entry) (directoriesAt section entry)
-    ≡ directoryChecks section i (count - done) (cursor .at))
+    × (directoryChecks section i place (directoryCount section entry) (directoriesAt section entry)
+    ≡ directoryChecks section i place (count - done) (cursor .at))
 
 abbrev μ-loop : tie.MeasureT-loop
-μ-loop section i entry count start cursor₀ done₀ cursor done = count - done
+μ-loop section i place entry count start cursor₀ done₀ cursor done = count - done
 
 add-u32-at : tie.Need-add-u32-at Inv-loop μ-loop
 add-u32-at c = search needs
@@ -38,8 +38,8 @@ loop-holds c =
     let a = c .before .before .before .args in
     let s = a .section .now in (
       omega arith,
-      ap (λ (n : ℕ). directoryChecks s (a .i) n (directoriesAt s (a .entry))) (sym (c .before .u32-at .ensures))
-          ∙ ap (λ (x : ℕ). directoryChecks s (a .i) (c .before .u32-at .result) x) (sym (c .u32-at2 .ensures)) ∙ directories-start _ _ _ _,
+      ap (λ (n : ℕ). directoryChecks s (a .i) (a .place) n (directoriesAt s (a .entry))) (sym (c .before .u32-at .ensures))
+          ∙ ap (λ (x : ℕ). directoryChecks s (a .i) (a .place) (c .before .u32-at .result) x) (sym (c .u32-at2 .ensures)) ∙ directories-start _ _ _ _ _,
     )
 
 step-requires : tie.Need-step-requires Inv-loop μ-loop
@@ -59,7 +59,7 @@ returns c =
     let step = c .before .before .before in
     let w = c .before .before .before .before .before .loop in
     ap checkedOf (c .refused .ensures)
-    ∙ sym (w .inv .1 ∙ directories-step _ _ _ _ _ _ (omega arith) (sym (step .step .ensures .answer) ∙ c .before .enum-told .given .1))
+    ∙ sym (w .inv .1 ∙ directories-step _ _ _ _ _ _ _ (omega arith) (sym (step .step .ensures .answer) ∙ c .before .enum-told .given .1))
 
 enum-told-2 : tie.Need-enum-told-2 Inv-loop μ-loop
 enum-told-2 c = search needs
@@ -72,7 +72,7 @@ returns-2 c =
     let step = c .before .before .before in
     let w = c .before .before .before .before .before .loop in
     ap checkedOf (c .refused2 .ensures)
-    ∙ sym (w .inv .1 ∙ directories-step _ _ _ _ _ _ (omega arith) (sym (step .step .ensures .answer) ∙ c .before .enum-told2 .given .1))
+    ∙ sym (w .inv .1 ∙ directories-step _ _ _ _ _ _ _ (omega arith) (sym (step .step .ensures .answer) ∙ c .before .enum-told2 .given .1))
 
 add-done : tie.Need-add-done Inv-loop μ-loop
 add-done c = search needs
@@ -83,10 +83,10 @@ loop-less c = search needs
 loop-again : tie.Need-loop-again Inv-loop μ-loop
 loop-again c =
     let w = c .before .before .before .before .before .loop in
-    (omega arith, w .inv .1 ∙ directories-step _ _ _ _ _ _ (omega arith) (sym (c .before .before .before .step .ensures .answer) ∙ c .before .next .given .1))
+    (omega arith, w .inv .1 ∙ directories-step _ _ _ _ _ _ _ (omega arith) (sym (c .before .before .before .step .ensures .answer) ∙ c .before .next .given .1))
 
 returns-3 : tie.Need-returns-3 Inv-loop μ-loop
-returns-3 c = sym (c .before .loop .inv .1 ∙ directories-end _ _ _ _ _ (omega arith))
+returns-3 c = sym (c .before .loop .inv .1 ∙ directories-end _ _ _ _ _ _ (omega arith))
 
 pub check-directories-spec : {M : Type 1} → statement M
 check-directories-spec =

@@ -14,7 +14,7 @@ refused-requires : tie.Need-refused-requires
 refused-requires c κs = search needs
 
 returns : tie.Need-returns
-returns c = ap checkedOf (c .refused .ensures) ∙ entry-path _ _ _ (sym (c .before .before .path-fits .ensures) ∙ not-true _ (c .before .if1 .taken))
+returns c = ap checkedOf (c .refused .ensures) ∙ entry-path _ _ _ _ (sym (c .before .before .path-fits .ensures) ∙ not-true _ (c .before .if1 .taken))
 
 references-fit-requires : tie.Need-references-fit-requires
 references-fit-requires c κs = search needs
@@ -27,7 +27,7 @@ returns-2 c =
     let references = c .before .before in
     let p = c .before .before .before in
     ap checkedOf (c .refused2 .ensures)
-    ∙ entry-references _ _ _ (sym (p .before .path-fits .ensures) ∙ not-false _ (p .if1 .left))
+    ∙ entry-references _ _ _ _ (sym (p .before .path-fits .ensures) ∙ not-false _ (p .if1 .left))
     (sym (references .references-fit .ensures) ∙ not-true _ (c .before .if2 .taken))
 
 check-directories-requires : tie.Need-check-directories-requires
@@ -38,7 +38,7 @@ returns-3 c =
     let references = c .before .before in
     let p = c .before .before .before in
     c .check-directories .ensures
-    ∙ entry-directories _ _ _ (sym (p .before .path-fits .ensures) ∙ not-false _ (p .if1 .left))
+    ∙ entry-directories _ _ _ _ (sym (p .before .path-fits .ensures) ∙ not-false _ (p .if1 .left))
     (sym (references .references-fit .ensures) ∙ not-false _ (c .before .if2 .left))
 
 pub check-entry-spec : {M : Type 1} → statement M

@@ -26,11 +26,15 @@ outside-fault-requires c κs = search needs
 enum-known-i : tie.Need-enum-known-i
 enum-known-i c = search needs
 
+refuse-requires : tie.Need-refuse-requires
+refuse-requires c κs = search needs
+
 returns-2 : tie.Need-returns-2
 returns-2 c =
-    let outside = c .before .before .before in
+    let arm = c .before .before in
+    let outside = arm .before .before in
     let head = outside .before in
-    outside-refused _ _ _ (omega arith) (head .head-of .ensures) _ _ (outside .outside-fault .ensures) (c .before .i .given .1)
+    outside-refused _ _ _ (omega arith) (head .head-of .ensures) _ _ _ _ (outside .outside-fault .ensures) (arm .i .given .1) (c .refuse .ensures)
 
 enum-told : tie.Need-enum-told
 enum-told c = search needs
@@ -41,14 +45,18 @@ shared-fault-requires c κs = search needs
 enum-known-i-2 : tie.Need-enum-known-i-2
 enum-known-i-2 c = search needs
 
+refuse-requires-2 : tie.Need-refuse-requires-2
+refuse-requires-2 c κs = search needs
+
 returns-3 : tie.Need-returns-3
 returns-3 c =
-    let shared = c .before .before .before in
+    let arm = c .before .before in
+    let shared = arm .before .before in
     let told = shared .before in
     let outside = told .before .before in
     let head = outside .before in
-    shared-refused _ _ _ (omega arith) (head .head-of .ensures) _ (outside .outside-fault .ensures) (told .enum-told .given .1) _ _
-    (shared .shared-fault .ensures) (c .before .i2 .given .1)
+    shared-refused _ _ _ (omega arith) (head .head-of .ensures) _ (outside .outside-fault .ensures) (told .enum-told .given .1) _ _ _ _
+    (shared .shared-fault .ensures) (arm .i2 .given .1) (c .refuse2 .ensures)
 
 enum-told-2 : tie.Need-enum-told-2
 enum-told-2 c = search needs
@@ -72,10 +80,12 @@ check-sections-spec =
     head-of-requires
     outside-fault-requires
     enum-known-i
+    refuse-requires
     returns-2
     enum-told
     shared-fault-requires
     enum-known-i-2
+    refuse-requires-2
     returns-3
     enum-told-2
     returns-4)

@@ -22,11 +22,15 @@ misfit-fault-requires c κs = search needs
 enum-known-i : tie.Need-enum-known-i
 enum-known-i c = search needs
 
+refuse-requires : tie.Need-refuse-requires
+refuse-requires c κs = search needs
+
 returns-2 : tie.Need-returns-2
 returns-2 c =
-    let misfit = c .before .before .before in
+    let arm = c .before .before in
+    let misfit = arm .before .before in
     let part = misfit .before in
-    fits-refused _ _ _ (omega arith) (part .part-of .ensures .contents) _ (misfit .misfit-fault .ensures) _ (c .before .i .given .1)
+    fits-refused _ _ _ (omega arith) (part .part-of .ensures .contents) _ (misfit .misfit-fault .ensures) _ _ _ (arm .i .given .1) (c .refuse .ensures)
 
 enum-told : tie.Need-enum-told
 enum-told c = search needs
@@ -46,6 +50,7 @@ check-fits-spec =
     part-of-requires
     misfit-fault-requires
     enum-known-i
+    refuse-requires
     returns-2
     enum-told
     returns-3)

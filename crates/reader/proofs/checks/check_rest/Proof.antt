@@ -11,11 +11,15 @@ places-fault-requires c κs = search needs
 enum-known-i : tie.Need-enum-known-i
 enum-known-i c = search needs
 
+refuse-requires : tie.Need-refuse-requires
+refuse-requires c κs = search needs
+
 returns : tie.Need-returns
 returns c =
-    let places = c .before .before .before in
+    let arm = c .before .before in
+    let places = arm .before .before in
     let start = places .before .before .before .before in
-    refused-7 _ _ _ (start .pre .whole) _ (places .places-fault .ensures) _ (c .before .i .given .1)
+    refused-7 _ _ _ (start .pre .whole) _ (places .places-fault .ensures) _ _ _ (arm .i .given .1) (c .refuse .ensures)
 
 enum-told : tie.Need-enum-told
 enum-told c = search needs
@@ -26,14 +30,18 @@ entries-fault-requires c κs = search needs
 enum-known-i-2 : tie.Need-enum-known-i-2
 enum-known-i-2 c = search needs
 
+refuse-requires-2 : tie.Need-refuse-requires-2
+refuse-requires-2 c κs = search needs
+
 returns-2 : tie.Need-returns-2
 returns-2 c =
-    let entries = c .before .before .before in
+    let arm = c .before .before in
+    let entries = arm .before .before in
     let told = entries .before in
     let places = told .before .before in
     let start = places .before .before .before .before in
-    refused-8 _ _ _ (start .pre .whole) _ (places .places-fault .ensures) (told .enum-told .given .1) _ (entries .entries-fault .ensures) _
-    (c .before .i2 .given .1)
+    refused-8 _ _ _ (start .pre .whole) _ (places .places-fault .ensures) (told .enum-told .given .1) _ (entries .entries-fault .ensures) _ _ _
+    (arm .i2 .given .1) (c .refuse2 .ensures)
 
 enum-told-2 : tie.Need-enum-told-2
 enum-told-2 c = search needs
@@ -69,10 +77,12 @@ check-rest-spec =
     (tie.spec
     places-fault-requires
     enum-known-i
+    refuse-requires
     returns
     enum-told
     entries-fault-requires
     enum-known-i-2
+    refuse-requires-2
     returns-2
     enum-told-2
     check-tables-requires

@@ -31,14 +31,18 @@ unsound-fault-requires c κs = search needs
 enum-known-i : tie.Need-enum-known-i
 enum-known-i c = search needs
 
+refuse-requires : tie.Need-refuse-requires
+refuse-requires c κs = search needs
+
 returns-2 : tie.Need-returns-2
 returns-2 c =
-    let unsound = c .before .before .before in
+    let arm = c .before .before in
+    let unsound = arm .before .before in
     let part = unsound .before in
     let part-of = part .before .before in
     let names = part-of .before .before .before in
     texts-refused _ _ _ (names .names-required .ensures) _ _ (omega arith) (part-of .part-of .ensures .contents)
-    (part .part-of2 .ensures .contents) _ (unsound .unsound-fault .ensures) _ (c .before .i .given .1)
+    (part .part-of2 .ensures .contents) _ (unsound .unsound-fault .ensures) _ _ _ (arm .i .given .1) (c .refuse .ensures)
 
 enum-told : tie.Need-enum-told
 enum-told c = search needs
@@ -64,6 +68,7 @@ check-texts-spec =
     part-of-requires-2
     unsound-fault-requires
     enum-known-i
+    refuse-requires
     returns-2
     enum-told
     returns-3)
