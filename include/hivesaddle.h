@@ -41,7 +41,7 @@ extern "C" {
 
 /* What both give back. */
 enum hs_verdict {
-    HS_ACCEPTED = 0, /* the record is in out, from HS_VERSION on */
+    HS_ACCEPTED = 0, /* the record is in out, HS_VERSION to HS_CHAIN_COUNT and from HS_TIME_COUNT on */
     HS_REFUSED = 1,  /* out has HS_NUMBER, HS_INDEX and HS_OFFSET */
     HS_WANTED = 2    /* out has HS_BYTES_WANTED; hs_read_prefix only */
 };
@@ -62,7 +62,15 @@ enum hs_reader_out {
     HS_VOLUME_COUNT = 11,
     HS_CHAIN_COUNT = 12, /* trace entries that no entry names as next */
     HS_OFFSET = 13,      /* of the refusal: where the field at fault stands in the file */
-    HS_READER_OUT = 14   /* length of an out that holds them all */
+    HS_TIME_COUNT = 14,  /* run times that the version has: 1 for 17 and 23, 8 for 26 */
+    HS_RUN_TIME_2 = 15,  /* the seven behind the latest, as they stand, sorted or not; 0 where the version has none */
+    HS_RUN_TIME_3 = 16,
+    HS_RUN_TIME_4 = 17,
+    HS_RUN_TIME_5 = 18,
+    HS_RUN_TIME_6 = 19,
+    HS_RUN_TIME_7 = 20,
+    HS_RUN_TIME_8 = 21,
+    HS_READER_OUT = 22 /* length of an out that holds them all */
 };
 
 /* In a slot of predecessors: no entry. */

@@ -31,10 +31,14 @@ struct volume {
     uint32_t serial_number;
 };
 
+/* Of version 26. The versions before it have one. */
+#define MOST_RUN_TIMES 8
+
 /* What a listing shows. The texts lie in one pool. */
 struct listing {
     uint32_t version, hash, run_count;
-    uint64_t run_time;
+    size_t run_times;
+    uint64_t run_time[MOST_RUN_TIMES];
     struct text program;
     size_t names, volumes;
     struct text *name;
@@ -188,9 +192,14 @@ static int scca_fields(libscca_file_t *file, struct listing *list, enum source s
 {
     if (libscca_file_get_format_version(file, &list->version, NULL) != 1 ||
         libscca_file_get_prefetch_hash(file, &list->hash, NULL) != 1 ||
-        libscca_file_get_run_count(file, &list->run_count, NULL) != 1 ||
-        libscca_file_get_last_run_time(file, 0, &list->run_time, NULL) != 1) {
+        libscca_file_get_run_count(file, &list->run_count, NULL) != 1) {
         return 0;
+    }
+    list->run_times = list->version < 26 ? 1 : MOST_RUN_TIMES;
+    for (size_t i = 0; i < list->run_times; i++) {
+        if (libscca_file_get_last_run_time(file, (int)i, &list->run_time[i], NULL) != 1) {
+            return 0;
+        }
     }
     FETCH(list->program, libscca_file_get_utf16_executable_filename_size(file, &size, NULL),
           libscca_file_get_utf16_executable_filename(file, list->program.units, size, NULL));
@@ -244,7 +253,9 @@ static int saddle(struct bytes bytes, struct listing *list, uint32_t *predecesso
     list->version = (uint32_t)out[HS_VERSION];
     list->hash = (uint32_t)out[HS_STORED_HASH];
     list->run_count = (uint32_t)out[HS_RUN_COUNT];
-    list->run_time = out[HS_RUN_TIME];
+    list->run_times = out[HS_TIME_COUNT];
+    list->run_time[0] = out[HS_RUN_TIME];
+    memcpy(list->run_time + 1, out + HS_RUN_TIME_2, (MOST_RUN_TIMES - 1) * sizeof *out);
     if (!hs_program_name(bytes.start, bytes.length, part, 2) || !take(bytes, part, list, &list->program)) {
         fail("hivesaddle accepts a file and gives no program name");
     }
@@ -357,7 +368,10 @@ static void compare(const char *path, const struct listing *a, const struct list
     check(path, "program name", same_text(a->program, b->program));
     check(path, "hash", a->hash == b->hash);
     check(path, "run count", a->run_count == b->run_count);
-    check(path, "last run time", a->run_time == b->run_time);
+    check(path, "number of run times", a->run_times == b->run_times);
+    for (size_t i = 0; i < a->run_times && i < b->run_times; i++) {
+        check(path, "run time", a->run_time[i] == b->run_time[i]);
+    }
     check(path, "number of names", a->names == b->names);
     check(path, "number of volumes", a->volumes == b->volumes);
     for (size_t i = 0; i < a->names && i < b->names; i++) {

@@ -153,6 +153,7 @@ pub fn lay_out(random: &mut Random, layout: &Layout, contents: &Contents) -> Vec
     set_32(&mut file, 0, layout.version);
     file[4..8].copy_from_slice(b"SCCA");
     set_program_name(random, &mut file);
+    set_run_times(random, &mut file, layout);
     set_32(&mut file, 76, contents.stored_hash);
     place_sections(random, &mut file, contents);
     set_32(&mut file, 88, (contents.metrics.len() as u64 / layout.metrics_entry) as u32);
@@ -208,10 +209,25 @@ fn set_program_name(random: &mut Random, file: &mut [u8]) {
     set_16(file, 16 + 2 * units, 0);
 }
 
+/// In any order, some of them 0 or all ones. Up to the run count, so that
+/// versions with one run time have such numbers behind it.
+fn set_run_times(random: &mut Random, file: &mut [u8], layout: &Layout) {
+    let latest = random.next();
+    for at in (layout.run_time..layout.run_count).step_by(8) {
+        let noise = random.next();
+        let odd = [0, u64::MAX, 1 << 63, latest, latest.wrapping_sub(1), noise, noise];
+        set_64(file, at, *random.pick(&odd));
+    }
+}
+
 pub fn set_16(bytes: &mut [u8], at: usize, number: u16) {
     bytes[at..at + 2].copy_from_slice(&number.to_le_bytes());
 }
 
 pub fn set_32(bytes: &mut [u8], at: usize, number: u32) {
     bytes[at..at + 4].copy_from_slice(&number.to_le_bytes());
+}
+
+pub fn set_64(bytes: &mut [u8], at: usize, number: u64) {
+    bytes[at..at + 8].copy_from_slice(&number.to_le_bytes());
 }

@@ -12,6 +12,7 @@ const TRACE_ENTRY: usize = 12;
 
 struct Layout {
     run_time: usize,
+    time_count: usize,
     run_count: usize,
     head_end: usize,
     metrics_entry: usize,
@@ -21,6 +22,7 @@ struct Layout {
 
 const LAYOUT_17: Layout = Layout {
     run_time: 120,
+    time_count: 1,
     run_count: 144,
     head_end: 148,
     metrics_entry: 20,
@@ -29,13 +31,14 @@ const LAYOUT_17: Layout = Layout {
 };
 const LAYOUT_23: Layout = Layout {
     run_time: 128,
+    time_count: 1,
     run_count: 152,
     head_end: 156,
     metrics_entry: 32,
     name_offset: 12,
     volume_entry: 104,
 };
-const LAYOUT_26: Layout = Layout { run_count: 208, head_end: 212, ..LAYOUT_23 };
+const LAYOUT_26: Layout = Layout { time_count: 8, run_count: 208, head_end: 212, ..LAYOUT_23 };
 
 pub fn read_file(file: &[u8], predecessors: &mut [u32]) -> Result<Record, Refusal> {
     predecessors.fill(END);
@@ -81,12 +84,15 @@ fn read(file: &[u8], predecessors: &mut [u32]) -> Result<Record, Refusal> {
         all_volumes(file, volumes, layout, volume_count)?;
     }
     whole(file, size)?;
+    let run_times = run_times(file, layout);
     Ok(Record {
         version: number(file, 0) as u32,
         declared_size: size as u32,
         name_units,
         stored_hash: number(file, 76) as u32,
-        run_time: u64::from_le_bytes(array(file, layout.run_time)),
+        run_time: run_times[0],
+        run_times,
+        time_count: layout.time_count as u32,
         run_count: number(file, layout.run_count) as u32,
         metrics_count: number(file, 88) as u32,
         trace_count: trace_count as u32,
@@ -125,6 +131,14 @@ fn program_name(file: &[u8]) -> Result<u32, Refusal> {
         Some(units) => Ok(units as u32),
         None => refused(4, 0, 16),
     }
+}
+
+fn run_times(file: &[u8], layout: &Layout) -> [u64; 8] {
+    let mut times = [0; 8];
+    for (i, time) in times[..layout.time_count].iter_mut().enumerate() {
+        *time = u64::from_le_bytes(array(file, layout.run_time + 8 * i));
+    }
+    times
 }
 
 fn whole(file: &[u8], size: usize) -> Result<(), Refusal> {
@@ -360,7 +374,9 @@ mod beside_the_reference {
                 assert_eq!(record.declared_size, given.declared_size as u64);
                 assert_eq!(record.name_units, given.name_units as u64);
                 assert_eq!(record.stored_hash, given.stored_hash as u64);
-                assert_eq!(record.run_time, given.run_time);
+                assert_eq!(record.run_times, given.run_times);
+                assert_eq!(record.run_times[0], given.run_time);
+                assert_eq!(record.time_count, given.time_count as u64);
                 assert_eq!(record.run_count, given.run_count as u64);
                 assert_eq!(record.metrics_count, given.metrics_count as u64);
                 assert_eq!(record.trace_count, given.trace_count as u64);

@@ -1,7 +1,7 @@
 //! Files as Windows lays them out: metrics, trace, strings, volumes. Each
 //! file named in the metrics array has one chain of trace entries.
 
-use crate::generate::set_32;
+use crate::generate::{set_32, set_64};
 use crate::reference::hashes;
 use crate::reference::layout::{layout_of, Layout, END, TRACE_ENTRY};
 use crate::reference::search::hash_of;
@@ -31,6 +31,10 @@ impl Amounts {
         }
     }
 }
+
+/// The latest run time. The others are a day apart.
+const RUN_TIME: u64 = 133_761_942_000_000_000;
+const A_DAY: u64 = 864_000_000_000;
 
 pub const PROGRAM: &str = "CHAMBER.EXE";
 /// The metrics entry of the program itself.
@@ -89,8 +93,9 @@ fn set_head(file: &mut [u8], layout: &Layout, names: &[String]) {
     file[16..16 + 2 * PROGRAM.len()].copy_from_slice(&units(PROGRAM));
     let path = names.get(PROGRAM_ENTRY).unwrap_or(&names[0]);
     set_32(file, 76, hash_of(layout.version, &hashes::bytes(&units(path))));
-    let run_time = 133_761_942_000_000_000u64;
-    file[layout.run_time..layout.run_time + 8].copy_from_slice(&run_time.to_le_bytes());
+    for i in 0..layout.time_count {
+        set_64(file, layout.run_time + 8 * i, RUN_TIME - i as u64 * A_DAY);
+    }
     set_32(file, layout.run_count, 42);
 }
 

@@ -17,6 +17,7 @@ use Rattle.claims.proofs.Search.{path-exactly, path-not-open}
 use Rattle.claims.proofs.EveryName.{every-name}
 use Rattle.claims.proofs.Offsets.{offsets}
 use Rattle.claims.proofs.OneHash.{one-hash}
+use Rattle.claims.proofs.Times.{times}
 use Rattle.claims.proofs.Places.{places-say}
 use Rattle.claims.proofs.EmptyPrograms.{empty-programs}
 use Rattle.claims.proofs.Examples.{examples}
@@ -34,6 +35,7 @@ claims =
       after-size = after-size;
       stands = λ t xs i j h. stands t _ _ (begins-take xs i j h);
       every-name = every-name;
+      times = times;
       name-stops = record { part = name-part; behind = name-behind; none = name-none; whole = name-whole };
       places = places-say;
       linked = allowed-linked;

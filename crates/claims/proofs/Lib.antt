@@ -5,6 +5,7 @@ pub mod EmptyPrograms
 pub mod Offsets
 pub mod Placeless
 pub mod OneHash
+pub mod Times
 pub mod EveryName
 pub mod Examples
 pub mod Places

@@ -31,6 +31,7 @@ use Rattle.claims.specs.NameStops.{NameStops}
 use Rattle.claims.specs.EveryName.{EveryName}
 use Rattle.claims.specs.Offsets.{Offsets}
 use Rattle.claims.specs.OneHash.{OneHash}
+use Rattle.claims.specs.Times.{Times}
 use Rattle.claims.specs.Places.{PlacesSay}
 use Rattle.claims.specs.EmptyPrograms.{EmptyPrograms}
 use Rattle.claims.specs.Examples.{Examples}
@@ -84,6 +85,8 @@ pub record Claims : Type 1 where
       → Stands (take i xs) (take j xs) (run t (take i xs)) (run t (take j xs))
   -- Demand 2, "every field, name": in an accepted file every name, volume and reference can be shown, where the layout has it.
   pub every-name : EveryName
+  -- Request 106: the record's run times are those that the version has, as they stand, and zeros.
+  pub times : Times
   -- Request 104: the search for the program name's end stops at the first zero unit, and check 4's answers are the same.
   pub name-stops : NameStops
   -- ---- the working buffer and the trace links

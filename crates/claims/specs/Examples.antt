@@ -4,13 +4,14 @@ use mathlib.Core.Path.{_≡_}
 use mathlib.Core.List.{List, [], _∷_, _++_}
 use Prim.Native.Nat.{ℕ, _+_, _-_, _/_, _%_, _≤_}
 use lib.ListN.{length, replicate}
-use Rattle.layout.specs.Versions.{layoutOf, versionNumber, runCountAt, headEnd, metricsEntry, nameOffsetAt, volumeEntry}
+use Rattle.layout.specs.Versions.{layoutOf, versionNumber, timeCount, runCountAt, headEnd, metricsEntry, nameOffsetAt, volumeEntry}
 use Rattle.layout.specs.declared.Version.{Version}
 use Rattle.layout.specs.declared.Version.the-variants.{V17, V23, V26}
 use Rattle.incremental.specs.Decision.{accept}
 use Rattle.incremental.specs.Plan.{decided}
 use Rattle.head.specs.declared.checks.Opening.{Opening}
 use Rattle.trace.specs.Links.{end, chains}
+use Rattle.reader.specs.declared.verdict.RunTimes.{RunTimes}
 use Rattle.reader.specs.declared.verdict.Acceptance.{Acceptance}
 use Rattle.reader.specs.declared.verdict.Verdict.{Verdict}
 use Rattle.reader.specs.declared.verdict.Verdict.the-variants.{Accepted}
@@ -42,8 +43,12 @@ headBytes v size runs sections =
     ++ u32 65 ++ zeroBytes 4
     -- 84
     ++ sections
-    -- 120: last run time 0, and what stands before the run count; the run count ends the head
+    -- 120: run times 0, and what stands before the run count; the run count ends the head
     ++ zeroBytes (runCountAt (layoutOf v) - 120) ++ u32 runs
+
+-- so many run times, all of them 0
+abbrev pub zeroTimes : ℕ → RunTimes
+zeroTimes n = record { count = n; latest = 0; second = 0; third = 0; fourth = 0; fifth = 0; sixth = 0; seventh = 0; eighth = 0 }
 
 -- 148 bytes, all section counts and sizes 0. With one run it is the file of document 01's "Program".
 abbrev pub smallest : ℕ → List ℕ
@@ -56,7 +61,7 @@ smallestRecord runs =
       «declared_size» = 148;
       «name_units» = 1;
       «stored_hash» = 65;
-      «run_time» = 0;
+      times = zeroTimes 1;
       «run_count» = runs;
       «metrics_count» = 0;
       «trace_count» = 0;
@@ -122,7 +127,7 @@ fullRecord v =
       «declared_size» = fullSize v;
       «name_units» = 1;
       «stored_hash» = 65;
-      «run_time» = 0;
+      times = zeroTimes (timeCount (layoutOf v));
       «run_count» = 1;
       «metrics_count» = 1;
       «trace_count» = 2;

@@ -1,6 +1,7 @@
 pub mod NameStops
 pub mod Offsets
 pub mod OneHash
+pub mod Times
 pub mod Claims
 pub mod EmptyPrograms
 pub mod EveryName

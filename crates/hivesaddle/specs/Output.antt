@@ -28,7 +28,8 @@ pub record LineWriting (f : Fields) (before : List ℕ) (r : ℕ) (after : List 
   pub number : r ≡ pick (canWrite f (length before)) 0 19
   pub output : after ≡ pick (canWrite f (length before)) (lineOf f ++ drop 25 before) before
 
--- a verdict's values in order: refusal number and index, bytes wanted, the acceptance record, and the refusal's file offset
+-- a verdict's values in order: refusal number and index, bytes wanted, the acceptance record with the latest run time, the refusal's
+-- file offset, how many run times there are, and the seven older ones
 abbrev pub verdictValues : Values → List ℕ
 verdictValues v =
     v .number
@@ -38,13 +39,21 @@ verdictValues v =
     ∷ v .fields .«declared_size»
     ∷ v .fields .«name_units»
     ∷ v .fields .«stored_hash»
-    ∷ v .fields .«run_time»
+    ∷ v .fields .times .latest
     ∷ v .fields .«run_count»
     ∷ v .fields .«metrics_count»
     ∷ v .fields .«trace_count»
     ∷ v .fields .«volume_count»
     ∷ v .fields .«chain_count»
     ∷ v .offset
+    ∷ v .fields .times .count
+    ∷ v .fields .times .second
+    ∷ v .fields .times .third
+    ∷ v .fields .times .fourth
+    ∷ v .fields .times .fifth
+    ∷ v .fields .times .sixth
+    ∷ v .fields .times .seventh
+    ∷ v .fields .times .eighth
     ∷ []
 
 -- the values of a number, an index, a file offset, the bytes wanted and a record

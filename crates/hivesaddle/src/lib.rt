@@ -19,6 +19,7 @@ use query::ReferenceAnswer;
 use query::VolumeAnswer;
 use query::VolumeFacts;
 use reader::Acceptance;
+use reader::RunTimes;
 use reader::Verdict;
 use volumes::Reference;
 
@@ -147,6 +148,7 @@ fn put_values(
 )
     ensures { λ _. ⌜ now (out .exit) ≡ overlay (now (out .entry)) (valuesWith number index offset wanted a) ⌝ }
 {
+    let t = a.times;
     let values = [
         number as u64,
         index as u64,
@@ -155,13 +157,21 @@ fn put_values(
         a.declared_size as u64,
         a.name_units as u64,
         a.stored_hash as u64,
-        a.run_time,
+        t.latest,
         a.run_count as u64,
         a.metrics_count as u64,
         a.trace_count as u64,
         a.volume_count as u64,
         a.chain_count as u64,
         offset as u64,
+        t.count as u64,
+        t.second,
+        t.third,
+        t.fourth,
+        t.fifth,
+        t.sixth,
+        t.seventh,
+        t.eighth,
     ];
     put(out, &values);
 }
@@ -170,12 +180,23 @@ fn put_values(
 fn no_record() -> Acceptance
     ensures { λ r. ⌜ r ≡ noRecord ⌝ }
 {
+    let none = RunTimes {
+        count: 0,
+        latest: 0,
+        second: 0,
+        third: 0,
+        fourth: 0,
+        fifth: 0,
+        sixth: 0,
+        seventh: 0,
+        eighth: 0,
+    };
     Acceptance {
         version: 0,
         declared_size: 0,
         name_units: 0,
         stored_hash: 0,
-        run_time: 0,
+        times: none,
         run_count: 0,
         metrics_count: 0,
         trace_count: 0,

@@ -1,13 +1,16 @@
 -- What only private contracts need: facts that hold of every version's constants.
-use Prim.Native.Nat.{_+_, _≤_}
+use Prim.Native.Nat.{_+_, _*_, _≤_}
 use Rattle.layout.specs.declared.Layout.{Layout}
-use Rattle.layout.specs.Versions.{runTimeAt, runCountAt, headEnd, metricsEntry, nameOffsetAt, nameLengthAt, volumeEntry, traceEntry}
+use Rattle.layout.specs.Versions.{runTimeAt, timeCount, runCountAt, headEnd, metricsEntry, nameOffsetAt, nameLengthAt, volumeEntry, traceEntry}
 
 pub record SoundLayout (l : Layout) : Type 0 where
   -- the head's fields that every version has end by H
   pub fixed : 120 ≤ headEnd l
   pub small : headEnd l ≤ 212
-  pub run-time : runTimeAt l + 8 ≤ headEnd l
+  -- the run times that the version has end by H; it has one at least, and no more than the record
+  pub run-times : runTimeAt l + 8 * timeCount l ≤ headEnd l
+  pub one-time : 1 ≤ timeCount l
+  pub eight-times : timeCount l ≤ 8
   pub run-count : runCountAt l + 4 ≤ headEnd l
   pub metrics-entry : metricsEntry l ≤ 32
   pub name-offset : nameOffsetAt l + 4 ≤ metricsEntry l

@@ -14,11 +14,12 @@ use Rattle.layout.specs.declared.KnownVersion.the-variants.{Known, Unkno
 abbrev pub sizeLimit : ℕ
 sizeLimit = 16_777_215
 
--- one row: last run time | run count | H | metrics entry | name offset, length in it | volume entry | trace entry
-abbrev pub row : ℕ → ℕ → ℕ → ℕ → ℕ → ℕ → ℕ → ℕ → Layout
-row time runs head metrics offset length volume trace =
+-- one row: last run time | how many run times | run count | H | metrics entry | name offset, length in it | volume entry | trace entry
+abbrev pub row : ℕ → ℕ → ℕ → ℕ → ℕ → ℕ → ℕ → ℕ → ℕ → Layout
+row time times runs head metrics offset length volume trace =
     record {
       «run_time_at» = time;
+      «time_count» = times;
       «run_count_at» = runs;
       «head_end» = head;
       «metrics_entry» = metrics;
@@ -29,13 +30,16 @@ row time runs head metrics offset length volume trace =
     }
 
 abbrev pub layoutOf : Version → Layout
-layoutOf V17 = row 120 144 148 20 8 12 40 12
-layoutOf V23 = row 128 152 156 32 12 16 104 12
-layoutOf V26 = row 128 208 212 32 12 16 104 12
+layoutOf V17 = row 120 1 144 148 20 8 12 40 12
+layoutOf V23 = row 128 1 152 156 32 12 16 104 12
+layoutOf V26 = row 128 8 208 212 32 12 16 104 12
 
 -- the columns by name; H is the end of the last field read
 abbrev pub runTimeAt : Layout → ℕ
 runTimeAt l = l .«run_time_at»
+
+abbrev pub timeCount : Layout → ℕ
+timeCount l = l .«time_count»
 
 abbrev pub runCountAt : Layout → ℕ
 runCountAt l = l .«run_count_at»

@@ -58,7 +58,9 @@ pub enum KnownVersion {
 // Where a version keeps its fields, and how long its entries are, in bytes. Each is a small number, so that no product of one with a
 // 32-bit count wraps.
 pub struct Layout {
+    // Where the latest run time stands, and how many there are one after another, each of 8 bytes.
     pub run_time_at: u16,
+    pub time_count: u16,
     pub run_count_at: u16,
     // Document 01: H, the end of the last field read.
     pub head_end: u16,
@@ -73,6 +75,7 @@ pub struct Layout {
 impl Layout {
     pub const V17: Layout = Layout {
         run_time_at: 120,
+        time_count: 1,
         run_count_at: 144,
         head_end: 148,
         metrics_entry: 20,
@@ -84,6 +87,7 @@ impl Layout {
 
     pub const V23: Layout = Layout {
         run_time_at: 128,
+        time_count: 1,
         run_count_at: 152,
         head_end: 156,
         metrics_entry: 32,
@@ -95,6 +99,7 @@ impl Layout {
 
     pub const V26: Layout = Layout {
         run_time_at: 128,
+        time_count: 8,
         run_count_at: 208,
         head_end: 212,
         metrics_entry: 32,

@@ -7,7 +7,7 @@ use Prim.Native.Nat.{ℕ, zero, suc, _+_, _*_, _≤_, _<_, max}
 use native.Mathlib.Nat.{le-trans, le-refl, mul-le-mul-left}
 use native.Mathlib.Decide.{ℕ-discrete}
 use native.Mathlib.Omega.{arith}
-use borrow.Author.Tests.{eq-eqb, ne-eqb, le-ltb, ltb-false, not-false, eqb-true}
+use borrow.Author.Tests.{eq-eqb, ne-eqb, le-ltb, ltb-true, ltb-false, not-false, eqb-true}
 use lib.Dec.{eqb, ltb}
 use lib.ListN.{length, take}
 use lib.Seq.{length-take-le}
@@ -18,7 +18,7 @@ use Rattle.lists.proofs.Count.{count-yes, count-no, count-zero, true-false}
 use Rattle.lists.specs.declared.Found.the-variants as found
 use Rattle.little_endian.specs.Number.{le}
 use Rattle.little_endian.proofs.Number.{le-take}
-use Rattle.layout.specs.Versions.{headEnd, runTimeAt, runCountAt, volumeEntry}
+use Rattle.layout.specs.Versions.{headEnd, runTimeAt, timeCount, runCountAt, volumeEntry}
 use Rattle.layout.specs.Private.{SoundLayout}
 use Rattle.layout.specs.declared.Layout.{Layout}
 use Rattle.incremental.specs.Decision.{Decision, accept, refuse, faultOf}
@@ -47,7 +47,7 @@ use Rattle.volumes.specs.SoundVolume.{SoundVolume}
 use Rattle.volumes.proofs.SoundVolume.{volumes-sound}
 use Rattle.reader.specs.declared.verdict.Acceptance.{Acceptance}
 use Rattle.reader.specs.Verdict.{Acceptable}
-use Rattle.reader.specs.Checks.{nextsIn, linkAt, recordOf, volumesRequired, namesRequired, readPlan, prefixAnswer, sizeOf, sized, whole}
+use Rattle.reader.specs.Checks.{nextsIn, linkAt, timeAt, recordOf, volumesRequired, namesRequired, readPlan, prefixAnswer, sizeOf, sized, whole}
 use Rattle.reader.specs.Private.{fitsPlan, textsPlan, tracePlan, volumesPlan, EntriesFit, tablesPlan, restPlan}
 use Rattle.reader.proofs.Opens.{read-opens}
 use Rattle.reader.proofs.Stages.{answer-then}
@@ -75,6 +75,14 @@ head-take l p s =
       f 116 (omega arith),
     )
 
+-- a run time that the version has lies before H
+time-take : (l : Layout) (p : List ℕ) (j : ℕ) → SoundLayout l → timeAt l (take (headEnd l) p) j ≡ timeAt l p j
+time-take l p j s = go (ltb j (timeCount l)) refl
+  where
+    go : (b : Bool) → ltb j (timeCount l) ≡ b → pick b (le 8 (take (headEnd l) p) (runTimeAt l + 8 * j)) 0 ≡ pick b (le 8 p (runTimeAt l + 8 * j)) 0
+    go true e = le-take 8 (headEnd l) p (runTimeAt l + 8 * j) (omega (arith, s .run-times, ltb-true j (timeCount l) e))
+    go false e = refl
+
 pub record-take : (o : Opening) (p : List ℕ) (n : ℕ) → SoundLayout (o .layout) → recordOf o (take (headEnd (o .layout)) p) n ≡ recordOf o p n
 unfolding recordOf
 record-take o p n s =
@@ -82,7 +90,14 @@ record-take o p n s =
     rw (
       fixed-field l p 12 s (omega arith),
       fixed-field l p 76 s (omega arith),
-      le-take 8 (headEnd l) p (runTimeAt l) (s .run-time),
+      time-take l p 0 s,
+      time-take l p 1 s,
+      time-take l p 2 s,
+      time-take l p 3 s,
+      time-take l p 4 s,
+      time-take l p 5 s,
+      time-take l p 6 s,
+      time-take l p 7 s,
       le-take 4 (headEnd l) p (runCountAt l) (s .run-count),
     )
 

@@ -2,13 +2,13 @@
 -- offset. Then the whole-file reader's 16 and 17, and the promises of both readers.
 use mathlib.Core.Bool.{Bool, true, false}
 use mathlib.Core.List.{List}
-use Prim.Native.Nat.{ℕ, max}
+use Prim.Native.Nat.{ℕ, _+_, _*_, max}
 use lib.Dec.{eqb, ltb}
 use lib.ListN.{length}
 use Rattle.lists.specs.Count.{pick}
 use Rattle.little_endian.specs.Number.{le}
 use Rattle.layout.specs.Head.{versionAt, declaredSizeAt, programNameAt, entryOffset}
-use Rattle.layout.specs.Versions.{versionOf, versionNumber, layoutOf, headEnd, runTimeAt, runCountAt, volumeEntry, traceEntry}
+use Rattle.layout.specs.Versions.{versionOf, versionNumber, layoutOf, headEnd, runTimeAt, timeCount, runCountAt, volumeEntry, traceEntry}
 use Rattle.layout.specs.declared.Version.{Version}
 use Rattle.layout.specs.declared.Layout.{Layout}
 use Rattle.incremental.specs.Decision.{Decision, accept, refuse, refusal}
@@ -21,6 +21,7 @@ use Rattle.head.specs.declared.checks.Opening.{Opening}
 use Rattle.names.specs.Names.{misfitFault, unsoundFault}
 use Rattle.trace.specs.Links as links
 use Rattle.volumes.specs.Volumes.{volumesFrom}
+use Rattle.reader.specs.declared.verdict.RunTimes.{RunTimes}
 use Rattle.reader.specs.declared.verdict.Acceptance.{Acceptance}
 use Rattle.reader.specs.declared.verdict.Verdict.{Verdict}
 use Rattle.reader.specs.Verdict.{Acceptable, Reads}
@@ -45,6 +46,25 @@ linkAt o = entryOffset (o .head .trace .at) (traceEntry (o .layout))
 abbrev pub opening : Version → ℕ → Head → Opening
 opening v n h = record { version = v; layout = layoutOf v; «name_units» = n; head = h }
 
+-- run time j, the latest at 0: the 8 bytes there where the version has so many, else 0 (request 106)
+abbrev pub timeAt : Layout → List ℕ → ℕ → ℕ
+timeAt l b j = pick (ltb j (timeCount l)) (le 8 b (runTimeAt l + 8 * j)) 0
+
+-- how many run times the version has, and eight of them as they stand
+abbrev pub timesIn : Layout → List ℕ → RunTimes
+timesIn l b =
+    record {
+      count = timeCount l;
+      latest = timeAt l b 0;
+      second = timeAt l b 1;
+      third = timeAt l b 2;
+      fourth = timeAt l b 3;
+      fifth = timeAt l b 4;
+      sixth = timeAt l b 5;
+      seventh = timeAt l b 6;
+      eighth = timeAt l b 7;
+    }
+
 -- the acceptance record, by the first H bytes and the chain count
 unfoldable pub recordOf : Opening → List ℕ → ℕ → Acceptance
 recordOf o b chains =
@@ -53,7 +73,7 @@ recordOf o b chains =
       «declared_size» = declaredSize b;
       «name_units» = o .«name_units»;
       «stored_hash» = storedHash b;
-      «run_time» = le 8 b (runTimeAt (o .layout));
+      times = timesIn (o .layout) b;
       «run_count» = le 4 b (runCountAt (o .layout));
       «metrics_count» = o .head .metrics .count;
       «trace_count» = o .head .trace .count;

@@ -6,6 +6,7 @@ use Rattle.incremental.specs.Decision.{accept, refuse}
 use Rattle.incremental.specs.declared.Refusal.{Refusal}
 use Rattle.incremental.specs.Plan.{Answer, decided, wants}
 use Rattle.trace.specs.Links.{filled}
+use Rattle.reader.specs.declared.verdict.RunTimes.{RunTimes}
 use Rattle.reader.specs.declared.verdict.Acceptance.{Acceptance}
 use Rattle.reader.specs.declared.verdict.Verdict.{Verdict}
 use Rattle.reader.specs.declared.verdict.Verdict.the-variants.{Accepted, Refused, Wanted}
@@ -16,6 +17,10 @@ pub record Acceptable : Type 0 where
   pub table : List ℕ
 
 -- with any other answer every field is zero
+abbrev pub noTimes : RunTimes
+noTimes =
+    record { count = 0; latest = 0; second = 0; third = 0; fourth = 0; fifth = 0; sixth = 0; seventh = 0; eighth = 0 }
+
 abbrev pub noRecord : Acceptance
 noRecord =
     record {
@@ -23,7 +28,7 @@ noRecord =
       «declared_size» = 0;
       «name_units» = 0;
       «stored_hash» = 0;
-      «run_time» = 0;
+      times = noTimes;
       «run_count» = 0;
       «metrics_count» = 0;
       «trace_count» = 0;

@@ -5,4 +5,5 @@ mod verdict;
 pub use checks::read_file;
 pub use checks::read_prefix;
 pub use verdict::Acceptance;
+pub use verdict::RunTimes;
 pub use verdict::Verdict;

@@ -1,5 +1,5 @@
-//! Lists what a file says of itself: the program, the files it read, the
-//! volumes they lie on, and where its trace chains start.
+//! Lists what a file says of itself: the program and when it ran, the files it
+//! read, the volumes they lie on, and where its trace chains start.
 //!
 //!     contents FILE
 //!
@@ -14,6 +14,9 @@ fn show(file: &[u8], contents: &FileContents) {
     println!("program {}", text(program_name(file).unwrap_or_default()));
     println!("version {}, run {} times", record.version, record.run_count);
     println!("last run at {} (FILETIME)", record.run_time);
+    for time in &record.times()[1..] {
+        println!("run before at {time}");
+    }
     // Every name and every volume of an accepted file can be shown.
     for name in (0..record.metrics_count.into()).filter_map(|i| entry_name(file, i)) {
         println!("file {}", text(name));

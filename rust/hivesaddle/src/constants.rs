@@ -21,8 +21,16 @@ pub const HS_TRACE_COUNT: usize = 10;
 pub const HS_VOLUME_COUNT: usize = 11;
 pub const HS_CHAIN_COUNT: usize = 12;
 pub const HS_OFFSET: usize = 13;
+pub const HS_TIME_COUNT: usize = 14;
+pub const HS_RUN_TIME_2: usize = 15;
+pub const HS_RUN_TIME_3: usize = 16;
+pub const HS_RUN_TIME_4: usize = 17;
+pub const HS_RUN_TIME_5: usize = 18;
+pub const HS_RUN_TIME_6: usize = 19;
+pub const HS_RUN_TIME_7: usize = 20;
+pub const HS_RUN_TIME_8: usize = 21;
 /// The length of an `out` that holds them all.
-pub const HS_READER_OUT: usize = 14;
+pub const HS_READER_OUT: usize = 22;
 
 /// In a slot of `predecessors`: no entry.
 pub const HS_NONE: u32 = 4294967295;

@@ -33,7 +33,7 @@ extern "C" {
 
 extern "C" {
     /// [`HS_ACCEPTED`], [`HS_REFUSED`] or [`HS_WANTED`]. `out`: the numbers
-    /// from [`HS_NUMBER`] to [`HS_OFFSET`], [`HS_READER_OUT`] in all.
+    /// from [`HS_NUMBER`] to [`HS_RUN_TIME_8`], [`HS_READER_OUT`] in all.
     pub fn hs_read_prefix(
         file: *const u8,
         length: usize,

@@ -13,12 +13,42 @@ pub struct Record {
     pub stored_hash: u32,
     /// Latest run time, a FILETIME as it stands.
     pub run_time: u64,
+    /// The latest run time and the seven behind it, as they stand, sorted or
+    /// not; 0 where the version has none. [`Record::times`] leaves those out.
+    pub run_times: [u64; 8],
+    /// How many run times the version has: 1 for 17 and 23, 8 for 26.
+    pub time_count: u32,
     pub run_count: u32,
     pub metrics_count: u32,
     pub trace_count: u32,
     pub volume_count: u32,
     /// Trace entries that no entry names as next.
     pub chain_count: u32,
+}
+
+impl Record {
+    /// The run times that the version has, the latest first and the others as
+    /// they stand.
+    ///
+    /// ```
+    /// // Version 26: the older run times stand from 136 to 192.
+    /// let mut file = [0; 212];
+    /// file[0] = 26;
+    /// file[4..8].copy_from_slice(b"SCCA");
+    /// file[12] = 212;
+    /// (file[128], file[136], file[184]) = (9, 7, 8);
+    /// let record = hivesaddle::read_file(&file, &mut []).unwrap();
+    /// assert_eq!(record.run_time, 9);
+    /// assert_eq!(record.times(), [9, 7, 0, 0, 0, 0, 0, 8]);
+    ///
+    /// // Version 23 has one, and other things at 136.
+    /// file[0] = 23;
+    /// let record = hivesaddle::read_file(&file, &mut []).unwrap();
+    /// assert_eq!(record.times(), [9]);
+    /// ```
+    pub fn times(&self) -> &[u64] {
+        &self.run_times[..self.time_count as usize]
+    }
 }
 
 /// What [`read_prefix`] says of a prefix.
@@ -154,7 +184,7 @@ fn verdict(answer: u32, out: &[u64; HS_READER_OUT]) -> Verdict {
     }
 }
 
-/// Each field but the run time is a number of at most 32 bits.
+/// Each field but the run times is a number of at most 32 bits.
 fn record(out: &[u64; HS_READER_OUT]) -> Record {
     Record {
         version: out[HS_VERSION] as u32,
@@ -162,6 +192,11 @@ fn record(out: &[u64; HS_READER_OUT]) -> Record {
         name_units: out[HS_NAME_UNITS] as u32,
         stored_hash: out[HS_STORED_HASH] as u32,
         run_time: out[HS_RUN_TIME],
+        run_times: std::array::from_fn(|i| match i {
+            0 => out[HS_RUN_TIME],
+            _ => out[HS_RUN_TIME_2 + i - 1],
+        }),
+        time_count: out[HS_TIME_COUNT] as u32,
         run_count: out[HS_RUN_COUNT] as u32,
         metrics_count: out[HS_METRICS_COUNT] as u32,
         trace_count: out[HS_TRACE_COUNT] as u32,

@@ -14,7 +14,9 @@ pub fn numbers_of(verdict: &Verdict) -> (u32, [u64; HS_READER_OUT]) {
             out[HS_DECLARED_SIZE] = record.declared_size;
             out[HS_NAME_UNITS] = record.name_units;
             out[HS_STORED_HASH] = record.stored_hash;
-            out[HS_RUN_TIME] = record.run_time;
+            out[HS_RUN_TIME] = record.run_times[0];
+            out[HS_RUN_TIME_2..=HS_RUN_TIME_8].copy_from_slice(&record.run_times[1..]);
+            out[HS_TIME_COUNT] = record.time_count;
             out[HS_RUN_COUNT] = record.run_count;
             out[HS_METRICS_COUNT] = record.metrics_count;
             out[HS_TRACE_COUNT] = record.trace_count;

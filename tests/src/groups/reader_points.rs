@@ -3,7 +3,7 @@
 
 use crate::boundary::{numbers_of, Outputs, Reader, PREFIX_READER, WHOLE_READER};
 use crate::generate::bare::{bare, bare_record, one_volume, with_links, HEADS};
-use crate::generate::{set_16, set_32};
+use crate::generate::{set_16, set_32, set_64};
 use crate::random::Random;
 use crate::reference::checks::Refusal;
 use crate::reference::layout::END;
@@ -16,6 +16,7 @@ pub fn run(tally: &mut Tally) {
     first_bytes(tally);
     sizes(tally);
     program_names(tally);
+    run_times(tally);
     section_ends(tally);
     sections_side_by_side(tally);
     huge_sums(tally);
@@ -128,6 +129,39 @@ fn program_names(tally: &mut Tally) {
     }
     part(tally, "a name of 30 units", &file[..76], refused(4, 0, 16));
     part(tally, "30 units, one byte short", &file[..75], Verdict::Wanted(76));
+}
+
+/// Not sorted, one twice, and the ends of 64 bits.
+const TIMES: [u64; 8] = [5, u64::MAX, 0, 1 << 63, 7, 7, 0xFFFF_FFFF, 1];
+
+/// The same numbers from the latest run time on in every version. Up to the
+/// run count 17 and 23 have room for three of them, and only the first is a
+/// time; 26 has all eight from 128 to 192, and other things up to 208.
+fn run_times(tally: &mut Tally) {
+    let first_alone = [5, 0, 0, 0, 0, 0, 0, 0];
+    let cases = [
+        (17, 120, 3, 144, 1, first_alone),
+        (23, 128, 3, 152, 1, first_alone),
+        (26, 128, 8, 208, 8, TIMES),
+    ];
+    for (version, start, numbers, run_count, time_count, run_times) in cases {
+        let mut file = bare(version, 0);
+        for (i, time) in TIMES[..numbers].iter().enumerate() {
+            set_64(&mut file, start + 8 * i, *time);
+        }
+        file[start + 8 * numbers..run_count].fill(0xAA);
+        set_32(&mut file, run_count, 77);
+        let record = Record { run_times, time_count, run_count: 77, ..bare_record(&file) };
+        let name = format!("version {version}, run times");
+        part(tally, &name, &file, Verdict::Accepted(record));
+        whole(tally, &name, &file, Verdict::Accepted(record));
+        // No time is left in an answer that is no acceptance.
+        let short = file.len() - 1;
+        part(tally, &name, &file[..short], Verdict::Wanted(short as u64 + 1));
+        whole(tally, &name, &file[..short], refused(16, 0, 12));
+        set_32(&mut file, 112, 1);
+        part(tally, &name, &file, refused(8, 0, 112));
+    }
 }
 
 /// A section alone in a version 17 file of 188 bytes.

@@ -194,7 +194,13 @@ impl Readers<'_> {
         let input = || format!("{places} slots, {}", hex(&before));
         self.tally.same("read_prefix", &prefix.verdict, &given, input);
         self.tally.same("read_prefix, predecessors", &prefix.predecessors, &predecessors, input);
-        let given = match hivesaddle::read_file(&sample.bytes, &mut predecessors) {
+        let given = hivesaddle::read_file(&sample.bytes, &mut predecessors);
+        if let (Verdict::Accepted(expected), Ok(given)) = (whole.verdict, given) {
+            let times = &expected.run_times[..expected.time_count as usize];
+            let given = (given.run_time, given.times());
+            self.tally.same("times", &(times[0], times), &given, input);
+        }
+        let given = match given {
             Ok(record) => safe_verdict(hivesaddle::Verdict::Accepted(record)),
             Err(refusal) => safe_verdict(hivesaddle::Verdict::Refused(refusal)),
         };
@@ -212,7 +218,8 @@ fn safe_verdict(verdict: hivesaddle::Verdict) -> Verdict {
             declared_size: record.declared_size.into(),
             name_units: record.name_units.into(),
             stored_hash: record.stored_hash.into(),
-            run_time: record.run_time,
+            run_times: record.run_times,
+            time_count: record.time_count.into(),
             run_count: record.run_count.into(),
             metrics_count: record.metrics_count.into(),
             trace_count: record.trace_count.into(),
@@ -242,6 +249,8 @@ fn good_start(random: &mut Random) -> Vec<u8> {
 #[derive(Default)]
 struct Seen {
     accepted: u64,
+    /// With eight run times that do not fall.
+    unsorted_times: u64,
     wanted: u64,
     refused: [u64; 18],
     /// Aimed at this check alone, and answered by it.
@@ -253,7 +262,11 @@ struct Seen {
 impl Seen {
     fn answer(&mut self, answer: &Answer) {
         match answer.verdict {
-            Verdict::Accepted(_) => self.accepted += 1,
+            Verdict::Accepted(record) => {
+                self.accepted += 1;
+                let times = &record.run_times[..record.time_count as usize];
+                self.unsorted_times += !times.is_sorted_by(|one, next| one >= next) as u64;
+            }
             Verdict::Wanted(_) => self.wanted += 1,
             Verdict::Refused(refusal) => self.refused[refusal.number as usize] += 1,
         }
@@ -276,6 +289,7 @@ impl Seen {
         let counts: Vec<String> =
             (1..18).map(|number| format!("{number}: {}", self.refused[number])).collect();
         println!("  {}", counts.join(", "));
+        tally.named("unsorted times have come up", &true, &(self.unsorted_times > 0));
         for number in 1..18 {
             let name = format!("refusal {number} has come up");
             tally.named(&name, &true, &(self.refused[number] > 0));

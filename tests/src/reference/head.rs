@@ -62,8 +62,14 @@ pub fn volume_count(file: &[u8]) -> u64 {
     number_32(file, 112)
 }
 
-pub fn run_time(file: &[u8]) -> u64 {
-    number(file, known_layout(file).run_time, 8)
+/// As many as the version has, the latest first; 0 for the others of eight.
+pub fn run_times(file: &[u8]) -> [u64; 8] {
+    let layout = known_layout(file);
+    let mut times = [0; 8];
+    for (i, time) in times[..layout.time_count].iter_mut().enumerate() {
+        *time = number(file, layout.run_time + 8 * i, 8);
+    }
+    times
 }
 
 pub fn run_count(file: &[u8]) -> u64 {

@@ -3,7 +3,10 @@
 #[derive(Debug)]
 pub struct Layout {
     pub version: u32,
+    /// The latest run time; older ones follow it.
     pub run_time: usize,
+    /// Run times, the latest included.
+    pub time_count: usize,
     pub run_count: usize,
     /// H, the end of the last field read.
     pub head_end: u64,
@@ -17,6 +20,7 @@ pub const LAYOUTS: [Layout; 3] = [
     Layout {
         version: 17,
         run_time: 120,
+        time_count: 1,
         run_count: 144,
         head_end: 148,
         metrics_entry: 20,
@@ -27,6 +31,7 @@ pub const LAYOUTS: [Layout; 3] = [
     Layout {
         version: 23,
         run_time: 128,
+        time_count: 1,
         run_count: 152,
         head_end: 156,
         metrics_entry: 32,
@@ -37,6 +42,7 @@ pub const LAYOUTS: [Layout; 3] = [
     Layout {
         version: 26,
         run_time: 128,
+        time_count: 8,
         run_count: 208,
         head_end: 212,
         metrics_entry: 32,

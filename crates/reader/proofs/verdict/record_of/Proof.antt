@@ -4,8 +4,8 @@ use borrow.Author.Needs.{needs}
 use Rattle.reader.proofs.verdict.record_of.Statement.{statement}
 use Rattle.reader.proofs.verdict.record_of.Tie as tie
 
-cast-run-time : tie.Need-cast-run-time
-cast-run-time c = search needs
+times-in-requires : tie.Need-times-in-requires
+times-in-requires c κs = search needs
 
 cast-run-count : tie.Need-cast-run-count
 cast-run-count c = search needs
@@ -19,9 +19,6 @@ u32-at-requires c κs = search needs
 u32-at-requires-2 : tie.Need-u32-at-requires-2
 u32-at-requires-2 c κs = search needs
 
-u64-at-requires : tie.Need-u64-at-requires
-u64-at-requires c κs = search needs
-
 u32-at-requires-3 : tie.Need-u32-at-requires-3
 u32-at-requires-3 c κs = search needs
 
@@ -33,11 +30,10 @@ pub record-of-spec : {M : Type 1} → statement M
 record-of-spec =
     tie.close
     (tie.spec
-    cast-run-time
+    times-in-requires
     cast-run-count
     number-requires
     u32-at-requires
     u32-at-requires-2
-    u64-at-requires
     u32-at-requires-3
     returns)
