@@ -149,11 +149,21 @@ uint32_t hs_volume(const uint8_t *file, size_t length, uint64_t i, uint64_t *out
  * out: entry index (48 bits), sequence number (16 bits). */
 uint32_t hs_reference(const uint8_t *file, size_t length, uint64_t i, uint64_t k, uint64_t *out, size_t out_length);
 
-/* The first metrics entry, among those that can be shown, whose name has the stored hash, taken over the bytes of the name:
- * XP for version 17, for 23 and 26 Vista or 2008, which are equal. No where there is none, or where checks 1 to 6 do not
- * pass.
- * out: entry. */
+/* The path search. Windows adds the number of a program's /prefetch switch to the hash of its path, and 1 to 8 have an
+ * effect. So a metrics entry matches with a number from 0 to 8 where it can be shown and the hash of its name plus that
+ * number, mod 2 to the 32, is the stored hash. The hash is taken over the bytes of the name: XP for version 17, with its
+ * end step; for 23 and 26 Vista or 2008, which are equal. An entry matches with one number at most.
+ *
+ * The least number with which an entry matches, and the first entry that matches with it. No where there is none, or where
+ * checks 1 to 6 do not pass.
+ * out: entry, number. */
 uint32_t hs_find_path(const uint8_t *file, size_t length, uint64_t *out, size_t out_length);
+
+/* All that match, ordered by number and then by entry. Gives how many there are, however many fit; 0 where checks 1 to 6 do
+ * not pass.
+ * pairs: entry, number, entry, number, .., as many whole pairs as fit. All else of it is left alone, an odd last number
+ * too. */
+uint64_t hs_list_paths(const uint8_t *file, size_t length, uint32_t *pairs, size_t pairs_length);
 
 /* ---- Path hashes ----
  *

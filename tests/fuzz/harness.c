@@ -10,6 +10,7 @@
  *   8, 16  i and k; the four fields of a line to be written
  *   24     seed of the noise
  *   28     length of the output for a line, 0 to 39
+ *   29     length of the list of pairs, 0 to 15
  */
 #define _GNU_SOURCE
 #include "hivesaddle.h"
@@ -30,6 +31,7 @@ uint32_t judge_entry_name(const uint8_t *, size_t, uint64_t, uint64_t *, size_t)
 uint32_t judge_volume(const uint8_t *, size_t, uint64_t, uint64_t *, size_t);
 uint32_t judge_reference(const uint8_t *, size_t, uint64_t, uint64_t, uint64_t *, size_t);
 uint32_t judge_find_path(const uint8_t *, size_t, uint64_t *, size_t);
+uint64_t judge_list_paths(const uint8_t *, size_t, uint32_t *, size_t);
 uint32_t judge_hash_xp(const uint32_t *, size_t);
 uint32_t judge_hash_vista(const uint32_t *, size_t);
 uint32_t judge_hash_2008(const uint32_t *, size_t);
@@ -41,11 +43,12 @@ uint32_t judge_catalogue_write(uint32_t, uint32_t, uint32_t, uint32_t, uint8_t *
 
 enum call {
     READ_PREFIX, READ_FILE, PROGRAM_NAME, ENTRY_NAME, VOLUME, REFERENCE, FIND_PATH, HASH_XP, HASH_VISTA, HASH_2008,
-    HASH_XP_BYTES, HASH_VISTA_BYTES, HASH_2008_BYTES, CATALOGUE_READ, CATALOGUE_WRITE, PLACES, CALLS
+    HASH_XP_BYTES, HASH_VISTA_BYTES, HASH_2008_BYTES, CATALOGUE_READ, CATALOGUE_WRITE, PLACES, LIST_PATHS, CALLS
 };
 static const char *const names[CALLS] = {
     "read_prefix", "read_file", "program_name", "entry_name", "volume", "reference", "find_path", "hash_xp", "hash_vista",
-    "hash_2008", "hash_xp_bytes", "hash_vista_bytes", "hash_2008_bytes", "catalogue_read", "catalogue_write", "places"
+    "hash_2008", "hash_xp_bytes", "hash_vista_bytes", "hash_2008_bytes", "catalogue_read", "catalogue_write", "places",
+    "list_paths"
 };
 
 /* ---- Lists between pages that cannot be touched ---- */
@@ -57,7 +60,7 @@ struct list {
     uint8_t *start;
     size_t bytes;
 };
-enum { FILE_LIST, NUMBERS, TABLE, JUDGE_TABLE, OUT, JUDGE_OUT, LINE, JUDGE_LINE, LISTS };
+enum { FILE_LIST, NUMBERS, TABLE, JUDGE_TABLE, OUT, JUDGE_OUT, LINE, JUDGE_LINE, PAIRS, JUDGE_PAIRS, LISTS };
 static struct list lists[LISTS];
 static int empty_pointer;
 
@@ -153,12 +156,14 @@ static void set_breakpoints(const char *path) {
 
 /* ---- What has been seen, as the library answered ---- */
 
-static uint64_t calls[CALLS], answers[CALLS][20], refusals[2][18], accepted[2][32];
+static uint64_t calls[CALLS], answers[CALLS][20], refusals[2][18], accepted[2][32], numbers_found[9];
 
-static void count(enum call call, uint32_t code, const uint64_t *out, size_t out_length) {
+static void count(enum call call, uint64_t code, const uint64_t *out, size_t out_length) {
     calls[call]++;
     if (call >= HASH_XP && call <= HASH_2008_BYTES) return;
+    if (call == LIST_PATHS && code > 19) code = 19; /* that many pairs, or more */
     answers[call][code]++;
+    if (call == FIND_PATH && code == 1 && out_length > 1) numbers_found[out[1]]++;
     if (call <= READ_FILE && code == HS_REFUSED && out_length > HS_NUMBER) refusals[call][out[HS_NUMBER]]++;
     if (call <= READ_FILE && code == HS_ACCEPTED && out_length > HS_VERSION) accepted[call][out[HS_VERSION]]++;
 }
@@ -179,6 +184,9 @@ static void report(void) {
             if (refusals[call][number]) fprintf(stderr, ", %d: %lu", number, refusals[call][number]);
         fputc('\n', stderr);
     }
+    fprintf(stderr, "seen: find_path: by number");
+    for (int number = 0; number <= 8; number++) fprintf(stderr, ", %d: %lu", number, numbers_found[number]);
+    fputc('\n', stderr);
     if (!instruction_count) return;
     fprintf(stderr, "seen: %zu of %zu instructions of the library\n", reached_count, instruction_count);
     for (size_t i = 0; i < instruction_count; i++)
@@ -222,16 +230,17 @@ static void same_list(enum call call, const char *what, int one, int other) {
 
 static void one_call(enum call call, const struct input *in, uint64_t i, uint64_t k) {
     int flags = in->control[1];
-    size_t n = in->length, count_32 = n / 4, line = in->control[28] % 40;
+    size_t n = in->length, count_32 = n / 4, line = in->control[28] % 40, pairs = in->control[29] % 16;
     lay_pair(TABLE, JUDGE_TABLE, call <= READ_FILE ? 4 * in->places : 0, flags & 2);
     lay_pair(OUT, JUDGE_OUT, 8 * in->out_length, flags & 4);
     lay_pair(LINE, JUDGE_LINE, line, flags & 4);
+    lay_pair(PAIRS, JUDGE_PAIRS, 4 * pairs, flags & 2);
     const uint8_t *file = pointer(&lists[FILE_LIST]);
     const uint32_t *numbers = pointer(&lists[NUMBERS]);
     uint32_t *table = pointer(&lists[TABLE]), *judge_table = pointer(&lists[JUDGE_TABLE]);
     uint64_t *out = pointer(&lists[OUT]), *judge_out = pointer(&lists[JUDGE_OUT]);
     size_t o = in->out_length, p = in->places;
-    uint32_t given = 0, expected = 0;
+    uint64_t given = 0, expected = 0;
     switch (call) {
     case READ_PREFIX:
         given = hs_read_prefix(file, n, table, p, out, o);
@@ -297,15 +306,20 @@ static void one_call(enum call call, const struct input *in, uint64_t i, uint64_
         given = hs_places(file, n, out, o);
         expected = judge_places(file, n, judge_out, o);
         break;
+    case LIST_PATHS:
+        given = hs_list_paths(file, n, pointer(&lists[PAIRS]), pairs);
+        expected = judge_list_paths(file, n, pointer(&lists[JUDGE_PAIRS]), pairs);
+        break;
     default: abort();
     }
     if (given != expected) {
-        fprintf(stderr, "library %u, judge %u\n", given, expected);
+        fprintf(stderr, "library %lu, judge %lu\n", given, expected);
         differ(call, "answer");
     }
     same_list(call, "out", OUT, JUDGE_OUT);
     same_list(call, "predecessors", TABLE, JUDGE_TABLE);
     same_list(call, "line", LINE, JUDGE_LINE);
+    same_list(call, "pairs", PAIRS, JUDGE_PAIRS);
     if (n && memcmp(lists[FILE_LIST].start, in->bytes, n)) differ(call, "the file was changed");
     if (count_32 && memcmp(lists[NUMBERS].start, in->bytes, 4 * count_32)) differ(call, "the numbers were changed");
     count(call, given, out, o);

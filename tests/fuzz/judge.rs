@@ -14,7 +14,7 @@ use numbers::numbers_of;
 use reference::catalogue::{self, Fields};
 use reference::head::{section, VOLUMES};
 use reference::readers::{read_file, read_prefix, Answer};
-use reference::search::find_path;
+use reference::search::{find_path, list_paths};
 use reference::{hashes, queries};
 
 unsafe fn list<'a, T>(pointer: *const T, length: usize) -> &'a [T] {
@@ -149,7 +149,23 @@ pub unsafe extern "C" fn judge_find_path(
     out: *mut u64,
     out_length: usize,
 ) -> u32 {
-    tell(find_path(list(file, length)).map(|found| [found.entry]), out, out_length)
+    let found = find_path(list(file, length));
+    tell(found.map(|found| [found.entry, found.number]), out, out_length)
+}
+
+/// As many whole pairs as fit.
+#[no_mangle]
+pub unsafe extern "C" fn judge_list_paths(
+    file: *const u8,
+    length: usize,
+    pairs: *mut u32,
+    pairs_length: usize,
+) -> u64 {
+    let found = list_paths(list(file, length));
+    let fitting = found.iter().take(pairs_length / 2);
+    let numbers: Vec<u32> = fitting.flat_map(|f| [f.entry as u32, f.number as u32]).collect();
+    write(pairs, pairs_length, &numbers);
+    found.len() as u64
 }
 
 #[no_mangle]

@@ -33,7 +33,7 @@ impl Seeds {
         input.extend(i.to_le_bytes());
         input.extend(k.to_le_bytes());
         input.extend((self.count as u32).to_le_bytes());
-        input.extend([25 + self.count as u8 % 3, 0, 0, 0]);
+        input.extend([25 + self.count as u8 % 3, self.count as u8 % 16, 0, 0]);
         input.extend(bytes);
         std::fs::write(self.folder.join(format!("seed-{:03}", self.count)), input)?;
         self.count += 1;

@@ -1,5 +1,6 @@
 //! Seeded files: sound ones of every version, and aimed damage to them.
 
+pub mod aimed;
 pub mod bare;
 pub mod cuts;
 pub mod damage;
@@ -12,7 +13,7 @@ use crate::random::Random;
 use crate::reference::hashes;
 use crate::reference::layout::{Layout, END, LAYOUTS, TRACE_ENTRY};
 use crate::reference::search::hash_of;
-use strings::Strings;
+use strings::{Aim, Strings};
 
 /// A file, and the number of slots to read it with.
 #[derive(Clone, Debug)]
@@ -73,13 +74,14 @@ pub fn around_links(
     counts: Counts,
     links: &[u32],
 ) -> Vec<u8> {
-    let strings = strings::section(random, counts.metrics);
+    let aim = Aim { version: layout.version, stored: aimed_at(random, layout) };
+    let strings = strings::section(random, counts.metrics, &aim);
     let contents = Contents {
         metrics: metrics_section(random, layout, &strings),
         trace: trace_section(random, links),
         volumes: volumes::section(random, layout, counts.volumes),
         volume_count: counts.volumes as u32,
-        stored_hash: stored_hash(random, layout, &strings),
+        stored_hash: stored_hash(random, &aim, &strings),
         strings: strings.bytes,
     };
     lay_out(random, layout, &contents)
@@ -129,21 +131,38 @@ pub fn trace_section(random: &mut Random, links: &[u32]) -> Vec<u8> {
     section
 }
 
-/// Half the time the hash of one of the names, and a quarter one that was
-/// taken over other numbers than its bytes.
-fn stored_hash(random: &mut Random, layout: &Layout, strings: &Strings) -> u32 {
+/// A stored hash that names can be made for, near the ends of 32 bits too.
+fn aimed_at(random: &mut Random, layout: &Layout) -> u32 {
+    let (noise, small) = (random.u32(), random.below(12) as u32);
+    match layout.version {
+        17 => *random.pick(&[
+            noise % 1_000_000_007,
+            noise % 1_000_000_007,
+            small,
+            1_000_000_006 + small,
+        ]),
+        _ => *random.pick(&[noise, noise, small, small.wrapping_neg()]),
+    }
+}
+
+/// The one that names were aimed at; or the hash of a name, with a number on
+/// top that is found or is one too great; or a hash that was taken over other
+/// numbers than the bytes; or any.
+fn stored_hash(random: &mut Random, aim: &Aim, strings: &Strings) -> u32 {
     if strings.names.is_empty() {
         return random.u32();
     }
     let name = random.pick(&strings.names);
     let text = &strings.bytes[name.offset as usize..][..2 * name.units as usize];
-    let numbers = match random.below(8) {
-        0..=3 => hashes::bytes(text),
-        4 => misread::units(text),
-        5 => misread::signed_bytes(text),
+    let numbers = match random.below(16) {
+        0..=3 => return aim.stored,
+        4..=9 => hashes::bytes(text),
+        10..=11 => misread::units(text),
+        12..=13 => misread::signed_bytes(text),
         _ => return random.u32(),
     };
-    hash_of(layout.version, &numbers)
+    let number = *random.pick(&[0, 0, 0, 0, 1, 4, 7, 8, 9]);
+    hash_of(aim.version, &numbers).wrapping_add(number)
 }
 
 /// Head and sections, in a random order and with gaps. What isn't read is

@@ -36,7 +36,20 @@ impl Amounts {
 const RUN_TIME: u64 = 133_761_942_000_000_000;
 const A_DAY: u64 = 864_000_000_000;
 
-pub const PROGRAM: &str = "CHAMBER.EXE";
+/// The program that a file is about.
+pub struct Program {
+    pub name: &'static str,
+    folder: &'static str,
+    /// What its /prefetch switch adds to the hash of its path.
+    number: u32,
+}
+
+pub const CHAMBER: Program =
+    Program { name: "CHAMBER.EXE", folder: r"PROGRAM FILES\CHAMBER", number: 0 };
+/// A media program has one such file for each way to start it.
+pub const PLAYER: Program =
+    Program { name: "WMPLAYER.EXE", folder: r"PROGRAM FILES\WINDOWS MEDIA PLAYER", number: 6 };
+
 /// The metrics entry of the program itself.
 const PROGRAM_ENTRY: usize = 2;
 
@@ -54,12 +67,17 @@ const FOLDERS: [&str; 8] = [
 const STEMS: [&str; 8] =
     ["NTDLL", "KERNEL32", "APISETSCHEMA", "LOCALE", "COMCTL32", "OLEAUT32", "FANCURVE", "READINGS"];
 
-/// A sound file. The stored hash is that of the program's path.
+/// A sound file about the chamber's own program.
 pub fn file(version: u32, amounts: &Amounts) -> Vec<u8> {
+    file_of(&CHAMBER, version, amounts)
+}
+
+/// A sound file. The stored hash is that of the program's path and its number.
+pub fn file_of(program: &Program, version: u32, amounts: &Amounts) -> Vec<u8> {
     let layout = layout_of(version).expect("one of the three versions");
-    let names: Vec<String> = (0..amounts.files).map(name).collect();
+    let names: Vec<String> = (0..amounts.files).map(|i| name(program, i)).collect();
     let mut file = vec![0; first_section(version)];
-    set_head(&mut file, layout, &names);
+    set_head(&mut file, layout, program, &names);
     let metrics = metrics(layout, &names, amounts.trace);
     add_section(&mut file, &metrics, 84);
     set_32(&mut file, 88, names.len() as u32);
@@ -86,13 +104,14 @@ fn first_section(version: u32) -> usize {
     }
 }
 
-fn set_head(file: &mut [u8], layout: &Layout, names: &[String]) {
+fn set_head(file: &mut [u8], layout: &Layout, program: &Program, names: &[String]) {
     set_32(file, 0, layout.version);
     file[4..8].copy_from_slice(b"SCCA");
     set_32(file, 8, 17);
-    file[16..16 + 2 * PROGRAM.len()].copy_from_slice(&units(PROGRAM));
+    file[16..16 + 2 * program.name.len()].copy_from_slice(&units(program.name));
     let path = names.get(PROGRAM_ENTRY).unwrap_or(&names[0]);
-    set_32(file, 76, hash_of(layout.version, &hashes::bytes(&units(path))));
+    let hash = hash_of(layout.version, &hashes::bytes(&units(path)));
+    set_32(file, 76, hash.wrapping_add(program.number));
     for i in 0..layout.time_count {
         set_64(file, layout.run_time + 8 * i, RUN_TIME - i as u64 * A_DAY);
     }
@@ -119,9 +138,9 @@ fn ended(text: &str) -> Vec<u8> {
 }
 
 /// No two are the same.
-fn name(i: usize) -> String {
+fn name(program: &Program, i: usize) -> String {
     if i == PROGRAM_ENTRY {
-        return format!(r"{}\PROGRAM FILES\CHAMBER\{PROGRAM}", device(0));
+        return format!(r"{}\{}\{}", device(0), program.folder, program.name);
     }
     let (folder, stem) = (FOLDERS[i * 7 % 8], STEMS[i * 5 % 8]);
     let volume = usize::from(i % 9 == 8);

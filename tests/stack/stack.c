@@ -18,7 +18,7 @@ static uint8_t *file;
 static size_t length, places;
 static uint32_t *predecessors;
 static uint64_t out[HS_READER_OUT];
-static uint32_t numbers[1000];
+static uint32_t numbers[1000], pairs[64];
 static uint8_t line[HS_CATALOGUE_LINE_LENGTH];
 
 static volatile uint32_t answer;
@@ -37,6 +37,7 @@ static void read_file(void) { answer = hs_read_file(file, length, predecessors, 
 static void read_prefix(void) { answer = hs_read_prefix(file, length, predecessors, places, out, HS_READER_OUT); }
 static void places_needed(void) { answer = hs_places(file, length, out, HS_READER_OUT); }
 static void find_path(void) { answer = hs_find_path(file, length, out, HS_READER_OUT); }
+static void list_paths(void) { answer = (uint32_t)hs_list_paths(file, length, pairs, 64); }
 static void program_name(void) { answer = hs_program_name(file, length, out, HS_READER_OUT); }
 static void entry_name(void) { answer = hs_entry_name(file, length, 1, out, HS_READER_OUT); }
 static void volume(void) { answer = hs_volume(file, length, 1, out, HS_READER_OUT); }
@@ -64,6 +65,7 @@ static struct {
     {"hs_volume", volume, 0},
     {"hs_reference", reference, 0},
     {"hs_find_path", find_path, 0},
+    {"hs_list_paths", list_paths, 0},
     {"hs_hash_xp", hash_xp, 0},
     {"hs_hash_vista", hash_vista, 0},
     {"hs_hash_2008", hash_2008, 0},

@@ -10,12 +10,13 @@ use Rattle.trace.proofs.Cycles.{cycle-law}
 use Rattle.reader.proofs.Allowed.{demand-2}
 use Rattle.reader.proofs.Early.{demand-3, after-size}
 use Rattle.query.proofs.Laws.{entry-shown-law, name-placed, volume-shown-law, path-placed}
-use Rattle.path_search.proofs.Laws.{path-not-found-law}
+use Rattle.path_search.proofs.Laws.{path-found-law, found-path-law, path-not-found-law}
 use Rattle.text.proofs.Decimal.{decimal-law, decimal-only}
 use Rattle.claims.proofs.Buffer.{not-accepted-filled, allowed-linked}
-use Rattle.claims.proofs.Search.{path-exactly, path-not-open}
+use Rattle.claims.proofs.Search.{path-not-open}
 use Rattle.claims.proofs.EveryName.{every-name}
 use Rattle.claims.proofs.Offsets.{offsets}
+use Rattle.claims.proofs.Numbers.{numbers}
 use Rattle.claims.proofs.OneHash.{one-hash}
 use Rattle.claims.proofs.Times.{times}
 use Rattle.claims.proofs.Places.{places-say}
@@ -47,7 +48,8 @@ claims =
       decimal-is = decimal-law;
       decimal-only = decimal-only;
       one-hash = one-hash;
-      path-found = path-exactly;
+      numbers = numbers;
+      path-found = λ o p i n a. (path-found-law o p i n a, found-path-law o p i n a);
       path-not-found = path-not-found-law;
       path-not-open = path-not-open;
       entry-shown = λ o p i e. entry-shown-law o p i (open-sound p o (open-facts p .holds o e));

@@ -4,6 +4,7 @@ pub mod Computed
 pub mod EmptyPrograms
 pub mod Offsets
 pub mod Placeless
+pub mod Numbers
 pub mod OneHash
 pub mod Times
 pub mod EveryName

@@ -2,7 +2,8 @@
 use mathlib.Core.Path.{_≡_, refl, sym, ap, _∙_}
 use mathlib.Core.Bool.{Bool, true, false, _&&_, _||_}
 use mathlib.Core.List.{List}
-use Prim.Native.Nat.{ℕ}
+use Prim.Native.Nat.{ℕ, _+_, _%_, _^_}
+use native.Mathlib.Omega.{arith}
 use lib.Dec.{eqb}
 use Rattle.lists.specs.First.{first}
 use Rattle.layout.specs.declared.Version.the-variants.{V23}
@@ -11,7 +12,8 @@ use Rattle.path_hash.specs.Hash.{vista, hash2008}
 use Rattle.path_hash.proofs.Laws.{vista-2008}
 use Rattle.head.specs.declared.checks.Opening.{Opening}
 use Rattle.query.specs.Queries.{entryShown}
-use Rattle.path_search.specs.Search.{entryNumbers, firstMatch}
+use Rattle.path_search.specs.Search.{hashOf, entryNumbers, matchesBy}
+use Rattle.path_search.proofs.Least.{hash-low}
 use Rattle.claims.specs.OneHash.{eitherMatches, oldMatch, OneHash}
 
 only-both : (s : List ℕ) (hash : ℕ) → eqb (vista s) hash ≡ eqb (hash2008 s) hash
@@ -24,9 +26,14 @@ one-test s hash = rw (← only-both s hash) (twice (eqb (vista s) hash))
     twice true = refl
     twice false = refl
 
-same-entry : (o : Opening) (p : List ℕ) → o .version ≡ V23 → oldMatch o p ≡ firstMatch o p
-unfolding oldMatch firstMatch
-same-entry o p e = rw e (simp one-test)
+by-zero : (s : List ℕ) (hash : ℕ) → eitherMatches s hash ≡ eqb ((vista s + 0) % 2 ^ 32) hash
+by-zero s hash =
+    let z : (vista s + 0) % 2 ^ 32 ≡ vista s = omega (arith, hash-low V23 s) in
+    one-test s hash ∙ ap (λ h. eqb h hash) (sym z)
+
+same-entry : (o : Opening) (p : List ℕ) → o .version ≡ V23 → oldMatch o p ≡ first (matchesBy o p 0) (o .head .metrics .count)
+unfolding oldMatch
+same-entry o p e = rw e (simp by-zero)
 
 pub one-hash : OneHash
 one-hash = record { seventh-power = refl; eighth-power = refl; vista-2008 = vista-2008; only-both = only-both; same-entry = same-entry }

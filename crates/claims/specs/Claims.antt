@@ -25,11 +25,12 @@ use Rattle.reader.specs.Early.{EarlyStands}
 use Rattle.query.specs.Queries.{entryShown, volumeShown, volumeFacts}
 use Rattle.query.specs.Shown.{EntryShown, NamePlaced, VolumeShown}
 use Rattle.path_search.specs.declared.PathAnswer.the-variants.{Entry, NoPath}
-use Rattle.path_search.specs.Search.{matches, entryNumbers, pathFound, PathFound}
+use Rattle.path_search.specs.Search.{matchesBy, pathFound, PathFound}
 use Rattle.text.specs.Decimal.{decimal, IsDecimal}
 use Rattle.claims.specs.NameStops.{NameStops}
 use Rattle.claims.specs.EveryName.{EveryName}
 use Rattle.claims.specs.Offsets.{Offsets}
+use Rattle.claims.specs.Numbers.{Numbers}
 use Rattle.claims.specs.OneHash.{OneHash}
 use Rattle.claims.specs.Times.{Times}
 use Rattle.claims.specs.Places.{PlacesSay}
@@ -109,12 +110,14 @@ pub record Claims : Type 1 where
   pub decimal-only : (n : ℕ) (s : List ℕ) → IsDecimal n s → s ≡ decimal n
   -- Request 108: Vista and 2008 are equal on every list of numbers, so version 23 needs one of them only.
   pub one-hash : OneHash
+  -- Request 105: the search's answer is the first of all pairs, and an entry is in one at most.
+  pub numbers : Numbers
   -- ---- the path search and the queries, in words
-  -- "Path search": the first metrics entry, among those that can be shown, whose hash equals the stored one, or none; and none on
-  -- bytes that don't pass checks 1 to 6.
-  pub path-found : (o : Opening) (p : List ℕ) (i : ℕ) → Opens p o → (pathFound p ≡ Entry i) ↔ PathFound o p i
+  -- "Path search", with request 105: the least number for which any metrics entry that can be shown matches, and then the first such
+  -- entry, or none; and none on bytes that don't pass checks 1 to 6.
+  pub path-found : (o : Opening) (p : List ℕ) (i n : ℕ) → Opens p o → (pathFound p ≡ Entry i n) ↔ PathFound o p i n
   pub path-not-found : (o : Opening) (p : List ℕ) → Opens p o → pathFound p ≡ NoPath
-      → (i : ℕ) → i < o .head .metrics .count → entryShown o p i ≡ true → matches (o .version) (entryNumbers o p i) (storedHash p) ≡ false
+      → (n i : ℕ) → n < 9 → i < o .head .metrics .count → matchesBy o p n i ≡ false
   pub path-not-open : (p : List ℕ) → ((o : Opening) → Opens p o → ⊥) → pathFound p ≡ NoPath
   -- "Whether metrics entry i can be shown": what the test means; and its name with its zero lies in the bytes lent and within its
   -- section, and its text is sound by rule 10.

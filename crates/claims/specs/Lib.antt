@@ -1,5 +1,6 @@
 pub mod NameStops
 pub mod Offsets
+pub mod Numbers
 pub mod OneHash
 pub mod Times
 pub mod Claims

@@ -11,7 +11,7 @@ use Rattle.sections.specs.Fields.{storedHash}
 use Rattle.path_hash.specs.Hash.{vista, hash2008}
 use Rattle.head.specs.declared.checks.Opening.{Opening}
 use Rattle.query.specs.Queries.{entryShown}
-use Rattle.path_search.specs.Search.{entryNumbers, firstMatch}
+use Rattle.path_search.specs.Search.{entryNumbers, matchesBy}
 
 -- the test of version 23 before: Vista or 2008
 abbrev pub eitherMatches : List ℕ → ℕ → Bool
@@ -29,5 +29,5 @@ pub record OneHash : Type 0 where
   pub vista-2008 : (s : List ℕ) → vista s ≡ hash2008 s
   -- so whatever the stored hash, both match or neither does: the report could only say "both"
   pub only-both : (s : List ℕ) (hash : ℕ) → eqb (vista s) hash ≡ eqb (hash2008 s) hash
-  -- and the search finds the entry that it found
-  pub same-entry : (o : Opening) (p : List ℕ) → o .version ≡ V23 → oldMatch o p ≡ firstMatch o p
+  -- and the search finds the entry that it found, which is the first by number 0 (request 105)
+  pub same-entry : (o : Opening) (p : List ℕ) → o .version ≡ V23 → oldMatch o p ≡ first (matchesBy o p 0) (o .head .metrics .count)

@@ -6,7 +6,7 @@ ghost use Rattle.catalogue.specs.Line.{reading};
 ghost use Rattle.reader.specs.Verdict.{valuesOf, noRecord};
 ghost use Rattle.query.specs.Queries.{placeSaid, programPlace, entryPlace, volumeAsked, volumeList, volumeValues, volumeSaid};
 ghost use Rattle.query.specs.Queries.{referenceAsked, referenceSaid, placesNeeded, placesSaid};
-ghost use Rattle.path_search.specs.Search.{pathFound, pathSaid};
+ghost use Rattle.path_search.specs.Search.{pathFound, pathSaid, ListsPaths};
 ghost use Rattle.hivesaddle.specs.Output.{Answered, overlay, lineValues, fieldsOf, LineWriting, verdictValues, valuesWith, PrefixOut, FileOut};
 use catalogue::Fields;
 use catalogue::ReadLine;
@@ -367,22 +367,30 @@ pub extern "C" fn hs_reference(file: &[u8], i: u64, k: u64, out: &mut [u64]) -> 
     }
 }
 
-// What stands for the entry where there is no path.
-const NO_ENTRY: u64 = 0;
+// What stands for the number where there is no path.
+const NO_NUMBER: u64 = 0;
 
-// The first metrics entry whose path hash is the stored one.
+// The least number for which any entry matches the stored hash, and the first such entry.
 #[no_mangle]
 pub extern "C" fn hs_find_path(file: &[u8], out: &mut [u64]) -> u32
     ensures { λ r. ⌜ Answered (pathSaid (pathFound (now (file .entry)))) r (now (out .entry)) (now (out .exit)) ⌝ }
 {
     match path_search::find_path(file) {
-        PathAnswer::Entry(index) => {
-            put_one(out, index as u64);
+        PathAnswer::Entry { index, number } => {
+            put_two(out, index as u64, number as u64);
             1
         }
         PathAnswer::NoPath => {
-            put_one(out, NO_ENTRY);
+            put_two(out, 0, NO_NUMBER);
             0
         }
     }
+}
+
+// All pairs of an entry and the number by which it matches: their count, and as many whole pairs as fit.
+#[no_mangle]
+pub extern "C" fn hs_list_paths(file: &[u8], pairs: &mut [u32]) -> u64
+    ensures { λ r. ⌜ ListsPaths (now (file .entry)) (now (pairs .entry)) r (now (pairs .exit)) ⌝ }
+{
+    path_search::list_paths(file, pairs) as u64
 }

@@ -88,17 +88,16 @@ accepted-lines a file f g h k e l =
     let m = rw (e, regroup (line (runs·word ++ decimal (a .«run_count»))) _ _ _ _) at (put-then k l) in
     put-then f (put-then g (put-then h m))
 
--- `refused`, number, blank, index
-pub refused-line : {o : List ℕ} {r : ℕ} {p : List ℕ} {q : ℕ} {n : List ℕ} {e : ℕ} {m : List ℕ} {y : ℕ} {u : List ℕ} {z : ℕ} {t : List ℕ}
-    (number index : ℕ)
-    → Put o 0 refused·word r p
-    → Put p r (decimal number) q n
-    → Put n q (32 ∷ []) e m
-    → Put m e (decimal index) y u
-    → Put u y (10 ∷ []) z t
-    → Put o 0 (refusedText number index) z t
+-- two numbers and the blank between them
+pub pair-of : {o : List ℕ} {at r : ℕ} {p : List ℕ} {q : ℕ} {n : List ℕ} {e : ℕ} {m : List ℕ} (a b : ℕ)
+    → Put o at (decimal a) r p → Put p r (32 ∷ []) q n → Put n q (decimal b) e m → Put o at (decimal a ++ (32 ∷ decimal b)) e m
+pair-of a b f g h = put-then f (put-then g h)
+
+pub refused-line : {o : List ℕ} {r : ℕ} {p : List ℕ} {q : ℕ} {n : List ℕ} {e : ℕ} {m : List ℕ} (number index : ℕ)
+    → Put o 0 refused·word r p → Put p r (decimal number ++ (32 ∷ decimal index)) q n → Put n q (10 ∷ []) e m
+    → Put o 0 (refusedText number index) e m
 unfolding refusedText
-refused-line number index f g h k l = line-of f (put-then g (put-then h k)) l
+refused-line number index f g h = line-of f g h
 
 -- ---- which listing it is
 module _ (p buffer : List ℕ) (h : Bytes p) where

@@ -6,10 +6,7 @@ use Prim.Native.Nat.{ℕ, _^_, _≤_, _<_}
 use native.Mathlib.Omega.{arith}
 use lib.Dec.{ltb}
 use lib.ListN.{length, length-append}
-use Rattle.lists.proofs.First.{first-at}
 use Rattle.lists.proofs.Table.{length-tabulate}
-use Rattle.lists.specs.declared.Found.{Found}
-use Rattle.lists.specs.declared.Found.the-variants.{At, Nothing}
 use Rattle.hex.proofs.Hex.{length-digits}
 use Rattle.incremental.specs.Decision.{accept, refuse}
 use Rattle.incremental.specs.Plan.{Answer, decided, wants, run}
@@ -20,11 +17,11 @@ use Rattle.head.specs.declared.checks.Opening.{Opening}
 use Rattle.reader.specs.Verdict.{Acceptable}
 use Rattle.reader.specs.Checks.{fileAnswer}
 use Rattle.reader.specs.declared.verdict.Acceptance.{Acceptance}
-use Rattle.query.specs.Queries.{asked}
-use Rattle.path_search.specs.Search.{firstMatch, answered, pathFound}
+use Rattle.path_search.specs.Search.{pathFound}
+use Rattle.path_search.proofs.Laws.{path-found-law}
+use Rattle.path_search.specs.declared.PathAnswer.{PathAnswer}
 use Rattle.path_search.specs.declared.PathAnswer.the-variants as pathAnswer
 use Rattle.lists.specs.Count.{pick}
-use Rattle.sections.specs.Fields.{storedHash}
 use Rattle.text.specs.Decimal.{decimal}
 use Rattle.text.proofs.Decimal.{decimal-short}
 use Rattle.listing_text.specs.Listing.{line, too-long, pathText, acceptedText, refusedText, answerText}
@@ -39,21 +36,20 @@ ten-digits : (n : ℕ) → n < 2 ^ 32 → length (decimal n) ≤ 10
 ten-digits n l = decimal-short 9 n (omega arith)
 
 module _ (p : List ℕ) (h : Bytes p) where
-  path-found : (o : Opening) (f : Found) → firstMatch o p ≡ f → run openPlan p ≡ decided (accept o) → length (pathText (answered f)) ≤ 10
-  unfolding firstMatch
-  path-found o (At i) e q =
-      let l = first-at _ (o .head .metrics .count) 0 i e .1 in
+  path-found : (o : Opening) (r : PathAnswer) → pathFound p ≡ r → run openPlan p ≡ decided (accept o) → length (pathText r) ≤ 12
+  path-found o (pathAnswer.Entry i n) e q =
+      let f = path-found-law o p i n q e in
       let b = low-counts p o h (open-facts p .holds o q) .metrics in
-      ten-digits i (omega arith)
-  path-found o Nothing e q = omega arith
+      simp length-append (omega (arith, ten-digits i (omega (arith, f .below)), decimal-short 0 n (omega (arith, f .number))))
+  path-found o pathAnswer.NoPath e q = omega arith
 
-  path-short : length (pathText (pathFound p)) ≤ 10
+  path-short : length (pathText (pathFound p)) ≤ 12
   path-short = go (run openPlan p) refl
     where
-      go : (x : Answer Opening) → run openPlan p ≡ x → length (pathText (asked x pathAnswer.NoPath (λ o. answered (firstMatch o p)))) ≤ 10
-      go (decided (accept o)) e = path-found o (firstMatch o p) refl e
-      go (decided (refuse r)) e = omega arith
-      go (wants k) e = omega arith
+      go : (x : Answer Opening) → run openPlan p ≡ x → length (pathText (pathFound p)) ≤ 12
+      go (decided (accept o)) e = path-found o (pathFound p) refl e
+      go (decided (refuse r)) e = rw e (omega arith)
+      go (wants k) e = rw e (omega arith)
 
   accepted-short : (a : Acceptance) → SmallFields a → length (acceptedText a p) ≤ room
   unfolding acceptedText

@@ -65,9 +65,9 @@ shownUnit u = pick (leb 33 u && leb u 126) u 63
 abbrev pub shownName : List ℕ → ℕ → List ℕ
 shownName p units = tabulate units (λ k. shownUnit (le 2 p (programNameAt + 2 * k)))
 
--- the entry index, or `none`
+-- the entry's index, a blank and its number (request 105), or `none`
 abbrev pub pathText : PathAnswer → List ℕ
-pathText (pathAnswer.Entry i) = decimal i
+pathText (pathAnswer.Entry i n) = decimal i ++ (32 ∷ decimal n)
 pathText pathAnswer.NoPath = ascii "none"
 
 -- the eight lines

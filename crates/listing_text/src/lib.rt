@@ -1,6 +1,6 @@
 // What the listing program writes, into a borrowed output.
 ghost use mathlib.Core.Path.{_≡_};
-ghost use mathlib.Core.List.{_++_};
+ghost use mathlib.Core.List.{_++_, _∷_};
 ghost use Prim.Native.Nat.{_≤_};
 ghost use Rattle.hex.specs.Hex.{hexDigits};
 ghost use Rattle.text.specs.Decimal.{decimal};
@@ -69,11 +69,20 @@ fn put_hash_line(out: &mut [u8], at: usize, hash: u32) -> usize
     text::put(out, b, 10)
 }
 
+// Two numbers and the blank between them.
+fn put_pair(out: &mut [u8], at: usize, a: u64, b: u64) -> usize
+    ensures { λ r. ⌜ Put (now (out .entry)) at (decimal a ++ (32 ∷ decimal b)) r (now (out .exit)) ⌝ }
+{
+    let first = text::put_decimal(out, at, a);
+    let blank = text::put(out, first, 32);
+    text::put_decimal(out, blank, b)
+}
+
 fn put_path(out: &mut [u8], at: usize, found: PathAnswer) -> usize
     ensures { λ r. ⌜ Put (now (out .entry)) at (pathText found) r (now (out .exit)) ⌝ }
 {
     match found {
-        PathAnswer::Entry(index) => text::put_decimal(out, at, index as u64),
+        PathAnswer::Entry { index, number } => put_pair(out, at, index as u64, number as u64),
         PathAnswer::NoPath => text::put_all(out, at, b"none"),
     }
 }
@@ -112,10 +121,8 @@ fn put_refused(out: &mut [u8], number: u32, index: usize) -> usize
     ensures { λ r. ⌜ Put (now (out .entry)) 0 (refusedText number index) r (now (out .exit)) ⌝ }
 {
     let a = text::put_all(out, 0, b"refused ");
-    let b = text::put_decimal(out, a, number as u64);
-    let c = text::put(out, b, 32);
-    let d = text::put_decimal(out, c, index as u64);
-    text::put(out, d, 10)
+    let b = put_pair(out, a, number as u64, index as u64);
+    text::put(out, b, 10)
 }
 
 fn put_too_long(out: &mut [u8]) -> usize

@@ -5,3 +5,4 @@ pub mod Parts
 pub mod Pigeon
 pub mod Table
 pub mod Tests
+pub mod Those

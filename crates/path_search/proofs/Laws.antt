@@ -2,38 +2,39 @@
 -- and what a found path is.
 use mathlib.Core.Path.{_≡_, refl, sym, ap, _∙_}
 use mathlib.Core.Bool.{Bool, true, false, _&&_}
-use mathlib.Core.List.{List}
-use Prim.Native.Nat.{ℕ, _+_, _-_, _*_, _/_, _≤_, _<_}
-use native.Mathlib.Nat.{le-trans, le-div-iff-mul-le, div-lt-iff-lt-mul, add-mul, one-mul}
+use mathlib.Core.List.{List, []}
+use Prim.Native.Nat.{ℕ, _+_, _-_, _*_, _/_, _%_, _^_, _≤_, _<_}
+use native.Mathlib.Nat.{le-refl, min-zero, le-trans, le-div-iff-mul-le, div-lt-iff-lt-mul, add-mul, one-mul}
 use native.Mathlib.Omega.{arith}
-use lib.Dec.{eqb, ltb}
+use lib.Dec.{eqb}
 use lib.ListN.{length, take, drop}
-use borrow.Author.Tests.{eq-eqb, ne-eqb, lt-ltb, le-leb, lt-leb, ltb-true, ltb-false}
-use Rattle.lists.proofs.Count.{true-false}
-use Rattle.lists.specs.First.{first}
-use Rattle.lists.proofs.First.{first-at, first-nothing, first-is-at, first-is-nothing}
-use Rattle.lists.specs.declared.Found.{Found}
-use Rattle.lists.specs.declared.Found.the-variants.{At, Nothing}
+use lib.Seq.{take-nil}
+use borrow.Author.Tests.{ne-eqb, lt-ltb, le-ltb, le-leb, lt-leb}
+use Rattle.lists.specs.Count.{pick}
 use Rattle.layout.specs.Versions.{metricsEntry, sizeLimit}
 use Rattle.layout.specs.Private.{SoundLayout}
 use Rattle.layout.specs.declared.Version.{Version}
 use Rattle.layout.specs.declared.Version.the-variants.{V17, V23, V26}
 use Rattle.layout.specs.declared.Layout.{Layout}
-use Rattle.path_hash.specs.Hash.{xp, vista, hash2008}
+use Rattle.path_hash.specs.Hash.{xp, vista, hash2008, wrapSub}
+use Rattle.path_search.proofs.Least.{least-same, pairs-same, least-at, least-is, least-not, by-number, hash-low}
 use Rattle.incremental.specs.Decision.{accept}
 use Rattle.incremental.specs.Plan.{decided, run}
 use Rattle.sections.specs.Fields.{storedHash, part}
-use Rattle.head.specs.Checks.{openPlan}
+use Rattle.head.specs.Checks.{openPlan, openOf}
+use Rattle.head.specs.declared.checks.OpenAnswer.{OpenAnswer}
+use Rattle.head.specs.declared.checks.OpenAnswer.the-variants as openAnswer
 use Rattle.head.specs.Private.{OpenFacts}
 use Rattle.head.proofs.Facts.{open-sound, open-shapes}
 use Rattle.head.specs.declared.checks.Opening.{Opening}
 use Rattle.names.specs.Names.{nameAt, nameUnits, fits, sound}
 use Rattle.names.proofs.Laws.{name-past}
-use Rattle.query.specs.Queries.{bytesAt, entryShown, namePlace}
-use Rattle.path_search.specs.Search.{numbersOf, hashOf, matches, entryNumbers, firstMatch, answered, pathFound, PathFound}
+use Rattle.query.specs.Queries.{asked, bytesAt, entryShown, namePlace}
+use Rattle.path_search.specs.Search.{numbersOf, hashOf, matches, entryNumbers, matchesBy, leastPair, allPairs, pathFound, PathFound}
+use Rattle.path_search.specs.Search.{pathPairs, pairsIn, ListsPaths}
 use Rattle.query.specs.Private.{nameSound, nameIn}
-use Rattle.path_search.specs.Private.{numbersIn, testIn, entriesIn, searched}
-use Rattle.query.proofs.Laws.{both, name-inside, part-there, part-low, part-bytes}
+use Rattle.path_search.specs.Private.{numbersIn, testIn, numberFor, numberIn, numberedIn, entriesIn, searched, PairsPlaced}
+use Rattle.query.proofs.Laws.{name-inside, part-there, part-low, part-bytes}
 use Rattle.path_search.specs.declared.PathAnswer.{PathAnswer}
 use Rattle.path_search.specs.declared.PathAnswer.the-variants as pathAnswer
 
@@ -50,47 +51,67 @@ module _ {v : Version} (numbers : List ℕ) {h : ℕ} where
 
 pub ruleset by-version = (hash-17, hash-23, hash-26)
 
+-- ---- the difference to the stored hash
+pub difference : (stored hash n : ℕ) → stored < 2 ^ 32 → hash < 2 ^ 32 → n < 2 ^ 32 → (n + hash) % 2 ^ 32 ≡ stored → n ≡ wrapSub stored hash
+unfolding wrapSub
+difference stored hash n a b c e = omega arith
+
+pub number-low : (stored hash : ℕ) {n : ℕ} → n ≡ wrapSub stored hash → n < 9 → n ≡ numberFor stored hash
+number-low stored hash e l = rw (← e, lt-ltb _ 9 l)
+
+pub number-none : (stored hash : ℕ) {n : ℕ} → n ≡ wrapSub stored hash → 9 ≤ n → 9 ≡ numberFor stored hash
+number-none stored hash e l = rw (← e, le-ltb _ 9 l)
+
 -- ---- the name of an entry: `at` and `units` are its fields, and `end` is where its units end
-module _ (v : Version) (l : Layout) (metrics strings : List ℕ) (hash i : ℕ) {at units : ℕ} (a : at ≡ nameAt l metrics i)
+module _ (v : Version) (l : Layout) (metrics strings : List ℕ) (stored i : ℕ) {at units : ℕ} (a : at ≡ nameAt l metrics i)
     (u : units ≡ nameUnits l metrics i) where
-  pub match-misfit : fits (length strings) at units ≡ false → false ≡ testIn v l metrics strings hash i
-  unfolding testIn nameSound
+  pub match-misfit : fits (length strings) at units ≡ false → 9 ≡ numberIn v l metrics strings stored i
+  unfolding numberIn nameSound
   match-misfit e = rw (← a, ← u, ← name-past strings at units e)
 
-  -- the test by the fields, where the hash of the name is `h`
-  match-here : {h end : ℕ} → end ≡ at + 2 * units → h ≡ hashOf v (numbersOf (take (end - at) (drop at strings)))
-      → testIn v l metrics strings hash i ≡ (sound strings at units && eqb h hash)
-  unfolding testIn nameSound
-  match-here {end = end} d e =
+  -- the number by the fields, where that of the hash is `n`
+  match-here : {h n end : ℕ} → end ≡ at + 2 * units → h ≡ hashOf v (numbersOf (take (end - at) (drop at strings))) → n ≡ numberFor stored h
+      → numberIn v l metrics strings stored i ≡ pick (sound strings at units) n 9
+  unfolding numberIn nameSound
+  match-here {end = end} d e f =
       let l : end - at ≡ 2 * units = omega arith in
-      rw (← a, ← u, e, l)
+      rw (← a, ← u, f, e, l)
 
-  pub match-differs : {h end : ℕ} → end ≡ at + 2 * units → h ≡ hashOf v (numbersOf (take (end - at) (drop at strings))) → (h ≡ hash → ⊥)
-      → false ≡ testIn v l metrics strings hash i
-  match-differs {h} d e n = sym (match-here d e ∙ rw (ne-eqb h hash n) (neither (sound strings at units)))
+  pub match-none : {h n end : ℕ} → end ≡ at + 2 * units → h ≡ hashOf v (numbersOf (take (end - at) (drop at strings))) → n ≡ numberFor stored h
+      → n ≡ 9 → 9 ≡ numberIn v l metrics strings stored i
+  match-none {n = n} d e f q = sym (match-here d e f ∙ rw q (neither (sound strings at units)))
     where
-      neither : (b : Bool) → (b && false) ≡ false
+      neither : (b : Bool) → _≡_ {A = ℕ} (pick b 9 9) 9
       neither true = refl
       neither false = refl
 
-  pub match-equals : {h end : ℕ} {r : Bool} → end ≡ at + 2 * units → h ≡ hashOf v (numbersOf (take (end - at) (drop at strings))) → h ≡ hash
-      → r ≡ sound strings at units → r ≡ testIn v l metrics strings hash i
-  match-equals {h} d e q s = s ∙ sym (match-here d e ∙ rw (eq-eqb h hash q) (itself (sound strings at units)))
-    where
-      itself : (b : Bool) → (b && true) ≡ b
-      itself true = refl
-      itself false = refl
+  pub match-sound : {h n end : ℕ} {r : Bool} → end ≡ at + 2 * units → h ≡ hashOf v (numbersOf (take (end - at) (drop at strings)))
+      → n ≡ numberFor stored h → r ≡ sound strings at units → r ≡ true → n ≡ numberIn v l metrics strings stored i
+  match-sound d e f s q = sym (match-here d e f ∙ rw (sym s ∙ q))
 
--- the loop ends
-pub search-hit : (v : Version) (l : Layout) (metrics strings : List ℕ) (hash i : ℕ)
-    → first (testIn v l metrics strings hash) (entriesIn l metrics) ≡ At i → pathAnswer.Entry i ≡ searched v l metrics strings hash
-unfolding searched
-search-hit v l metrics strings hash i h = rw h
+  pub match-unsound : {h n end : ℕ} {r : Bool} → end ≡ at + 2 * units → h ≡ hashOf v (numbersOf (take (end - at) (drop at strings)))
+      → n ≡ numberFor stored h → r ≡ sound strings at units → r ≡ false → 9 ≡ numberIn v l metrics strings stored i
+  match-unsound d e f s q = sym (match-here d e f ∙ rw (sym s ∙ q))
 
-pub search-none : (v : Version) (l : Layout) (metrics strings : List ℕ) (hash : ℕ)
-    → first (testIn v l metrics strings hash) (entriesIn l metrics) ≡ Nothing → pathAnswer.NoPath ≡ searched v l metrics strings hash
-unfolding searched
-search-none v l metrics strings hash h = rw h
+-- the number says by which number an entry matches
+pub numbered-test : (v : Version) (l : Layout) (metrics strings : List ℕ) (stored n i : ℕ) → stored < 2 ^ 32 → n < 9
+    → numberedIn v l metrics strings stored n i ≡ testIn v l metrics strings stored n i
+unfolding numberIn testIn
+numbered-test v l metrics strings stored n i b h = go (nameSound l metrics strings i)
+  where
+    hash : ℕ
+    hash = hashOf v (numbersIn l metrics strings i)
+
+    go : (s : Bool) → eqb (pick s (numberFor stored hash) 9) n ≡ (s && eqb ((hash + n) % 2 ^ 32) stored)
+    go true = sym (by-number hash stored n (hash-low v (numbersIn l metrics strings i)) b h)
+    go false = ne-eqb 9 n (λ z. omega arith)
+
+-- the search by numbers is the search by matches
+pub numbered-search : (v : Version) (l : Layout) (metrics strings : List ℕ) (stored : ℕ) (r : PathAnswer) → stored < 2 ^ 32
+    → r ≡ leastPair (numberedIn v l metrics strings stored) (entriesIn l metrics) → r ≡ searched v l metrics strings stored
+numbered-search v l metrics strings stored r b e =
+    e
+    ∙ least-same _ _ _ _ (le-refl (entriesIn l metrics)) (λ n i h c. numbered-test v l metrics strings stored n i b h) (λ n i h c d. absurd (omega arith))
 
 -- ---- THE SEARCH ON THE SECTIONS IS THE SEARCH ON THE FILE
 
@@ -119,18 +140,15 @@ entries-most l s metrics count h =
     let d = div-lt-iff-lt-mul (metric-some l s) .1 g in
     omega arith
 
--- the test of the definition, and the sections of an opening
-abbrev matchAt : Opening → List ℕ → ℕ → Bool
-matchAt o p i = entryShown o p i && matches (o .version) (entryNumbers o p i) (storedHash p)
-
+-- the sections of an opening
 abbrev metricsOf : Opening → List ℕ → List ℕ
 metricsOf o p = part (o .head .metrics) p
 
 abbrev stringsOf : Opening → List ℕ → List ℕ
 stringsOf o p = part (o .head .strings) p
 
-abbrev testOn : Opening → List ℕ → ℕ → Bool
-testOn o p i = testIn (o .version) (o .layout) (metricsOf o p) (stringsOf o p) (storedHash p) i
+abbrev testOn : Opening → List ℕ → ℕ → ℕ → Bool
+testOn o p n i = testIn (o .version) (o .layout) (metricsOf o p) (stringsOf o p) (storedHash p) n i
 
 abbrev entriesOn : Opening → List ℕ → ℕ
 entriesOn o p = entriesIn (o .layout) (metricsOf o p)
@@ -142,40 +160,37 @@ module _ (o : Opening) (p : List ℕ) (f : OpenFacts p o) where
   entries-below : (i : ℕ) → i < entriesOn o p → i < o .head .metrics .count
   entries-below i l = omega (arith, entries-most (o .layout) (open-sound p o f) (metricsOf o p) (o .head .metrics .count) metrics-most)
 
-  whole-entry : (i : ℕ) → i < entriesOn o p → matchAt o p i ≡ testOn o p i
+  whole-entry : (n i : ℕ) → i < entriesOn o p → matchesBy o p n i ≡ testOn o p n i
   unfolding entryShown testIn nameSound
-  whole-entry i l =
+  whole-entry n i l =
       rw (lt-ltb _ _ (entries-below i l), le-leb _ _ (entry-whole (o .layout) (open-sound p o f) (metricsOf o p) i l))
       (go (nameSound (o .layout) (metricsOf o p) (stringsOf o p) i) refl)
     where
       go : (b : Bool) → nameSound (o .layout) (metricsOf o p) (stringsOf o p) i ≡ b
-          → (b && matches (o .version) (entryNumbers o p i) (storedHash p))
-          ≡ (b && matches (o .version) (numbersIn (o .layout) (metricsOf o p) (stringsOf o p) i) (storedHash p))
-      go true s = ap (λ (n : List ℕ). matches (o .version) (numbersOf n) (storedHash p)) (sym (name-bytes o p i s))
+          → (b && matches (o .version) (entryNumbers o p i) (storedHash p) n)
+          ≡ (b && matches (o .version) (numbersIn (o .layout) (metricsOf o p) (stringsOf o p) i) (storedHash p) n)
+      go true s = ap (λ (x : List ℕ). matches (o .version) (numbersOf x) (storedHash p) n) (sym (name-bytes o p i s))
       go false s = refl
 
   -- an entry past the whole ones can't be shown
-  cut-entry : (i : ℕ) → i < o .head .metrics .count → entriesOn o p ≤ i → matchAt o p i ≡ false
+  cut-entry : (n i : ℕ) → i < o .head .metrics .count → entriesOn o p ≤ i → matchesBy o p n i ≡ false
   unfolding entryShown
-  cut-entry i b l = rw (lt-ltb _ _ b, lt-leb _ _ (entry-not-whole (o .layout) (open-sound p o f) (metricsOf o p) i l))
+  cut-entry n i b l = rw (lt-ltb _ _ b, lt-leb _ _ (entry-not-whole (o .layout) (open-sound p o f) (metricsOf o p) i l))
 
-  pub path-law : searched (o .version) (o .layout) (metricsOf o p) (stringsOf o p) (storedHash p) ≡ answered (firstMatch o p)
-  unfolding searched firstMatch
-  path-law = ap answered (go (first (testOn o p) (entriesOn o p)) refl)
-    where
-      none : first (testOn o p) (entriesOn o p) ≡ Nothing → (k : ℕ) → k < o .head .metrics .count → (b : Bool) → ltb k (entriesOn o p) ≡ b
-          → matchAt o p k ≡ false
-      none e k h true q = whole-entry k (ltb-true _ _ q) ∙ first-nothing (testOn o p) (entriesOn o p) e k (ltb-true _ _ q)
-      none e k h false q = cut-entry k h (ltb-false _ _ q)
+  pub entries-few : entriesOn o p ≤ o .head .metrics .count
+  entries-few = entries-most (o .layout) (open-sound p o f) (metricsOf o p) (o .head .metrics .count) metrics-most
 
-      go : (x : Found) → first (testOn o p) (entriesOn o p) ≡ x → first (testOn o p) (entriesOn o p) ≡ first (matchAt o p) (o .head .metrics .count)
-      go (At i) e =
-          let q = first-at (testOn o p) (entriesOn o p) 0 i e in
-          let l : i < entriesOn o p = omega (arith, q .1) in
-          e
-          ∙ sym (first-is-at (matchAt o p) (o .head .metrics .count) i (entries-below i l) (whole-entry i l ∙ q .2)
-          (λ k h. whole-entry k (omega arith) ∙ q .3 k (omega arith) h))
-      go Nothing e = e ∙ sym (first-is-nothing (matchAt o p) (o .head .metrics .count) (λ k h. none e k h (ltb k (entriesOn o p)) refl))
+  pub path-law : leastPair (matchesBy o p) (o .head .metrics .count) ≡ searched (o .version) (o .layout) (metricsOf o p) (stringsOf o p) (storedHash p)
+  path-law =
+      least-same (matchesBy o p) (testOn o p) (o .head .metrics .count) (entriesOn o p) entries-few (λ n i h l. whole-entry n i l)
+      (λ n i h l b. cut-entry n i b l)
+
+  pub pairs-law : storedHash p < 2 ^ 32 → allPairs (matchesBy o p) (o .head .metrics .count)
+      ≡ allPairs (numberedIn (o .version) (o .layout) (metricsOf o p) (stringsOf o p) (storedHash p)) (entriesOn o p)
+  pairs-law s =
+      pairs-same _ _ (o .head .metrics .count) (entriesOn o p) 9 entries-few
+      (λ n i h l. whole-entry n i l ∙ sym (numbered-test (o .version) (o .layout) (metricsOf o p) (stringsOf o p) (storedHash p) n i s h))
+      (λ n i h l b. cut-entry n i b l)
 
 -- for the code, which has the sections from calls
 pub metrics-low : (o : Opening) (p : List ℕ) {metrics : List ℕ} → OpenFacts p o → metrics ≡ part (o .head .metrics) p → length metrics ≤ sizeLimit
@@ -183,39 +198,52 @@ metrics-low o p f e = rw e (part-low (o .head .metrics) _ p (open-shapes p o f .
 
 pub path-given : (o : Opening) (p : List ℕ) {metrics strings : List ℕ} {hash : ℕ} {r : PathAnswer} → OpenFacts p o
     → metrics ≡ part (o .head .metrics) p → strings ≡ part (o .head .strings) p → hash ≡ storedHash p
-    → r ≡ searched (o .version) (o .layout) metrics strings hash → r ≡ answered (firstMatch o p)
+    → r ≡ searched (o .version) (o .layout) metrics strings hash → r ≡ leastPair (matchesBy o p) (o .head .metrics .count)
 path-given o p f em es eh e =
     let g : _ ≡ searched (o .version) (o .layout) (metricsOf o p) (stringsOf o p) (storedHash p) = rw (em, es, eh) at e in
-    g ∙ path-law o p f
+    g ∙ sym (path-law o p f)
 
-unequal : (a b : Bool) → (a && b) ≡ false → a ≡ true → b ≡ false
-unequal true b e q = e
-unequal false b e q = absurd (true-false (sym q))
+pub pairs-given : (o : Opening) (p : List ℕ) {metrics strings before after : List ℕ} {hash r : ℕ} → hash < 2 ^ 32
+    → OpenFacts p o → metrics ≡ part (o .head .metrics) p → strings ≡ part (o .head .strings) p → hash ≡ storedHash p
+    → PairsPlaced (numberedIn (o .version) (o .layout) metrics strings hash) (entriesIn (o .layout) metrics) before r after
+    → PairsPlaced (matchesBy o p) (o .head .metrics .count) before r after
+pairs-given o p b f em es eh q =
+    let e = pairs-law o p f (rw eh at b) in
+    let c = rw (em, es, eh, ← e) at (q .count) in
+    let d = rw (em, es, eh, ← e) at (q .pairs) in
+    record { count = c; pairs = d }
 
-pub path-found-law : (o : Opening) (p : List ℕ) (i : ℕ) → run openPlan p ≡ decided (accept o) → pathFound p ≡ pathAnswer.Entry i → PathFound o p i
-unfolding firstMatch
-path-found-law o p i a e = go (first (matchAt o p) (o .head .metrics .count)) refl (rw a at e)
-  where
-    go : (f : Found) → first (matchAt o p) (o .head .metrics .count) ≡ f → answered f ≡ pathAnswer.Entry i → PathFound o p i
-    go (At k) q h =
-        let j : k ≡ i = cc in
-        let s = first-at (matchAt o p) (o .head .metrics .count) 0 k q in
-        let b = both (entryShown o p k) _ (s .2) in
-        rw (← j)
-        (record {
-          below = omega (arith, s .1);
-          shown = b .0;
-          equal = b .1;
-          first = λ m l. unequal _ _ (s .3 m (omega arith) l);
-        })
-    go Nothing q h = let z : _≡_ {A = ℕ} 0 1 = cc in absurd (omega arith)
+-- what is listed of a file, by what a call for its checks gave: `r` is that answer, on which the code has matched
+pub listed : (p : List ℕ) {before after : List ℕ} {r : OpenAnswer} {o : Opening} {n : ℕ} → openOf r ≡ run openPlan p → r ≡ openAnswer.Opened o
+    → PairsPlaced (matchesBy o p) (o .head .metrics .count) before n after → ListsPaths p before n after
+listed p e q w =
+    let a : run openPlan p ≡ decided (accept _) = sym e ∙ ap openOf q in
+    record { count = rw a (w .count); pairs = rw a (w .pairs) }
 
-pub path-not-found-law : (o : Opening) (p : List ℕ) → run openPlan p ≡ decided (accept o) → pathFound p ≡ pathAnswer.NoPath → (k : ℕ)
-    → k < o .head .metrics .count → entryShown o p k ≡ true → matches (o .version) (entryNumbers o p k) (storedHash p) ≡ false
-unfolding firstMatch
-path-not-found-law o p a e k l = go (first (matchAt o p) (o .head .metrics .count)) refl (rw a at e)
-  where
-    go : (f : Found) → first (matchAt o p) (o .head .metrics .count) ≡ f → answered f ≡ pathAnswer.NoPath → entryShown o p k ≡ true
-        → matches (o .version) (entryNumbers o p k) (storedHash p) ≡ false
-    go (At i) q h = let z : _≡_ {A = ℕ} 0 1 = cc in absurd (omega arith)
-    go Nothing q h = unequal _ _ (first-nothing (matchAt o p) (o .head .metrics .count) q k l)
+no-pairs : (held : List ℕ) → held ≡ pairsIn [] held
+no-pairs held = rw (take-nil {A = ℕ} (2 * (length held / 2)), min-zero (2 * (length held / 2)))
+
+pub none-listed : (p : List ℕ) {held : List ℕ} {r : OpenAnswer} (x : OpenAnswer) → openOf r ≡ run openPlan p → r ≡ x
+    → asked (openOf x) [] (λ o. allPairs (matchesBy o p) (o .head .metrics .count)) ≡ [] → ListsPaths p held 0 held
+none-listed p {held} x e q h =
+    let a : pathPairs p ≡ [] = rw (← e, q) h in
+    record { count = rw a; pairs = rw a (no-pairs held) }
+
+-- ---- what a found path is
+pub path-found-law : (o : Opening) (p : List ℕ) (i n : ℕ) → run openPlan p ≡ decided (accept o) → pathFound p ≡ pathAnswer.Entry i n → PathFound o p i n
+path-found-law o p i n a e =
+    let g : leastPair (matchesBy o p) (o .head .metrics .count) ≡ pathAnswer.Entry i n = rw a at e in
+    let q = least-is (matchesBy o p) (o .head .metrics .count) i n g in
+    record { below = q .below; number = q .number; matched = q .matched; least = q .least; first = q .first }
+
+pub found-path-law : (o : Opening) (p : List ℕ) (i n : ℕ) → run openPlan p ≡ decided (accept o) → PathFound o p i n → pathFound p ≡ pathAnswer.Entry i n
+found-path-law o p i n a q =
+    rw a
+    (least-at (matchesBy o p) (o .head .metrics .count) i n
+    (record { below = q .below; number = q .number; matched = q .matched; least = q .least; first = q .first }))
+
+pub path-not-found-law : (o : Opening) (p : List ℕ) → run openPlan p ≡ decided (accept o) → pathFound p ≡ pathAnswer.NoPath
+    → (n i : ℕ) → n < 9 → i < o .head .metrics .count → matchesBy o p n i ≡ false
+path-not-found-law o p a e =
+    let g : leastPair (matchesBy o p) (o .head .metrics .count) ≡ pathAnswer.NoPath = rw a at e in
+    least-not (matchesBy o p) (o .head .metrics .count) g

@@ -1,1 +1,5 @@
+pub mod Least
 pub mod Laws
+pub mod Places
+pub mod Counters
+pub mod Placing

@@ -1,10 +1,13 @@
--- Document 01's path search.
+-- Document 01's path search, over bytes (request 102) and with numbers from 0 to 8 (request 105).
 use mathlib.Core.Bool.{Bool, true, false, _&&_}
-use mathlib.Core.List.{List, [], _∷_}
-use Prim.Native.Nat.{ℕ, _<_}
+use mathlib.Core.List.{List, [], _∷_, _++_}
+use Prim.Native.Nat.{ℕ, zero, suc, _+_, _*_, _/_, _%_, _^_, _<_, min}
 use lib.Dec.{eqb}
+use lib.ListN.{length, take, drop}
 use Rattle.lists.specs.Answer.{Said}
+use Rattle.lists.specs.Count.{some}
 use Rattle.lists.specs.First.{first}
+use Rattle.lists.specs.Those.{those}
 use Rattle.lists.specs.declared.Found.{Found}
 use Rattle.lists.specs.declared.Found.the-variants.{At, Nothing}
 use Rattle.layout.specs.declared.Version.{Version}
@@ -30,35 +33,76 @@ hashOf V17 numbers = xp numbers
 hashOf V23 numbers = vista numbers
 hashOf V26 numbers = hash2008 numbers
 
-abbrev pub matches : Version → List ℕ → ℕ → Bool
-matches v numbers hash = eqb (hashOf v numbers) hash
+-- a number from 0 to 8 (request 105; source document 001's /prefetch switch)
+abbrev pub numberCount : ℕ
+numberCount = 9
 
--- the numbers of entry i's name
+-- number n matches: the hash plus n, mod 4,294,967,296, equals the stored one. XP takes n after its end step
+abbrev pub matches : Version → List ℕ → ℕ → ℕ → Bool
+matches v numbers stored n = eqb ((hashOf v numbers + n) % 2 ^ 32) stored
+
+-- the numbers that entry i's name gives to the hash
 abbrev pub entryNumbers : Opening → List ℕ → ℕ → List ℕ
 entryNumbers o p i = numbersOf (bytesAt (namePlace o p i) p)
 
--- the first metrics entry, among those that can be shown, whose hash equals the stored one
-unfoldable pub firstMatch : Opening → List ℕ → Found
-firstMatch o p = first (λ i. entryShown o p i && matches (o .version) (entryNumbers o p i) (storedHash p)) (o .head .metrics .count)
+-- entry i can be shown, and matches by number n
+abbrev pub matchesBy : Opening → List ℕ → ℕ → ℕ → Bool
+matchesBy o p n i = entryShown o p i && matches (o .version) (entryNumbers o p i) (storedHash p) n
 
-abbrev pub answered : Found → PathAnswer
-answered (At i) = pathAnswer.Entry i
-answered Nothing = pathAnswer.NoPath
+-- ---- over any test of a number and an entry, and m entries
 
--- on bytes that don't pass checks 1 to 6 the answer is none
+-- the entry of a pair is the first that matches by that number
+abbrev pub entryBy : ℕ → Found → PathAnswer
+entryBy n (At i) = pathAnswer.Entry i n
+entryBy n Nothing = pathAnswer.NoPath
+
+abbrev pub pairBy : (ℕ → ℕ → Bool) → ℕ → Found → PathAnswer
+pairBy test m (At n) = entryBy n (first (test n) m)
+pairBy test m Nothing = pathAnswer.NoPath
+
+-- THE ANSWER: the least number for which any entry matches, and then the first entry, or none
+unfoldable pub leastPair : (ℕ → ℕ → Bool) → ℕ → PathAnswer
+leastPair test m = pairBy test m (first (λ n. some (test n) m) numberCount)
+
+-- ALL PAIRS that match, ordered by number and then by entry: two numbers each, the entry and its number
+unfoldable pub pairsOf : ℕ → List ℕ → List ℕ
+pairsOf n [] = []
+pairsOf n (i ∷ is) = i ∷ n ∷ pairsOf n is
+
+unfoldable pub pairsBelow : (ℕ → ℕ → Bool) → ℕ → ℕ → List ℕ
+pairsBelow test m zero = []
+pairsBelow test m (suc n) = pairsBelow test m n ++ pairsOf n (those (test n) m)
+
+abbrev pub allPairs : (ℕ → ℕ → Bool) → ℕ → List ℕ
+allPairs test m = pairsBelow test m numberCount
+
+-- ---- on a file: none on bytes that don't pass checks 1 to 6
 abbrev pub pathFound : List ℕ → PathAnswer
-pathFound p = asked (run openPlan p) pathAnswer.NoPath (λ o. answered (firstMatch o p))
+pathFound p = asked (run openPlan p) pathAnswer.NoPath (λ o. leastPair (matchesBy o p) (o .head .metrics .count))
 
--- what each case says: 1 for an entry, with its index, or 0 for none, with zeros
+abbrev pub pathPairs : List ℕ → List ℕ
+pathPairs p = asked (run openPlan p) [] (λ o. allPairs (matchesBy o p) (o .head .metrics .count))
+
+-- as many whole pairs as fit a list, and then what it held
+abbrev pub pairsIn : List ℕ → List ℕ → List ℕ
+pairsIn pairs held = take (2 * (length held / 2)) pairs ++ drop (min (2 * (length held / 2)) (length pairs)) held
+
+-- THE PROMISE of the list: the full count of pairs, and what the borrowed list holds afterwards
+pub record ListsPaths (p before : List ℕ) (r : ℕ) (after : List ℕ) : Type 0 where
+  pub count : 2 * r ≡ length (pathPairs p)
+  pub pairs : after ≡ pairsIn (pathPairs p) before
+
+-- what each case says: 1 for an entry, with its index and number, or 0 for none, with zeros
 abbrev pub pathSaid : PathAnswer → Said
-pathSaid (pathAnswer.Entry i) = record { number = 1; values = i ∷ [] }
-pathSaid pathAnswer.NoPath = record { number = 0; values = 0 ∷ [] }
+pathSaid (pathAnswer.Entry i n) = record { number = 1; values = i ∷ n ∷ [] }
+pathSaid pathAnswer.NoPath = record { number = 0; values = 0 ∷ 0 ∷ [] }
 
 -- ---- WHAT A FOUND PATH IS
 
--- the entry can be shown, its hash equals the stored one, and no earlier entry is so
-pub record PathFound (o : Opening) (p : List ℕ) (i : ℕ) : Type 0 where
+-- the entry can be shown and matches by the number; no entry matches by a lower number, and no earlier entry by this one
+pub record PathFound (o : Opening) (p : List ℕ) (i n : ℕ) : Type 0 where
   pub below : i < o .head .metrics .count
-  pub shown : entryShown o p i ≡ true
-  pub equal : matches (o .version) (entryNumbers o p i) (storedHash p) ≡ true
-  pub first : (k : ℕ) → k < i → entryShown o p k ≡ true → matches (o .version) (entryNumbers o p k) (storedHash p) ≡ false
+  pub number : n < numberCount
+  pub matched : matchesBy o p n i ≡ true
+  pub least : (k j : ℕ) → k < n → j < o .head .metrics .count → matchesBy o p k j ≡ false
+  pub first : (j : ℕ) → j < i → matchesBy o p n j ≡ false

@@ -1,4 +1,6 @@
 // The path search: the first name that can be shown and whose hash is the stored one.
+mod pairs;
+
 ghost use mathlib.Core.Path.{_≡_};
 ghost use Prim.Native.Nat.{_≤_};
 ghost use lib.ListN.{length};
@@ -6,17 +8,21 @@ ghost use Rattle.lists.specs.Answer.{Answers};
 ghost use Rattle.layout.specs.Versions.{sizeLimit};
 ghost use Rattle.layout.specs.Private.{SoundLayout};
 ghost use Rattle.head.specs.Private.{OpenFacts};
-ghost use Rattle.path_search.specs.Search.{numbersOf, hashOf, pathFound, pathSaid, answered, firstMatch};
-ghost use Rattle.path_search.specs.Private.{testIn, searched};
+ghost use Rattle.path_search.specs.Search.{numbersOf, hashOf, matchesBy, leastPair, pathFound, pathSaid, ListsPaths};
+ghost use Rattle.path_search.specs.Private.{numberFor, numberIn, searched, PairsPlaced};
 use head::OpenAnswer;
 use head::Opening;
 use layout::Layout;
 use layout::Version;
 
+// An entry, and the number that has to be added to its hash.
 pub enum PathAnswer {
-    Entry(usize),
+    Entry { index: usize, number: u32 },
     NoPath,
 }
+
+// Numbers from 0 to 8; this one stands for none.
+const NO_NUMBER: u32 = 9;
 
 // The hash of a name, by the version's hash.
 fn name_hash(name: &[u8], version: Version) -> u32
@@ -29,43 +35,73 @@ fn name_hash(name: &[u8], version: Version) -> u32
     }
 }
 
-// The name of an entry that lies whole in the metrics, against the stored hash. Few names have that hash, so it comes first, and
-// only a name that has it is looked through for a zero unit.
-fn entry_matches(
+// What has to be added to a hash, mod 2^32, to make it the stored one, where that is no more than 8.
+fn number_for(stored: u32, hash: u32) -> u32
+    ensures { λ r. ⌜ r ≡ numberFor stored hash ⌝ }
+{
+    let n = std::num::wrapping_sub_u32(stored, hash);
+    if n < NO_NUMBER { n } else { NO_NUMBER }
+}
+
+// The number by which an entry that lies whole in the metrics matches. Few names match, so the hash comes first, and only a name that
+// matches is looked through for a zero unit.
+fn entry_number(
     metrics: &[u8],
     strings: &[u8],
     version: Version,
     l: Layout,
     i: u32,
     stored: u32,
-) -> bool
-    ensures { λ r. ⌜ r ≡ testIn version l (now (metrics .entry)) (now (strings .entry)) stored i ⌝ }
+) -> u32
+    ensures { λ r. ⌜ r ≡ numberIn version l (now (metrics .entry)) (now (strings .entry)) stored i ⌝ }
 {
     let at = names::name_at(metrics, l, i);
     let units = names::name_units(metrics, l, i);
     if !names::name_fits(strings.len(), at, units) {
-        return false;
+        return NO_NUMBER;
     }
     let start = at as usize;
     let end = start + 2 * (units as usize);
-    if name_hash(&strings[start..end], version) != stored {
-        return false;
+    let n = number_for(stored, name_hash(&strings[start..end], version));
+    if n == NO_NUMBER {
+        return NO_NUMBER;
     }
-    names::name_sound(strings, at, units)
+    if names::name_sound(strings, at, units) {
+        n
+    } else {
+        NO_NUMBER
+    }
 }
 
-// The search over the entries that lie whole in the metrics: the others can't be shown.
+// The least number over the entries that lie whole in the metrics, and the first entry that has it: the others can't be shown. None
+// is less than 0, so the first entry with 0 ends the search.
 fn search(metrics: &[u8], strings: &[u8], version: Version, l: Layout, stored: u32) -> PathAnswer
     requires { ⌜ (length (now metrics) ≤ sizeLimit) × SoundLayout l ⌝ }
     ensures { λ r. ⌜ r ≡ searched version l (now (metrics .entry)) (now (strings .entry)) stored ⌝ }
 {
     let entries = metrics.len() / (l.metrics_entry as usize);
+    let mut least = NO_NUMBER;
+    let mut index = 0;
     let mut i = 0;
     while i < entries {
-        if entry_matches(metrics, strings, version, l, i as u32, stored) {
-            return PathAnswer::Entry(i);
+        let n = entry_number(metrics, strings, version, l, i as u32, stored);
+        if n == 0 {
+            return PathAnswer::Entry {
+                index: i,
+                number: 0,
+            };
+        }
+        if n < least {
+            least = n;
+            index = i;
         }
         i += 1;
+    }
+    if least < NO_NUMBER {
+        return PathAnswer::Entry {
+            index: index,
+            number: least,
+        };
     }
     PathAnswer::NoPath
 }
@@ -73,7 +109,7 @@ fn search(metrics: &[u8], strings: &[u8], version: Version, l: Layout, stored: u
 // The search, where checks 1 to 6 pass.
 fn path_in(file: &[u8], o: Opening) -> PathAnswer
     requires { ⌜ OpenFacts (now file) o ⌝ }
-    ensures { λ r. ⌜ r ≡ answered (firstMatch o (now (file .entry))) ⌝ }
+    ensures { λ r. ⌜ r ≡ leastPair (matchesBy o (now (file .entry))) (o .head .metrics .count) ⌝ }
 {
     let version = o.version;
     let l = o.layout;
@@ -86,7 +122,7 @@ fn path_in(file: &[u8], o: Opening) -> PathAnswer
     search(metrics, strings, version, l, stored)
 }
 
-// The first metrics entry that can be shown and whose path hash equals the stored one.
+// The least number for which any entry that can be shown matches the stored hash, and the first such entry.
 pub fn find_path(file: &[u8]) -> PathAnswer
     ensures { λ r. ⌜ Answers pathSaid (pathFound (now (file .entry))) r ⌝ }
 {
@@ -94,5 +130,34 @@ pub fn find_path(file: &[u8]) -> PathAnswer
         OpenAnswer::Opened(o) => path_in(file, o),
         OpenAnswer::Refused(_) => PathAnswer::NoPath,
         OpenAnswer::Wanted(_) => PathAnswer::NoPath,
+    }
+}
+
+// All pairs, where checks 1 to 6 pass.
+fn paths_in(file: &[u8], o: Opening, pairs: &mut [u32]) -> usize
+    requires { ⌜ OpenFacts (now file) o ⌝ }
+    ensures { λ r.
+        ⌜ PairsPlaced (matchesBy o (now (file .entry))) (o .head .metrics .count) (now (pairs .entry)) r (now (pairs .exit)) ⌝ }
+{
+    let version = o.version;
+    let l = o.layout;
+    let h = o.head;
+    let entries = h.metrics;
+    let text = h.strings;
+    let metrics = sections::part_of(file, entries);
+    let strings = sections::part_of(file, text);
+    let stored = little_endian::u32_at(file, layout::STORED_HASH_AT);
+    pairs::list_in(metrics, strings, version, l, stored, pairs)
+}
+
+// All pairs of an entry and the number by which it matches, ordered by number and then by entry: their count, and as many whole pairs as
+// fit.
+pub fn list_paths(file: &[u8], pairs: &mut [u32]) -> usize
+    ensures { λ r. ⌜ ListsPaths (now (file .entry)) (now (pairs .entry)) r (now (pairs .exit)) ⌝ }
+{
+    match head::read_open(file) {
+        OpenAnswer::Opened(o) => paths_in(file, o, pairs),
+        OpenAnswer::Refused(_) => 0,
+        OpenAnswer::Wanted(_) => 0,
     }
 }

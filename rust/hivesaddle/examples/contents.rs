@@ -1,12 +1,15 @@
 //! Lists what a file says of itself: the program and when it ran, the files it
-//! read, the volumes they lie on, and where its trace chains start.
+//! read, the volumes they lie on, which files the program itself can be and
+//! with which number, and where its trace chains start.
 //!
 //!     contents FILE
 //!
 //! The status is 0 for an accepted file, 1 for any other and 2 where FILE
 //! can't be read.
 
-use hivesaddle::{entry_name, program_name, read_file_alloc, volume, FileContents, NONE};
+use hivesaddle::{
+    entry_name, list_paths_alloc, program_name, read_file_alloc, volume, FileContents, NONE,
+};
 use std::process::ExitCode;
 
 fn show(file: &[u8], contents: &FileContents) {
@@ -23,6 +26,9 @@ fn show(file: &[u8], contents: &FileContents) {
     }
     for volume in (0..record.volume_count.into()).filter_map(|i| volume(file, i)) {
         println!("volume {:08X} {}", volume.serial_number, text(volume.path));
+    }
+    for found in list_paths_alloc(file) {
+        println!("path {} {}", found.entry, found.number);
     }
     let links = contents.predecessors.iter().enumerate();
     let starts: Vec<usize> = links.filter(|link| *link.1 == NONE).map(|link| link.0).collect();

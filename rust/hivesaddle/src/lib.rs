@@ -1,7 +1,8 @@
 //! Safe calls into the proved reader of Windows Prefetch (SCCA) files.
 //!
 //! Every function takes any bytes, any index and any buffer length and comes
-//! to an end. Nothing is allocated, but by [`read_file_alloc`].
+//! to an end. Nothing is allocated, but by [`read_file_alloc`] and
+//! [`list_paths_alloc`].
 //!
 //! Numbers in a file are little-endian. A text is UTF-16 units kept as they
 //! stand, and is handed over as bytes, low byte first.
@@ -18,7 +19,8 @@ pub use hashes::{
     hash_2008, hash_2008_bytes, hash_vista, hash_vista_bytes, hash_xp, hash_xp_bytes,
 };
 pub use queries::{
-    entry_name, find_path, places, program_name, reference, volume, FoundPath, Reference, Volume,
+    entry_name, find_path, list_paths, list_paths_alloc, places, program_name, reference, volume,
+    FoundPath, Reference, Volume,
 };
 pub use readers::{read_file, read_file_alloc, read_prefix, FileContents, Record, Verdict};
 

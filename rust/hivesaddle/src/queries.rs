@@ -24,10 +24,12 @@ pub struct Reference {
     pub sequence_number: u16,
 }
 
-/// The metrics entry whose name has the stored hash.
+/// A metrics entry whose name has the stored hash, once the number is added.
 #[derive(Clone, Copy, Debug, PartialEq, Eq)]
 pub struct FoundPath {
     pub entry: u64,
+    /// From 0 to 8: what the program's `/prefetch` switch added to the hash.
+    pub number: u32,
 }
 
 /// How many slots of `predecessors` [`crate::read_prefix`] and
@@ -152,29 +154,84 @@ pub fn reference(file: &[u8], i: u64, k: u64) -> Option<Reference> {
     yes(answer).then(|| Reference { entry_index: out[0], sequence_number: out[1] as u16 })
 }
 
-/// The first metrics entry, among those that can be shown, whose name has the
-/// stored hash, taken over the bytes of the name.
+/// The least number from 0 to 8 with which a metrics entry matches, and the
+/// first entry that matches with it. An entry matches where it can be shown
+/// and the hash of its name's bytes plus the number, mod 2 to the 32, is the
+/// stored hash.
 ///
 /// ```
-/// // Version 17, one name "A" after the head, and the XP hash of "A".
+/// // Version 17, one name "A" after the head, and the XP hash of "A" plus 6.
 /// let mut file = [0; 172];
 /// file[0] = 17;
 /// file[4..8].copy_from_slice(b"SCCA");
 /// file[12] = 172;
-/// file[76..80].copy_from_slice(&361202151u32.to_le_bytes());
+/// file[76..80].copy_from_slice(&361202157u32.to_le_bytes());
 /// (file[84], file[88]) = (148, 1);
 /// (file[100], file[104]) = (168, 4);
 /// file[148 + 12] = 1;
 /// file[168] = b'A';
-/// assert_eq!(hivesaddle::find_path(&file).unwrap().entry, 0);
+/// let found = hivesaddle::find_path(&file).unwrap();
+/// assert_eq!((found.entry, found.number), (0, 6));
 /// file[168] = b'B';
 /// assert_eq!(hivesaddle::find_path(&file), None);
 /// ```
 pub fn find_path(file: &[u8]) -> Option<FoundPath> {
-    let mut out = [0];
+    let mut out = [0; 2];
     let answer =
         unsafe { raw::hs_find_path(file.as_ptr(), file.len(), out.as_mut_ptr(), out.len()) };
-    yes(answer).then(|| FoundPath { entry: out[0] })
+    yes(answer).then(|| FoundPath { entry: out[0], number: out[1] as u32 })
+}
+
+/// All entries that match, as [`find_path`] says it, ordered by number and
+/// then by entry. Gives how many there are. `pairs` takes entry and number of
+/// each, as many whole pairs as fit; all else of it stays as it was.
+/// [`list_paths_alloc`] allocates them.
+///
+/// ```
+/// // Version 26: the units 0x0141 and 0x0041, and the hash of the first. That
+/// // of the second is one less.
+/// let mut file = [0; 284];
+/// file[0] = 26;
+/// file[4..8].copy_from_slice(b"SCCA");
+/// (file[12], file[13]) = (28, 1);
+/// file[76..80].copy_from_slice(&430086077u32.to_le_bytes());
+/// (file[84], file[88]) = (212, 2);
+/// (file[100], file[101], file[104]) = (20, 1, 8);
+/// (file[212 + 16], file[244 + 12], file[244 + 16]) = (1, 4, 1);
+/// (file[276], file[277], file[280]) = (b'A', 1, b'A');
+/// let mut pairs = [7; 5];
+/// assert_eq!(hivesaddle::list_paths(&file, &mut pairs), 2);
+/// assert_eq!(pairs, [0, 0, 1, 1, 7]);
+/// ```
+pub fn list_paths(file: &[u8], pairs: &mut [u32]) -> u64 {
+    unsafe { raw::hs_list_paths(file.as_ptr(), file.len(), pairs.as_mut_ptr(), pairs.len()) }
+}
+
+/// [`list_paths`] with as many pairs as there are. The names are hashed twice,
+/// first to count.
+///
+/// An entry matches with one number at most, and there are at most 838,853
+/// entries, 20 bytes each inside the declared size, so no file takes more than
+/// 20.2 MB.
+///
+/// ```
+/// // Version 17, one empty name, which XP gives 0, and a stored hash of 8.
+/// let mut file = [0; 170];
+/// file[0] = 17;
+/// file[4..8].copy_from_slice(b"SCCA");
+/// (file[12], file[76]) = (170, 8);
+/// (file[84], file[88]) = (148, 1);
+/// (file[100], file[104]) = (168, 2);
+/// let found = hivesaddle::list_paths_alloc(&file);
+/// assert_eq!(found, [hivesaddle::FoundPath { entry: 0, number: 8 }]);
+/// file[76] = 9;
+/// assert_eq!(hivesaddle::list_paths_alloc(&file), []);
+/// ```
+pub fn list_paths_alloc(file: &[u8]) -> Vec<FoundPath> {
+    let mut pairs = vec![0; 2 * list_paths(file, &mut []) as usize];
+    list_paths(file, &mut pairs);
+    let found = |pair: &[u32]| FoundPath { entry: pair[0].into(), number: pair[1] };
+    pairs.chunks_exact(2).map(found).collect()
 }
 
 fn yes(answer: u32) -> bool {

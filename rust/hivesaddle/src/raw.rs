@@ -87,6 +87,17 @@ extern "C" {
         out: *mut u64,
         out_length: usize,
     ) -> u32;
-    /// `out`: entry index.
+    /// `out`: entry index, number.
     pub fn hs_find_path(file: *const u8, length: usize, out: *mut u64, out_length: usize) -> u32;
+}
+
+extern "C" {
+    /// The full count. `pairs`: entry index, number, and so on, as many whole
+    /// pairs as fit.
+    pub fn hs_list_paths(
+        file: *const u8,
+        length: usize,
+        pairs: *mut u32,
+        pairs_length: usize,
+    ) -> u64;
 }

@@ -1,14 +1,15 @@
 //! samples FOLDER
 //!
 //! Writes the sample files of the examples, the same bytes every time: a small
-//! sound file, one of about 150 KB, and copies of that one, each with a fault.
+//! sound file, one of version 26 that a media program left with a /prefetch
+//! number, one of about 150 KB, and copies of that one, each with a fault.
 
 use compare::generate::damage::volume_start;
 use compare::generate::{set_16, set_32};
 use compare::reference::checks::{entry_start, name_of_entry};
 use compare::reference::head::{known_layout, section, STRINGS, TRACE};
 use compare::reference::layout::TRACE_ENTRY;
-use compare::typical::{self, Amounts, TYPICAL};
+use compare::typical::{self, Amounts, PLAYER, TYPICAL};
 use std::io;
 use std::path::Path;
 use std::process::ExitCode;
@@ -33,6 +34,7 @@ fn main() -> ExitCode {
 fn write_all(folder: &Path) -> io::Result<()> {
     std::fs::create_dir_all(folder)?;
     std::fs::write(folder.join("small.pf"), typical::file(VERSION, &SMALL))?;
+    std::fs::write(folder.join("player.pf"), typical::file_of(&PLAYER, 26, &SMALL))?;
     let good = typical::file(VERSION, &TYPICAL);
     std::fs::write(folder.join("good.pf"), &good)?;
     std::fs::write(folder.join("cut.pf"), &good[..100_000])?;

@@ -390,7 +390,7 @@ pub fn edits(random: &mut Random, sample: &mut Sample) {
 }
 
 fn edit(random: &mut Random, file: &mut [u8]) {
-    const HEAD_FIELDS: [usize; 12] = [0, 4, 12, 84, 88, 92, 96, 100, 104, 108, 112, 116];
+    const HEAD_FIELDS: [usize; 13] = [0, 4, 12, 76, 84, 88, 92, 96, 100, 104, 108, 112, 116];
     match random.below(6) {
         0 => file[random.below(file.len())] ^= 1 << random.below(8),
         1 => file[random.below(file.len())] = 0,

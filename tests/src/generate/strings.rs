@@ -1,5 +1,6 @@
 //! The strings section and the names in it.
 
+use super::aimed::text_with_hash;
 use crate::random::Random;
 
 #[derive(Clone, Copy)]
@@ -14,11 +15,17 @@ pub struct Strings {
     pub names: Vec<Name>,
 }
 
+/// The stored hash that some names are made for, by the version's function.
+pub struct Aim {
+    pub version: u32,
+    pub stored: u32,
+}
+
 /// With no names the section may still hold something.
-pub fn section(random: &mut Random, names: usize) -> Strings {
+pub fn section(random: &mut Random, names: usize, aim: &Aim) -> Strings {
     let mut strings = Strings { bytes: Vec::new(), names: Vec::new() };
     for _ in 0..names {
-        let name = name(random, &mut strings);
+        let name = name(random, &mut strings, aim);
         strings.names.push(name);
     }
     if random.one_in(2) {
@@ -29,13 +36,28 @@ pub fn section(random: &mut Random, names: usize) -> Strings {
 }
 
 /// A new name, or one that shares bytes with an earlier one.
-fn name(random: &mut Random, strings: &mut Strings) -> Name {
+fn name(random: &mut Random, strings: &mut Strings, aim: &Aim) -> Name {
+    if random.one_in(3) {
+        if let Some(name) = aimed_name(random, &mut strings.bytes, aim) {
+            return name;
+        }
+    }
     if strings.names.is_empty() || !random.one_in(4) {
         return new_name(random, &mut strings.bytes);
     }
     let earlier = *random.pick(&strings.names);
     let skipped = random.between(0, earlier.units as usize) as u32;
     Name { offset: earlier.offset + 2 * skipped, units: earlier.units - skipped }
+}
+
+/// With a hash as far below the stored one as a number goes, or just past it.
+fn aimed_name(random: &mut Random, bytes: &mut Vec<u8>, aim: &Aim) -> Option<Name> {
+    let number = *random.pick(&[0, 1, 2, 3, 4, 5, 6, 7, 8, 9, u32::MAX]);
+    let text = text_with_hash(random, aim.version, aim.stored.wrapping_sub(number))?;
+    let offset = bytes.len() as u32;
+    bytes.extend(text);
+    bytes.extend([0, 0]);
+    Some(Name { offset, units: 4 })
 }
 
 /// At any parity, with its zero unit.

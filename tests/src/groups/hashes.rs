@@ -1,6 +1,7 @@
 //! The three path hashes over lists of numbers and over texts.
 
 use super::Run;
+use crate::generate::aimed::inverse;
 use crate::generate::misread;
 use crate::random::Random;
 use crate::reference::hashes as reference;
@@ -136,15 +137,6 @@ fn chosen_ends() -> Vec<u32> {
 /// The number c with c x 314159269 = after, mod 2 to the 32.
 fn single_number_for(after: u32) -> u32 {
     after.wrapping_mul(inverse(314159269))
-}
-
-/// Of an odd number, mod 2 to the 32: each turn doubles the bits that hold.
-fn inverse(odd: u32) -> u32 {
-    let mut x = odd;
-    for _ in 0..5 {
-        x = x.wrapping_mul(2u32.wrapping_sub(odd.wrapping_mul(x)));
-    }
-    x
 }
 
 /// Random numbers and a last one that brings the XP value where it should be.

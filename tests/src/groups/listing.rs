@@ -52,10 +52,14 @@ fn example(tally: &mut Tally) {
 fn example_paths(tally: &mut Tally) {
     let path = r"\DEVICE\HARDDISKVOLUME1\WINDOWS\NOTEPAD.EXE";
     let cases = [
-        (17, 0x189578DA, "path 0"),
-        (23, 0x3D2AFDB4, "path 0"),
-        (26, 0x3D2AFDB4, "path 0"),
+        (17, 0x189578DA, "path 0 0"),
+        (23, 0x3D2AFDB4, "path 0 0"),
+        (26, 0x3D2AFDB4, "path 0 0"),
         (26, 0x189578DA, "path none"),
+        // With a number of the /prefetch switch, and one too great.
+        (17, 0x189578DB, "path 0 1"),
+        (23, 0x3D2AFDBC, "path 0 8"),
+        (26, 0x3D2AFDBD, "path none"),
     ];
     for (version, hash, last) in cases {
         let text = format!(

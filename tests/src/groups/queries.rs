@@ -2,7 +2,7 @@
 //! beside the reference.
 
 use super::Run;
-use crate::boundary::guarded_u64;
+use crate::boundary::{guarded_u32, guarded_u64};
 use crate::generate::cuts::{cuts, query_cuts};
 use crate::generate::damage::{damage, edits};
 use crate::generate::{any, rich, Sample};
@@ -10,7 +10,7 @@ use crate::random::Random;
 use crate::reference::head::{metrics_count, volume_count};
 use crate::reference::queries as reference;
 use crate::reference::queries::Part;
-use crate::reference::search::find_path;
+use crate::reference::search::{find_path, list_paths, Found};
 use crate::tally::{hex, Tally};
 use hivesaddle::raw;
 
@@ -80,6 +80,7 @@ impl Queries<'_> {
             self.volume(file, i);
         }
         self.find_path(file);
+        self.list_paths(file);
     }
 
     fn places(&mut self, file: &[u8]) {
@@ -135,9 +136,29 @@ impl Queries<'_> {
     fn find_path(&mut self, file: &[u8]) {
         let found = find_path(file);
         self.seen.path.answer(found.is_some());
-        self.ask("path search", file, "", found.map(|found| [found.entry]), |out| unsafe {
+        let numbers = found.map(|found| [found.entry, found.number]);
+        self.ask("path search", file, "", numbers, |out| unsafe {
             raw::hs_find_path(file.as_ptr(), file.len(), out.as_mut_ptr(), out.len())
         });
+    }
+
+    /// The full count, the pairs that fit a list of any length, and all else
+    /// of it as it was.
+    fn list_paths(&mut self, file: &[u8]) {
+        let found = list_paths(file);
+        self.seen.list(&found);
+        let numbers: Vec<u32> =
+            found.iter().flat_map(|found| [found.entry as u32, found.number as u32]).collect();
+        let length = self.random.below(numbers.len() + 4);
+        let mut pairs = guarded_u32(&mut self.random, length);
+        let fitting = numbers.len().min(length / 2 * 2);
+        let expected = pairs.after_writing(&numbers[..fitting]);
+        let list = pairs.inner();
+        let count =
+            unsafe { raw::hs_list_paths(file.as_ptr(), file.len(), list.as_mut_ptr(), list.len()) };
+        let expected = (found.len() as u64, &expected[..]);
+        let input = || format!("{length} numbers for {}", hex(file));
+        self.tally.same("list of paths", &expected, &(count, pairs.all()), input);
     }
 
     /// One query: 1 and the numbers, or 0 and as many zeros.
@@ -183,9 +204,11 @@ impl Queries<'_> {
         for i in 0..count(file, volume_count).min(4) {
             self.safe_volume(file, i);
         }
-        let expected = find_path(file).map(|found| found.entry);
-        let found = hivesaddle::find_path(file).map(|found| found.entry);
-        self.tally.same("find_path", &expected, &found, input);
+        let found = hivesaddle::find_path(file).map(safe_found);
+        self.tally.same("find_path", &find_path(file), &found, input);
+        let found: Vec<Found> =
+            hivesaddle::list_paths_alloc(file).into_iter().map(safe_found).collect();
+        self.tally.same("list_paths_alloc", &list_paths(file), &found, input);
     }
 
     fn safe_volume(&mut self, file: &[u8], i: u64) {
@@ -264,6 +287,11 @@ fn place_of(file: &[u8], part: &[u8]) -> Part {
     Part { offset: offset as u64, length: part.len() as u64 }
 }
 
+/// The safe call's answer, as the reference would say it.
+fn safe_found(found: hivesaddle::FoundPath) -> Found {
+    Found { entry: found.entry, number: found.number.into() }
+}
+
 #[derive(Default)]
 struct Count {
     yes: u64,
@@ -289,9 +317,26 @@ struct Seen {
     volume: Count,
     reference: Count,
     path: Count,
+    /// Lists that begin with each number.
+    numbers: [u64; 9],
+    /// Lists with one number twice, with several numbers, and those whose
+    /// least number is not at the least of their entries.
+    one_number: u64,
+    numbers_differ: u64,
+    least_is_later: u64,
 }
 
 impl Seen {
+    fn list(&mut self, found: &[Found]) {
+        let Some(first) = found.first() else {
+            return;
+        };
+        self.numbers[first.number as usize] += 1;
+        self.one_number += found.windows(2).any(|two| two[0].number == two[1].number) as u64;
+        self.numbers_differ += found.iter().any(|other| other.number != first.number) as u64;
+        self.least_is_later += found.iter().any(|other| other.entry < first.entry) as u64;
+    }
+
     fn report(&self, tally: &mut Tally) {
         let counts = [
             ("places", &self.places),
@@ -306,9 +351,27 @@ impl Seen {
             .map(|(name, count)| format!("{name} {}/{}", count.yes, count.no))
             .collect();
         println!("queries: yes/no by query: {}", shown.join(", "));
+        self.report_lists(tally);
         for (name, count) in counts {
             let both = count.yes > 1_000 && count.no > 1_000;
             tally.named(&format!("{name}: both answers have come up"), &true, &both);
+        }
+    }
+
+    fn report_lists(&self, tally: &mut Tally) {
+        let numbers =
+            (0..).zip(self.numbers).map(|(number, count)| (format!("number {number}"), count));
+        let kinds = [
+            ("one number twice".to_string(), self.one_number),
+            ("several numbers".to_string(), self.numbers_differ),
+            ("the least number at a later entry".to_string(), self.least_is_later),
+        ];
+        let counts: Vec<(String, u64)> = numbers.chain(kinds).collect();
+        let shown: Vec<String> =
+            counts.iter().map(|(name, count)| format!("{name}: {count}")).collect();
+        println!("paths: {}", shown.join(", "));
+        for (name, count) in counts {
+            tally.named(&format!("paths: {name} has come up often"), &true, &(count >= 100));
         }
     }
 }

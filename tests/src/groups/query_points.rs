@@ -7,8 +7,8 @@ use crate::reference::{queries, search};
 use crate::tally::Tally;
 use hivesaddle::raw;
 use hivesaddle::{
-    entry_name, find_path, places, program_name, read_file_alloc, reference, volume, FileContents,
-    Refusal,
+    entry_name, find_path, list_paths, list_paths_alloc, places, program_name, read_file_alloc,
+    reference, volume, FileContents, Refusal,
 };
 use std::ptr::{null, null_mut};
 
@@ -21,6 +21,9 @@ pub fn run(tally: &mut Tally) {
     paths(tally);
     notepad(tally);
     high_bytes(tally);
+    numbers_of_a_name(tally);
+    numbers_of_names(tally);
+    hashes_that_wrap(tally);
     path_on_a_prefix(tally);
     checks_that_play_no_part(tally);
     volumes(tally);
@@ -169,10 +172,40 @@ fn entry_names(tally: &mut Tally) {
     }
 }
 
-/// The library and the reference both have to find that entry, or none.
+/// The library and the reference both have to find that entry with number 0,
+/// or none.
 fn finds(tally: &mut Tally, name: &str, file: &[u8], entry: Option<u64>) {
-    tally.named(name, &entry, &find_path(file).map(|found| found.entry));
-    tally.named(name, &entry, &search::find_path(file).map(|found| found.entry));
+    finds_first(tally, name, file, entry.map(|entry| (entry as u32, 0)));
+}
+
+/// The same with that number.
+fn finds_first(tally: &mut Tally, name: &str, file: &[u8], pair: Option<(u32, u32)>) {
+    let given = find_path(file).map(|found| (found.entry as u32, found.number));
+    tally.named(name, &pair, &given);
+    let own = search::find_path(file).map(|found| (found.entry as u32, found.number as u32));
+    tally.named(name, &pair, &own);
+}
+
+/// The library and the reference both have to find the first of these pairs
+/// and to list all of them, the library into lists of every length.
+fn finds_all(tally: &mut Tally, name: &str, file: &[u8], pairs: &[(u32, u32)]) {
+    finds_first(tally, name, file, pairs.first().copied());
+    let own = search::list_paths(file);
+    let own: Vec<(u32, u32)> = own.iter().map(|f| (f.entry as u32, f.number as u32)).collect();
+    tally.named(name, pairs, &own[..]);
+    let given = list_paths_alloc(file);
+    let given: Vec<(u32, u32)> = given.iter().map(|f| (f.entry as u32, f.number)).collect();
+    tally.named(name, pairs, &given[..]);
+    let numbers: Vec<u32> = pairs.iter().flat_map(|&(entry, number)| [entry, number]).collect();
+    for length in 0..=numbers.len() + 3 {
+        let mut list = vec![77; length];
+        let count = list_paths(file, &mut list);
+        let mut expected = vec![77; length];
+        let fitting = numbers.len().min(length / 2 * 2);
+        expected[..fitting].copy_from_slice(&numbers[..fitting]);
+        let name = format!("{name}, {length} numbers");
+        tally.named(&name, &(pairs.len() as u64, expected), &(count, list));
+    }
 }
 
 const XP_A: u32 = 361202151;
@@ -247,6 +280,102 @@ fn high_bytes(tally: &mut Tally) {
     }
 }
 
+/// From 0 to 8 above the hash, and not 9 or one below.
+fn numbers_of_a_name(tally: &mut Tally) {
+    for (version, hash) in [(17, XP_A), (23, VISTA_A), (26, VISTA_A)] {
+        let file = |stored_hash| with_path(version, "A", stored_hash);
+        for number in 0..=8 {
+            let name = format!("version {version}, number {number}");
+            finds_all(tally, &name, &file(hash + number), &[(0, number)]);
+        }
+        for stored_hash in [hash - 1, hash + 9, hash + 256, hash ^ 1 << 31] {
+            let name = format!("version {version}, no number for {stored_hash}");
+            finds_all(tally, &name, &file(stored_hash), &[]);
+        }
+    }
+}
+
+/// The last byte of a name counts once in Vista and 2008, so the unit 0x0n41
+/// has the hash of "A" plus n. Names of one unit each, by n.
+fn with_steps(version: u32, steps: &[u8], stored_hash: u32) -> Vec<u8> {
+    let strings: Vec<u8> = steps.iter().flat_map(|&n| [0x41, n, 0, 0]).collect();
+    let names: Vec<(u32, u32)> = (0..steps.len() as u32).map(|i| (4 * i, 1)).collect();
+    let mut file = with_names(version, &names, &strings);
+    set_32(&mut file, 76, stored_hash);
+    file
+}
+
+fn numbers_of_names(tally: &mut Tally) {
+    for (version, head_end) in [HEADS[1], HEADS[2]] {
+        // Equal names, the least number at neither end, and one past the hash.
+        let file = with_steps(version, &[3, 0, 5, 3, 9, 5], VISTA_A + 8);
+        let pairs = [(2, 3), (5, 3), (0, 5), (3, 5), (1, 8)];
+        finds_all(tally, "several numbers", &file, &pairs);
+        // Each entry one less than the one before, from 9 on.
+        let file = with_steps(version, &[0, 1, 2, 3, 4, 5, 6, 7, 8, 9], VISTA_A + 9);
+        let pairs = [(9, 0), (8, 1), (7, 2), (6, 3), (5, 4), (4, 5), (3, 6), (2, 7), (1, 8)];
+        finds_all(tally, "every number, falling", &file, &pairs);
+        let file = with_steps(version, &[4, 4, 4], VISTA_A + 5);
+        finds_all(tally, "three equal names", &file, &[(0, 1), (1, 1), (2, 1)]);
+        // What can't be shown is passed over in the list too.
+        let file = with_steps(version, &[2, 1, 2], VISTA_A + 2);
+        finds_all(tally, "all three", &file, &[(0, 0), (2, 0), (1, 1)]);
+        let end = file.len();
+        finds_all(tally, "without the last", &file[..end - 1], &[(0, 0), (1, 1)]);
+        finds_all(tally, "the first alone", &file[..end - 5], &[(0, 0)]);
+        finds_all(tally, "no name", &file[..end - 9], &[]);
+        finds_all(tally, "a byte short of H", &file[..head_end as usize - 1], &[]);
+    }
+    numbers_of_names_in_xp(tally);
+}
+
+/// XP's number comes behind its end step. Both texts of eight bytes have a
+/// hash of one less than "A", the second by a number that the end step makes
+/// positive.
+fn numbers_of_names_in_xp(tally: &mut Tally) {
+    let eights = [
+        [0x57, 0x01, 0x06, 0x0B, 0x0D, 0x1D, 0x1F, 0x18],
+        [0xE9, 0x02, 0x08, 0x01, 0x22, 0x16, 0x0A, 0x20],
+    ];
+    for eight in eights {
+        let mut strings = eight.to_vec();
+        strings.extend(b"\0\0A\0\0\0");
+        let mut file = with_names(17, &[(0, 4), (10, 1)], &strings);
+        set_32(&mut file, 76, XP_A - 1);
+        finds_all(tally, "XP, one less", &file, &[(0, 0)]);
+        set_32(&mut file, 76, XP_A);
+        finds_all(tally, "XP, 0 and 1", &file, &[(1, 0), (0, 1)]);
+        set_32(&mut file, 76, XP_A + 8);
+        finds_all(tally, "XP, 8 and 9", &file, &[(1, 8)]);
+    }
+    // An empty name is 0 in XP.
+    finds_all(tally, "XP, 8 over nothing", &with_path(17, "", 8), &[(0, 8)]);
+    finds_all(tally, "XP, one below nothing", &with_path(17, "", u32::MAX), &[]);
+}
+
+/// The hash of these eight bytes is 4294967293, so that a number of 3 and more
+/// goes past 32 bits.
+fn hashes_that_wrap(tally: &mut Tally) {
+    let strings = [0x57, 0x02, 0x02, 0x1B, 0x01, 0x23, 0x1F, 0x19, 0, 0];
+    let cases = [
+        (u32::MAX - 3, None),
+        (u32::MAX - 2, Some(0)),
+        (u32::MAX, Some(2)),
+        (0, Some(3)),
+        (1, Some(4)),
+        (5, Some(8)),
+        (6, None),
+    ];
+    for version in [23, 26] {
+        for (stored_hash, number) in cases {
+            let mut file = with_names(version, &[(0, 4)], &strings);
+            set_32(&mut file, 76, stored_hash);
+            let pairs: Vec<(u32, u32)> = number.map(|number| (0, number)).into_iter().collect();
+            finds_all(tally, &format!("wrapping to {stored_hash}"), &file, &pairs);
+        }
+    }
+}
+
 /// Entries that can't be shown on the bytes there are are passed over.
 fn path_on_a_prefix(tally: &mut Tally) {
     let mut file = with_names(17, &[(4, 1), (0, 1), (9, 1)], b"A\0\0\0A\0\0\0?");
@@ -262,7 +391,7 @@ fn path_on_a_prefix(tally: &mut Tally) {
     set_16(&mut file, zero, 1);
     finds(tally, "the first is unsound", &file, Some(1));
     set_32(&mut file, 12, 1);
-    finds(tally, "check 3", &file, None);
+    finds_all(tally, "check 3", &file, &[]);
 }
 
 /// Check 8, damaged trace entries and other entries' names.
@@ -343,5 +472,6 @@ fn null_pointers(tally: &mut Tally) {
         tally.named("volume, null", &0, &raw::hs_volume(file, 0, 0, out, 0));
         tally.named("reference, null", &0, &raw::hs_reference(file, 0, 0, 0, out, 0));
         tally.named("path search, null", &0, &raw::hs_find_path(file, 0, out, 0));
+        tally.named("list of paths, null", &0, &raw::hs_list_paths(file, 0, null_mut(), 0));
     }
 }

@@ -4,17 +4,78 @@
 use super::*;
 use hivesaddle::FoundPath;
 
+/// The greatest number that is added to a hash.
+const MOST: u32 = 8;
+
 pub fn find_path(file: &[u8]) -> Option<FoundPath> {
-    let (layout, sections) = opening(file).ok()?;
-    let [metrics, _, strings, _] = &sections;
-    let (entries, strings) = (there(file, metrics), there(file, strings));
-    let (version, stored) = (number(file, 0), number(file, 76) as u32);
-    let matches = |entry: &[u8]| {
-        let name = name(strings, entry, layout);
-        name.and_then(|name| hash(version, name)) == Some(stored)
+    let search = Search::of(file).ok()?;
+    let (mut least, mut found) = (MOST + 1, None);
+    for (entry, number) in search.numbers() {
+        if number < least {
+            (least, found) = (number, Some(FoundPath { entry: entry as u64, number }));
+        }
+        if least == 0 {
+            break;
+        }
+    }
+    found
+}
+
+/// The names are hashed once to count and, where any is found, once more to
+/// put each pair where the counts say.
+pub fn list_paths(file: &[u8], pairs: &mut [u32]) -> u64 {
+    let Ok(search) = Search::of(file) else {
+        return 0;
     };
-    let entry = entries.chunks_exact(layout.metrics_entry).position(matches)?;
-    Some(FoundPath { entry: entry as u64 })
+    let mut counts = [0; MOST as usize + 1];
+    search.numbers().for_each(|(_, number)| counts[number as usize] += 1);
+    let (mut next, mut total) = ([0; MOST as usize + 1], 0);
+    for (place, count) in next.iter_mut().zip(counts) {
+        *place = total;
+        total += count;
+    }
+    if total > 0 && pairs.len() >= 2 {
+        for (entry, number) in search.numbers() {
+            let place = &mut next[number as usize];
+            if let Some(pair) = pairs.get_mut(2 * *place..2 * *place + 2) {
+                pair.copy_from_slice(&[entry as u32, number]);
+            }
+            *place += 1;
+        }
+    }
+    total as u64
+}
+
+/// What is the same for all names of a file.
+struct Search<'a> {
+    layout: &'static Layout,
+    entries: &'a [u8],
+    strings: &'a [u8],
+    version: usize,
+    stored: u32,
+}
+
+impl<'a> Search<'a> {
+    fn of(file: &'a [u8]) -> Result<Search<'a>, Refusal> {
+        let (layout, [metrics, _, strings, _]) = opening(file)?;
+        Ok(Search {
+            layout,
+            entries: there(file, &metrics),
+            strings: there(file, &strings),
+            version: number(file, 0),
+            stored: number(file, 76) as u32,
+        })
+    }
+
+    /// The entries that match, each with its number.
+    fn numbers(&self) -> impl Iterator<Item = (usize, u32)> + '_ {
+        let entries = self.entries.chunks_exact(self.layout.metrics_entry);
+        entries.enumerate().filter_map(|(entry, bytes)| {
+            let name = name(self.strings, bytes, self.layout)?;
+            let number = self.stored.wrapping_sub(hash(self.version, name)?);
+            (number <= MOST).then_some((entry, number))
+        })
+    }
 }
 
 /// Checks 1 to 6.
@@ -102,10 +163,18 @@ mod beside_the_reference {
     use crate::random::Random;
     use crate::reference::search;
 
-    fn same(file: &[u8]) -> bool {
-        let expected = search::find_path(file).map(|found| found.entry);
-        let given = find_path(file).map(|found| found.entry);
+    fn same(random: &mut Random, file: &[u8]) -> bool {
+        let expected = search::find_path(file).map(|found| (found.entry, found.number));
+        let given = find_path(file).map(|found| (found.entry, found.number.into()));
         assert_eq!(expected, given);
+        let all = search::list_paths(file);
+        let numbers: Vec<u32> =
+            all.iter().flat_map(|found| [found.entry as u32, found.number as u32]).collect();
+        let mut pairs = vec![77; random.below(numbers.len() + 4)];
+        let fitting = numbers.len().min(pairs.len() / 2 * 2);
+        assert_eq!(list_paths(file, &mut pairs), all.len() as u64);
+        assert_eq!(pairs[..fitting], numbers[..fitting]);
+        assert!(pairs[fitting..].iter().all(|&number| number == 77));
         given.is_some()
     }
 
@@ -115,11 +184,11 @@ mod beside_the_reference {
         let mut found = 0;
         for _ in 0..20_000 {
             let mut sample = any(&mut random);
-            found += same(&sample.bytes) as u32;
+            found += same(&mut random, &sample.bytes) as u32;
             edits(&mut random, &mut sample);
-            found += same(&sample.bytes) as u32;
+            found += same(&mut random, &sample.bytes) as u32;
             sample.bytes.truncate(random.below(sample.bytes.len()));
-            found += same(&sample.bytes) as u32;
+            found += same(&mut random, &sample.bytes) as u32;
         }
         assert!(found > 5_000, "{found}");
     }

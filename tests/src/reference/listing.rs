@@ -46,7 +46,10 @@ fn shown_unit(unit: u64) -> char {
 }
 
 fn shown_path(file: &[u8]) -> String {
-    find_path(file).map_or("none".to_string(), |found| found.entry.to_string())
+    match find_path(file) {
+        Some(found) => format!("{} {}", found.entry, found.number),
+        None => "none".to_string(),
+    }
 }
 
 #[cfg(test)]

@@ -1,4 +1,4 @@
--- A found entry gives 1 and its index; no path gives 0 and a zero, as the definition of the answer has it.
+-- A found entry gives 1, its index and its number; no path gives 0 and zeros, as the definition of the answer has it.
 use mathlib.Core.Path.{refl}
 use Rattle.hivesaddle.proofs.Output.{answered-case}
 use Rattle.path_search.specs.Search.{pathSaid}
@@ -12,14 +12,17 @@ find-path-requires c κs = search needs
 enum-known-index : tie.Need-enum-known-index
 enum-known-index c = search needs
 
-put-one-requires : tie.Need-put-one-requires
-put-one-requires c κs = search needs
+cast-put-two : tie.Need-cast-put-two
+cast-put-two c = search needs
+
+put-two-requires : tie.Need-put-two-requires
+put-two-requires c κs = search needs
 
 enum-told : tie.Need-enum-told
 enum-told c = search needs
 
-put-one-requires-2 : tie.Need-put-one-requires-2
-put-one-requires-2 c κs = search needs
+put-two-requires-2 : tie.Need-put-two-requires-2
+put-two-requires-2 c κs = search needs
 
 same-length : tie.Need-same-length
 same-length c = search needs
@@ -31,7 +34,7 @@ returns c =
     let find = arm .before .before in
     let start = find .before .before .before in
     answered-case pathSaid (find .find-path .result) _ _ _ (start .args .out .now) _ (find .find-path .ensures) (arm .index .given .1) refl
-    (put .put-one .ensures)
+    (put .put-two .ensures)
 
 same-length-2 : tie.Need-same-length-2
 same-length-2 c = search needs
@@ -43,7 +46,7 @@ returns-2 c =
     let find = told .before .before in
     let start = find .before .before .before in
     answered-case pathSaid (find .find-path .result) _ _ _ (start .args .out .now) _ (find .find-path .ensures) (told .enum-told .given .1) refl
-    (put .put-one2 .ensures)
+    (put .put-two2 .ensures)
 
 pub hs-find-path-spec : {M : Type 1} → statement M
 hs-find-path-spec =
@@ -51,9 +54,10 @@ hs-find-path-spec =
     (tie.spec
     find-path-requires
     enum-known-index
-    put-one-requires
+    cast-put-two
+    put-two-requires
     enum-told
-    put-one-requires-2
+    put-two-requires-2
     same-length
     returns
     same-length-2

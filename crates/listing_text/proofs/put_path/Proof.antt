@@ -1,4 +1,4 @@
--- The entry's index, or `none`.
+-- The entry's index and number, or `none`.
 use borrow.Author.Needs.{needs}
 use Rattle.listing_text.proofs.put_path.Statement.{statement}
 use Rattle.listing_text.proofs.put_path.Tie as tie
@@ -6,8 +6,11 @@ use Rattle.listing_text.proofs.put_path.Tie as tie
 enum-known-found : tie.Need-enum-known-found
 enum-known-found c = search needs
 
-put-decimal-requires : tie.Need-put-decimal-requires
-put-decimal-requires c κs = search needs
+cast-put-pair : tie.Need-cast-put-pair
+cast-put-pair c = search needs
+
+put-pair-requires : tie.Need-put-pair-requires
+put-pair-requires c κs = search needs
 
 enum-told : tie.Need-enum-told
 enum-told c = search needs
@@ -24,7 +27,7 @@ same-length c = search needs
 returns : tie.Need-returns
 returns c =
     let index = c .before .before in
-    rw (index .before .before .before .found .given .1) (index .put-decimal .ensures)
+    rw (index .before .before .before .found .given .1) (index .put-pair .ensures)
 
 same-length-2 : tie.Need-same-length-2
 same-length-2 c = search needs
@@ -39,7 +42,8 @@ put-path-spec =
     tie.close
     (tie.spec
     enum-known-found
-    put-decimal-requires
+    cast-put-pair
+    put-pair-requires
     enum-told
     slice-aggregate-put-all
     put-all-requires

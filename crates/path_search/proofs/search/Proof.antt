@@ -1,23 +1,23 @@
--- Each turn tests one entry; no entry that was passed matches, so the first that does is the first of all.
-use lib.ListN.{length}
-use native.Mathlib.Nat.{div-le-self}
-use Rattle.path_search.proofs.Laws.{metric-some, search-hit, search-none}
+-- The loop keeps the least number of the entries passed and the first entry that has it; an entry with 0 ends it.
 use mathlib.Core.Path.{_≡_, sym, _∙_}
-use Prim.Native.Nat.{_≤_, _-_}
+use mathlib.Core.Logic.{⊎-elim}
+use Prim.Native.Nat.{_≤_, _<_, _-_}
+use native.Mathlib.Nat.{div-le-self}
 use native.Mathlib.Omega.{arith}
-use Rattle.lists.specs.First.{first, firstFrom}
-use Rattle.lists.proofs.First.{first-start, first-miss, first-hit, first-none}
-use Rattle.path_search.specs.Private.{testIn}
+use lib.ListN.{length}
+use Rattle.path_search.specs.Private.{numberIn}
+use Rattle.path_search.proofs.Least.{Lowest, lowest-start, lowest-less, lowest-same, lowest-end, lowest-at, lowest-none, lowest-zero}
+use Rattle.path_search.proofs.Laws.{metric-some, numbered-search}
 use borrow.Author.Needs.{needs}
 use Rattle.path_search.proofs.search.Statement.{statement}
 use Rattle.path_search.proofs.search.Tie as tie
 
 abbrev Inv-loop : tie.InvT-loop
-Inv-loop metrics strings version l stored entries i₀ i =
-    (i ≤ entries) × (first (testIn version l metrics strings stored) entries ≡ firstFrom (testIn version l metrics strings stored) (entries - i) i)
+Inv-loop metrics strings version l stored entries least₀ index₀ i₀ least index i =
+    (i ≤ entries) × (0 < least) × Lowest (numberIn version l metrics strings stored) i least index
 
 abbrev μ-loop : tie.MeasureT-loop
-μ-loop metrics strings version l stored entries i₀ i = entries - i
+μ-loop metrics strings version l stored entries least₀ index₀ i₀ least index i = entries - i
 
 cast-entries : tie.Need-cast-entries Inv-loop μ-loop
 cast-entries c = search needs
@@ -26,25 +26,27 @@ div-entries : tie.Need-div-entries Inv-loop μ-loop
 div-entries c = metric-some _ (c .before .before .before .pre .1)
 
 loop-holds : tie.Need-loop-holds Inv-loop μ-loop
-loop-holds c = (omega arith, first-start _ _)
+loop-holds c = (omega arith, omega arith, lowest-start _)
 
-cast-entry-matches : tie.Need-cast-entry-matches Inv-loop μ-loop
-cast-entry-matches c =
+cast-entry-number : tie.Need-cast-entry-number Inv-loop μ-loop
+cast-entry-number c =
     let start = c .before .before .before .before .before in
     omega (arith, start .pre .0, div-le-self (length (start .args .metrics .now)) (start .args .l .«metrics_entry»))
 
-entry-matches-requires : tie.Need-entry-matches-requires Inv-loop μ-loop
-entry-matches-requires c κs = search needs
+entry-number-requires : tie.Need-entry-number-requires Inv-loop μ-loop
+entry-number-requires c κs = search needs
 
 returns : tie.Need-returns Inv-loop μ-loop
 returns c =
-    let a = c .before .before .before .before .before .before .before .args in
-    let w = c .before .before .before .loop in
-    search-hit (a .version) (a .l) _ _ _ _ (w .inv .1 ∙ first-hit _ _ _ (omega arith) (sym (c .before .entry-matches .ensures) ∙ c .if1 .taken))
+    let entry = c .before in
+    let w = entry .before .before .loop in
+    let a = entry .before .before .before .before .before .before .args in
+    numbered-search (a .version) (a .l) _ _ _ _ (omega arith)
+    (lowest-zero _ _ _ _ _ _ (w .inv .2) (w .inv .1) (omega arith) (entry .entry-number .ensures) (c .if1 .taken))
 
 add-i : tie.Need-add-i Inv-loop μ-loop
 add-i c =
-    let start = c .before .before .before .before .before .before .before in
+    let start = c .before .before .before .before .before .before .before .before in
     omega (arith, start .pre .0, div-le-self (length (start .args .metrics .now)) (start .args .l .«metrics_entry»))
 
 loop-less : tie.Need-loop-less Inv-loop μ-loop
@@ -52,14 +54,26 @@ loop-less c = search needs
 
 loop-again : tie.Need-loop-again Inv-loop μ-loop
 loop-again c =
-    let w = c .before .before .before .loop in
-    (omega arith, w .inv .1 ∙ first-miss _ _ _ (omega arith) (sym (c .before .entry-matches .ensures) ∙ c .if1 .left))
+    let entry = c .before .before in
+    let w = entry .before .before .loop in
+    let low = w .inv .2 in
+    let number = entry .entry-number .ensures in
+    ⊎-elim
+    (λ z. (omega arith, omega (arith, z .1, c .before .if1 .left), rw (z .1, z .2) (lowest-less _ _ _ _ _ low number (z .0 .taken))))
+    (λ z. (omega arith, omega (arith, z .1, w .inv .1), rw (z .1, z .2) (lowest-same _ _ _ _ _ low number (z .0 .left))))
+    (c .if2 .came)
 
 returns-2 : tie.Need-returns-2 Inv-loop μ-loop
 returns-2 c =
-    let a = c .before .before .before .before .before .args in
-    let w = c .before .loop in
-    search-none (a .version) (a .l) _ _ _ (w .inv .1 ∙ first-none _ _ _ (omega arith))
+    let w = c .before .before .loop in
+    let a = c .before .before .before .before .before .before .args in
+    numbered-search (a .version) (a .l) _ _ _ _ (omega arith) (lowest-at _ _ _ _ (lowest-end _ _ (w .i) _ _ (w .inv .2) (w .inv .0) (c .before .loop-test .left)) (c .if3 .taken))
+
+returns-3 : tie.Need-returns-3 Inv-loop μ-loop
+returns-3 c =
+    let w = c .before .before .loop in
+    let a = c .before .before .before .before .before .before .args in
+    numbered-search (a .version) (a .l) _ _ _ _ (omega arith) (lowest-none _ _ (w .least) (w .index) (lowest-end _ _ (w .i) _ _ (w .inv .2) (w .inv .0) (c .before .loop-test .left)) (c .if3 .left))
 
 pub search-spec : {M : Type 1} → statement M
 search-spec =
@@ -70,10 +84,11 @@ search-spec =
     cast-entries
     div-entries
     loop-holds
-    cast-entry-matches
-    entry-matches-requires
+    cast-entry-number
+    entry-number-requires
     returns
     add-i
     loop-less
     loop-again
-    returns-2)
+    returns-2
+    returns-3)

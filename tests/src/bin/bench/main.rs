@@ -19,8 +19,8 @@
 //!
 //! bench search
 //!
-//! The path search through 10,000 names, none of which has the stored hash,
-//! beside the search of `plain`.
+//! The path search and the list of paths through 10,000 names, none of which
+//! has the stored hash, beside those of `plain`.
 //!
 //! The two run turn and turn about on the same input, and medians are shown.
 

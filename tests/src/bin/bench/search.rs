@@ -1,4 +1,4 @@
-use crate::timing::side_by_side;
+use crate::timing::{side_by_side, Times};
 use compare::generate::set_32;
 use compare::plain::search;
 use compare::reference::search::find_path;
@@ -9,17 +9,20 @@ const TURNS: usize = 101;
 const NAMES: usize = 10_000;
 
 pub fn run() {
-    println!("version, library ns a name, plain ns a name, ratio");
+    println!("what, version, library ns a name, plain ns a name, ratio");
     for version in [17, 23, 26] {
         one_file(version);
     }
 }
 
-/// No name has the stored hash, so that all are looked at.
+/// No name has the stored hash with any number, so that all are looked at.
 fn one_file(version: u32) {
     let mut file = typical::file(version, &Amounts { files: NAMES, trace: 1, directories: 1 });
-    assert!(find_path(&file).is_some());
-    set_32(&mut file, 76, 0);
+    let mut pairs = [0; 2];
+    let found = find_path(&file).expect("the program's own path");
+    assert_eq!(hivesaddle::list_paths(&file, &mut pairs), 1);
+    assert_eq!(pairs.map(u64::from), [found.entry, found.number]);
+    set_32(&mut file, 76, u32::MAX);
     assert_eq!(hivesaddle::find_path(&file), None);
     assert_eq!(search::find_path(&file), None);
     let times = side_by_side(
@@ -28,9 +31,20 @@ fn one_file(version: u32) {
         || _ = black_box(hivesaddle::find_path(black_box(&file))),
         || _ = black_box(search::find_path(black_box(&file))),
     );
+    show("search", version, &times);
+    let times = side_by_side(
+        TURNS,
+        1,
+        || _ = black_box(hivesaddle::list_paths(black_box(&file), &mut pairs)),
+        || _ = black_box(search::list_paths(black_box(&file), &mut [0; 2])),
+    );
+    show("list", version, &times);
+}
+
+fn show(what: &str, version: u32, times: &Times) {
     let names = NAMES as f64;
     println!(
-        "{version}, {:.1}, {:.1}, {:.3}",
+        "{what}, {version}, {:.1}, {:.1}, {:.3}",
         times.library / names,
         times.plain / names,
         times.ratio()

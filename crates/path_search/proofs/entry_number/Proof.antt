@@ -1,12 +1,12 @@
--- A name that does not fit differs; one that fits is hashed first, and only where the hash is equal its soundness decides.
+-- A name that does not fit has no number; one that fits is hashed first, and only where a number is left its soundness decides.
 use mathlib.Core.Path.{refl, sym, _∙_}
 use native.Mathlib.Omega.{arith}
 use borrow.Author.Tests.{not-true, not-false}
 use Rattle.names.proofs.Laws.{fits-le}
-use Rattle.path_search.proofs.Laws.{match-misfit, match-differs, match-equals}
+use Rattle.path_search.proofs.Laws.{match-misfit, match-none, match-sound, match-unsound}
 use borrow.Author.Needs.{needs}
-use Rattle.path_search.proofs.entry_matches.Statement.{statement}
-use Rattle.path_search.proofs.entry_matches.Tie as tie
+use Rattle.path_search.proofs.entry_number.Statement.{statement}
+use Rattle.path_search.proofs.entry_number.Tie as tie
 
 name-at-requires : tie.Need-name-at-requires
 name-at-requires c κs = search needs
@@ -48,26 +48,43 @@ part-name-hash-end c =
 name-hash-requires : tie.Need-name-hash-requires
 name-hash-requires c κs = search needs
 
+number-for-requires : tie.Need-number-for-requires
+number-for-requires c κs = search needs
+
 returns-2 : tie.Need-returns-2
 returns-2 c =
-    let name = c .before in
+    let number = c .before in
+    let name = number .before in
     let name-units = name .before .before .before .before in
     let name-at = name-units .before in
-    match-differs _ _ _ _ _ _ (name-at .name-at .ensures) (name-units .name-units .ensures) refl (name .name-hash .ensures) (c .if2 .taken)
+    match-none _ _ _ _ _ _ (name-at .name-at .ensures) (name-units .name-units .ensures) refl (name .name-hash .ensures) (number .number-for .ensures)
+    (c .if2 .taken)
 
 name-sound-requires : tie.Need-name-sound-requires
 name-sound-requires c κs = search needs
 
 returns-3 : tie.Need-returns-3
 returns-3 c =
-    let name = c .before .before in
+    let sound = c .before in
+    let number = sound .before .before in
+    let name = number .before in
     let name-units = name .before .before .before .before in
     let name-at = name-units .before in
-    match-equals _ _ _ _ _ _ (name-at .name-at .ensures) (name-units .name-units .ensures) refl (name .name-hash .ensures) (c .before .if2 .left)
-    (c .name-sound .ensures)
+    match-sound _ _ _ _ _ _ (name-at .name-at .ensures) (name-units .name-units .ensures) refl (name .name-hash .ensures) (number .number-for .ensures)
+    (sound .name-sound .ensures) (c .if3 .taken)
 
-pub entry-matches-spec : {M : Type 1} → statement M
-entry-matches-spec =
+returns-4 : tie.Need-returns-4
+returns-4 c =
+    let sound = c .before in
+    let number = sound .before .before in
+    let name = number .before in
+    let name-units = name .before .before .before .before in
+    let name-at = name-units .before in
+    match-unsound _ _ _ _ _ _ (name-at .name-at .ensures) (name-units .name-units .ensures) refl (name .name-hash .ensures) (number .number-for .ensures)
+    (sound .name-sound .ensures) (c .if3 .left)
+
+pub entry-number-spec : {M : Type 1} → statement M
+entry-number-spec =
     tie.close
     (tie.spec
     name-at-requires
@@ -82,6 +99,8 @@ entry-matches-spec =
     part-name-hash-start
     part-name-hash-end
     name-hash-requires
+    number-for-requires
     returns-2
     name-sound-requires
-    returns-3)
+    returns-3
+    returns-4)
