@@ -120,6 +120,7 @@ uint32_t hs_places(const uint8_t *file, size_t length, uint64_t *out, size_t out
  *  17                hs_read_file only: the file is longer than S                         0                    12
  *  18                hs_catalogue_read only: not a catalogue line
  *  19                hs_catalogue_write only: fields that form no line, or an output below 25 bytes
+ *  25                hs_hash_swap and hs_hash_swap_bytes only: p exceeds the length of old
  *
  * 14 and 15 are found volume by volume, the first fault of the first volume that has one. The end of an empty section
  * counts as H; strings without metrics entries and a volumes section without volumes are not waited for.
@@ -177,6 +178,21 @@ uint32_t hs_hash_2008(const uint32_t *numbers, size_t count);
 uint32_t hs_hash_xp_bytes(const uint8_t *text, size_t length);
 uint32_t hs_hash_vista_bytes(const uint8_t *text, size_t length);
 uint32_t hs_hash_2008_bytes(const uint8_t *text, size_t length);
+
+/* A second engine, for many paths: it adds up each number times its power of 37, from a table of 1,024 powers, and takes the
+ * plain step past 1,024 numbers. It gives the hash of Vista and 2008 of every list. */
+uint32_t hs_hash_powers(const uint32_t *numbers, size_t count);
+uint32_t hs_hash_powers_bytes(const uint8_t *text, size_t length);
+
+/* Swaps the first p numbers of old for start, as when the volume of a path is renamed: the hash is old_hash plus (hash of
+ * start less hash of those p numbers) times 37 raised to the count of numbers kept, mod 2 to the 32. Where old_hash is the
+ * hash of old, that is the hash of start followed by the numbers kept; any other is taken as it is. 0, or 25 where p exceeds
+ * the length of old.
+ * out: hash, 0 with a refusal. */
+uint32_t hs_hash_swap(uint32_t old_hash, const uint32_t *old, size_t old_count, uint64_t p, const uint32_t *start,
+                      size_t start_count, uint64_t *out, size_t out_length);
+uint32_t hs_hash_swap_bytes(uint32_t old_hash, const uint8_t *old, size_t old_length, uint64_t p, const uint8_t *start,
+                            size_t start_length, uint64_t *out, size_t out_length);
 
 /* ---- Catalogue lines ----
  *

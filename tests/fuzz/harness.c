@@ -7,10 +7,11 @@
  *   3      slots: as the file's trace count says, one fewer, one more, none, or as bytes 4, 5 say
  *   4      slots, 2 bytes
  *   6      2 bytes: 0 for the whole file, else a cut behind that many bytes less one
- *   8, 16  i and k; the four fields of a line to be written
+ *   8, 16  i and k; the four fields of a line to be written; of a swap, p and the old hash
  *   24     seed of the noise
  *   28     length of the output for a line, 0 to 39
  *   29     length of the list of pairs, 0 to 15
+ *   30     2 bytes: how many of the file's last bytes are the start of a swap
  */
 #define _GNU_SOURCE
 #include "hivesaddle.h"
@@ -38,17 +39,22 @@ uint32_t judge_hash_2008(const uint32_t *, size_t);
 uint32_t judge_hash_xp_bytes(const uint8_t *, size_t);
 uint32_t judge_hash_vista_bytes(const uint8_t *, size_t);
 uint32_t judge_hash_2008_bytes(const uint8_t *, size_t);
+uint32_t judge_hash_powers(const uint32_t *, size_t);
+uint32_t judge_hash_powers_bytes(const uint8_t *, size_t);
+uint32_t judge_hash_swap(uint32_t, const uint32_t *, size_t, uint64_t, const uint32_t *, size_t, uint64_t *, size_t);
+uint32_t judge_hash_swap_bytes(uint32_t, const uint8_t *, size_t, uint64_t, const uint8_t *, size_t, uint64_t *, size_t);
 uint32_t judge_catalogue_read(const uint8_t *, size_t, uint64_t *, size_t);
 uint32_t judge_catalogue_write(uint32_t, uint32_t, uint32_t, uint32_t, uint8_t *, size_t);
 
 enum call {
     READ_PREFIX, READ_FILE, PROGRAM_NAME, ENTRY_NAME, VOLUME, REFERENCE, FIND_PATH, HASH_XP, HASH_VISTA, HASH_2008,
-    HASH_XP_BYTES, HASH_VISTA_BYTES, HASH_2008_BYTES, CATALOGUE_READ, CATALOGUE_WRITE, PLACES, LIST_PATHS, CALLS
+    HASH_XP_BYTES, HASH_VISTA_BYTES, HASH_2008_BYTES, CATALOGUE_READ, CATALOGUE_WRITE, PLACES, LIST_PATHS,
+    HASH_POWERS, HASH_POWERS_BYTES, HASH_SWAP, HASH_SWAP_BYTES, CALLS
 };
 static const char *const names[CALLS] = {
     "read_prefix", "read_file", "program_name", "entry_name", "volume", "reference", "find_path", "hash_xp", "hash_vista",
     "hash_2008", "hash_xp_bytes", "hash_vista_bytes", "hash_2008_bytes", "catalogue_read", "catalogue_write", "places",
-    "list_paths"
+    "list_paths", "hash_powers", "hash_powers_bytes", "hash_swap", "hash_swap_bytes"
 };
 
 /* ---- Lists between pages that cannot be touched ---- */
@@ -60,7 +66,7 @@ struct list {
     uint8_t *start;
     size_t bytes;
 };
-enum { FILE_LIST, NUMBERS, TABLE, JUDGE_TABLE, OUT, JUDGE_OUT, LINE, JUDGE_LINE, PAIRS, JUDGE_PAIRS, LISTS };
+enum { FILE_LIST, NUMBERS, START, TABLE, JUDGE_TABLE, OUT, JUDGE_OUT, LINE, JUDGE_LINE, PAIRS, JUDGE_PAIRS, LISTS };
 static struct list lists[LISTS];
 static int empty_pointer;
 
@@ -156,12 +162,13 @@ static void set_breakpoints(const char *path) {
 
 /* ---- What has been seen, as the library answered ---- */
 
-static uint64_t calls[CALLS], answers[CALLS][20], refusals[2][18], accepted[2][32], numbers_found[9];
+enum { ANSWERS = 26 };
+static uint64_t calls[CALLS], answers[CALLS][ANSWERS], refusals[2][18], accepted[2][32], numbers_found[9];
 
 static void count(enum call call, uint64_t code, const uint64_t *out, size_t out_length) {
     calls[call]++;
-    if (call >= HASH_XP && call <= HASH_2008_BYTES) return;
-    if (call == LIST_PATHS && code > 19) code = 19; /* that many pairs, or more */
+    if ((call >= HASH_XP && call <= HASH_2008_BYTES) || call == HASH_POWERS || call == HASH_POWERS_BYTES) return;
+    if (call == LIST_PATHS && code >= ANSWERS) code = ANSWERS - 1; /* that many pairs, or more */
     answers[call][code]++;
     if (call == FIND_PATH && code == 1 && out_length > 1) numbers_found[out[1]]++;
     if (call <= READ_FILE && code == HS_REFUSED && out_length > HS_NUMBER) refusals[call][out[HS_NUMBER]]++;
@@ -171,7 +178,7 @@ static void count(enum call call, uint64_t code, const uint64_t *out, size_t out
 static void report(void) {
     for (int call = 0; call < CALLS; call++) {
         fprintf(stderr, "seen: %s: %lu calls", names[call], calls[call]);
-        for (int code = 0; code < 20; code++)
+        for (int code = 0; code < ANSWERS; code++)
             if (answers[call][code]) fprintf(stderr, ", %d: %lu", code, answers[call][code]);
         fputc('\n', stderr);
     }
@@ -206,7 +213,7 @@ int LLVMFuzzerInitialize(int *argc, char ***argv) {
 
 struct input {
     const uint8_t *control, *bytes;
-    size_t length, out_length, places;
+    size_t length, out_length, places, start_length;
     uint64_t i, k;
 };
 
@@ -235,6 +242,10 @@ static void one_call(enum call call, const struct input *in, uint64_t i, uint64_
     lay_pair(OUT, JUDGE_OUT, 8 * in->out_length, flags & 4);
     lay_pair(LINE, JUDGE_LINE, line, flags & 4);
     lay_pair(PAIRS, JUDGE_PAIRS, 4 * pairs, flags & 2);
+    size_t start_length = in->start_length, start_count = start_length / 4;
+    const uint8_t *start_bytes = in->bytes + n - start_length;
+    lay(&lists[START], call == HASH_SWAP ? 4 * start_count : start_length, flags & 1);
+    memcpy(lists[START].start, start_bytes, lists[START].bytes);
     const uint8_t *file = pointer(&lists[FILE_LIST]);
     const uint32_t *numbers = pointer(&lists[NUMBERS]);
     uint32_t *table = pointer(&lists[TABLE]), *judge_table = pointer(&lists[JUDGE_TABLE]);
@@ -310,6 +321,22 @@ static void one_call(enum call call, const struct input *in, uint64_t i, uint64_
         given = hs_list_paths(file, n, pointer(&lists[PAIRS]), pairs);
         expected = judge_list_paths(file, n, pointer(&lists[JUDGE_PAIRS]), pairs);
         break;
+    case HASH_POWERS:
+        given = hs_hash_powers(numbers, count_32);
+        expected = judge_hash_powers(numbers, count_32);
+        break;
+    case HASH_POWERS_BYTES:
+        given = hs_hash_powers_bytes(file, n);
+        expected = judge_hash_powers_bytes(file, n);
+        break;
+    case HASH_SWAP:
+        given = hs_hash_swap(k, numbers, count_32, i, pointer(&lists[START]), start_count, out, o);
+        expected = judge_hash_swap(k, numbers, count_32, i, pointer(&lists[START]), start_count, judge_out, o);
+        break;
+    case HASH_SWAP_BYTES:
+        given = hs_hash_swap_bytes(k, file, n, i, pointer(&lists[START]), start_length, out, o);
+        expected = judge_hash_swap_bytes(k, file, n, i, pointer(&lists[START]), start_length, judge_out, o);
+        break;
     default: abort();
     }
     if (given != expected) {
@@ -322,6 +349,7 @@ static void one_call(enum call call, const struct input *in, uint64_t i, uint64_
     same_list(call, "pairs", PAIRS, JUDGE_PAIRS);
     if (n && memcmp(lists[FILE_LIST].start, in->bytes, n)) differ(call, "the file was changed");
     if (count_32 && memcmp(lists[NUMBERS].start, in->bytes, 4 * count_32)) differ(call, "the numbers were changed");
+    if (start_length && memcmp(lists[START].start, start_bytes, lists[START].bytes)) differ(call, "the start was changed");
     count(call, given, out, o);
 }
 
@@ -330,6 +358,12 @@ static void all_calls(const struct input *in) {
     const uint64_t indexes[] = {in->i, 0, 1, 2, in->i + (1ull << 32), UINT64_MAX, UINT64_MAX / 32 + 1};
     for (enum call call = 0; call < CALLS; call++) {
         one_call(call, in, in->i, in->k);
+        if (call == HASH_SWAP || call == HASH_SWAP_BYTES) {
+            size_t length = call == HASH_SWAP ? in->length / 4 : in->length;
+            one_call(call, in, in->i % (length + 1), in->k);
+            one_call(call, in, length, in->k);
+            one_call(call, in, length + 1, in->k);
+        }
         if (call < ENTRY_NAME || call > REFERENCE) continue;
         for (size_t a = 0; a < sizeof indexes / sizeof *indexes; a++) {
             one_call(call, in, indexes[a], in->k);
@@ -362,6 +396,7 @@ int LLVMFuzzerTestOneInput(const uint8_t *data, size_t size) {
     in.places = places(control, in.bytes, in.length);
     in.i = number(control + 8, 8);
     in.k = number(control + 16, 8);
+    in.start_length = number(control + 30, 2) % (in.length + 1);
     noise_state = number(control + 24, 4);
     empty_pointer = control[1] >> 3 & 3;
     lay(&lists[FILE_LIST], in.length, control[1] & 1);

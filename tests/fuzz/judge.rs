@@ -199,6 +199,55 @@ pub unsafe extern "C" fn judge_hash_2008_bytes(text: *const u8, length: usize) -
 }
 
 #[no_mangle]
+pub unsafe extern "C" fn judge_hash_powers(numbers: *const u32, count: usize) -> u32 {
+    hashes::hash_powers(list(numbers, count))
+}
+
+#[no_mangle]
+pub unsafe extern "C" fn judge_hash_powers_bytes(text: *const u8, length: usize) -> u32 {
+    hashes::hash_powers(&hashes::bytes(list(text, length)))
+}
+
+/// The hash, or 0 with 25.
+unsafe fn swapped(hash: Option<u32>, out: *mut u64, out_length: usize) -> u32 {
+    match tell(hash.map(|hash| [hash.into()]), out, out_length) {
+        1 => 0,
+        _ => 25,
+    }
+}
+
+#[no_mangle]
+pub unsafe extern "C" fn judge_hash_swap(
+    old_hash: u32,
+    old: *const u32,
+    old_count: usize,
+    p: u64,
+    start: *const u32,
+    start_count: usize,
+    out: *mut u64,
+    out_length: usize,
+) -> u32 {
+    let hash = hashes::hash_swap(old_hash, list(old, old_count), p, list(start, start_count));
+    swapped(hash, out, out_length)
+}
+
+#[no_mangle]
+pub unsafe extern "C" fn judge_hash_swap_bytes(
+    old_hash: u32,
+    old: *const u8,
+    old_length: usize,
+    p: u64,
+    start: *const u8,
+    start_length: usize,
+    out: *mut u64,
+    out_length: usize,
+) -> u32 {
+    let (old, start) = (list(old, old_length), list(start, start_length));
+    let hash = hashes::hash_swap(old_hash, &hashes::bytes(old), p, &hashes::bytes(start));
+    swapped(hash, out, out_length)
+}
+
+#[no_mangle]
 pub unsafe extern "C" fn judge_catalogue_read(
     line: *const u8,
     length: usize,

@@ -1,7 +1,7 @@
 //! seeds FOLDER FILE..
 //!
 //! Writes inputs for the fuzzer to start from: the files given, and of each version sound files, a file damaged for
-//! each check, and cuts. The same bytes every time.
+//! each check, and cuts; lines; and lists around the end of the table of powers. The same bytes every time.
 
 use compare::generate::cuts::cuts;
 use compare::generate::damage::{damage, AIMS};
@@ -16,6 +16,8 @@ use std::path::{Path, PathBuf};
 const ALL: u8 = 255;
 const CATALOGUE_READ: u8 = 13;
 const CATALOGUE_WRITE: u8 = 14;
+const HASH_POWERS: u8 = 17;
+const HASH_SWAP_BYTES: u8 = 20;
 /// Places as the trace count says, one fewer, or none.
 const EXACT: u8 = 0;
 const FEWER: u8 = 3;
@@ -33,7 +35,8 @@ impl Seeds {
         input.extend(i.to_le_bytes());
         input.extend(k.to_le_bytes());
         input.extend((self.count as u32).to_le_bytes());
-        input.extend([25 + self.count as u8 % 3, self.count as u8 % 16, 0, 0]);
+        input.extend([25 + self.count as u8 % 3, self.count as u8 % 16]);
+        input.extend((self.count as u16 % 64).to_le_bytes());
         input.extend(bytes);
         std::fs::write(self.folder.join(format!("seed-{:03}", self.count)), input)?;
         self.count += 1;
@@ -68,6 +71,29 @@ impl Seeds {
         }
         Ok(())
     }
+
+    /// As many numbers as the table has powers, one less and one more; as many bytes, with a start swapped.
+    fn powers(&mut self, random: &mut Random) -> io::Result<()> {
+        for length in [0, 1, 1_023, 1_024, 1_025] {
+            for call in HASH_POWERS..=HASH_SWAP_BYTES {
+                let width = if call % 2 == 1 { 4 } else { 1 };
+                self.add(
+                    call,
+                    EXACT,
+                    46.min(length),
+                    random.next(),
+                    &random.bytes(width * length as usize),
+                )?;
+            }
+        }
+        // All but one kept, and 1,023 to 1,025 of more.
+        for (length, p) in
+            [(1_025, 1), (3_000, 1_977), (3_000, 1_976), (3_000, 1_975), (3_000, 3_001)]
+        {
+            self.add(HASH_SWAP_BYTES, EXACT, p, random.next(), &random.bytes(length))?;
+        }
+        Ok(())
+    }
 }
 
 fn main() -> io::Result<()> {
@@ -79,5 +105,6 @@ fn main() -> io::Result<()> {
         seeds.add(ALL, EXACT, 2, 0, &std::fs::read(file)?)?;
     }
     seeds.versions(&mut Random::new(1))?;
-    seeds.lines()
+    seeds.lines()?;
+    seeds.powers(&mut Random::new(2))
 }

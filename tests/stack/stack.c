@@ -48,6 +48,10 @@ static void hash_2008(void) { answer = hs_hash_2008(numbers, 1000); }
 static void hash_xp_bytes(void) { answer = hs_hash_xp_bytes(file, length); }
 static void hash_vista_bytes(void) { answer = hs_hash_vista_bytes(file, length); }
 static void hash_2008_bytes(void) { answer = hs_hash_2008_bytes(file, length); }
+static void hash_powers(void) { answer = hs_hash_powers(numbers, 1000); }
+static void hash_powers_bytes(void) { answer = hs_hash_powers_bytes(file, length); }
+static void hash_swap(void) { answer = hs_hash_swap(1, numbers, 1000, 46, numbers, 48, out, HS_READER_OUT); }
+static void hash_swap_bytes(void) { answer = hs_hash_swap_bytes(1, file, length, 46, file, 48, out, HS_READER_OUT); }
 static void catalogue_write(void) { answer = hs_catalogue_write(148, 65, 1, 17, line, sizeof line); }
 static void catalogue_read(void) { answer = hs_catalogue_read(line, sizeof line, out, HS_READER_OUT); }
 
@@ -72,6 +76,10 @@ static struct {
     {"hs_hash_xp_bytes", hash_xp_bytes, 0},
     {"hs_hash_vista_bytes", hash_vista_bytes, 0},
     {"hs_hash_2008_bytes", hash_2008_bytes, 0},
+    {"hs_hash_powers", hash_powers, 0},
+    {"hs_hash_powers_bytes", hash_powers_bytes, 0},
+    {"hs_hash_swap", hash_swap, 0},
+    {"hs_hash_swap_bytes", hash_swap_bytes, 0},
     {"hs_catalogue_write", catalogue_write, 0},
     {"hs_catalogue_read", catalogue_read, 0},
 };

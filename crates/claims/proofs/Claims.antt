@@ -18,6 +18,7 @@ use Rattle.claims.proofs.EveryName.{every-name}
 use Rattle.claims.proofs.Offsets.{offsets}
 use Rattle.claims.proofs.Numbers.{numbers}
 use Rattle.claims.proofs.OneHash.{one-hash}
+use Rattle.claims.proofs.Powers.{powers}
 use Rattle.claims.proofs.Times.{times}
 use Rattle.claims.proofs.Places.{places-say}
 use Rattle.claims.proofs.EmptyPrograms.{empty-programs}
@@ -49,6 +50,7 @@ claims =
       decimal-only = decimal-only;
       one-hash = one-hash;
       numbers = numbers;
+      powers = powers;
       path-found = λ o p i n a. (path-found-law o p i n a, found-path-law o p i n a);
       path-not-found = path-not-found-law;
       path-not-open = path-not-open;

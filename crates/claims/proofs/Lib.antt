@@ -11,4 +11,5 @@ pub mod EveryName
 pub mod Examples
 pub mod Places
 pub mod Points
+pub mod Powers
 pub mod Search

@@ -32,6 +32,7 @@ use Rattle.claims.specs.EveryName.{EveryName}
 use Rattle.claims.specs.Offsets.{Offsets}
 use Rattle.claims.specs.Numbers.{Numbers}
 use Rattle.claims.specs.OneHash.{OneHash}
+use Rattle.claims.specs.Powers.{Powers}
 use Rattle.claims.specs.Times.{Times}
 use Rattle.claims.specs.Places.{PlacesSay}
 use Rattle.claims.specs.EmptyPrograms.{EmptyPrograms}
@@ -112,6 +113,8 @@ pub record Claims : Type 1 where
   pub one-hash : OneHash
   -- Request 105: the search's answer is the first of all pairs, and an entry is in one at most.
   pub numbers : Numbers
+  -- Request 109: the powers of 37 give the Vista hash, and a swapped start the hash of the joined list.
+  pub powers : Powers
   -- ---- the path search and the queries, in words
   -- "Path search", with request 105: the least number for which any metrics entry that can be shown matches, and then the first such
   -- entry, or none; and none on bytes that don't pass checks 1 to 6.

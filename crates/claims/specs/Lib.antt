@@ -9,3 +9,4 @@ pub mod EveryName
 pub mod Examples
 pub mod Places
 pub mod Points
+pub mod Powers

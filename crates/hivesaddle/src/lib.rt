@@ -2,6 +2,7 @@
 ghost use mathlib.Core.Path.{_≡_};
 ghost use mathlib.Core.List.{[], _∷_};
 ghost use Rattle.path_hash.specs.Hash.{xp, vista, hash2008};
+ghost use Rattle.power_hash.specs.Powers.{hashPowers, swapAnswer, swapSaid};
 ghost use Rattle.catalogue.specs.Line.{reading};
 ghost use Rattle.reader.specs.Verdict.{valuesOf, noRecord};
 ghost use Rattle.query.specs.Queries.{placeSaid, programPlace, entryPlace, volumeAsked, volumeList, volumeValues, volumeSaid};
@@ -12,6 +13,7 @@ use catalogue::Fields;
 use catalogue::ReadLine;
 use catalogue::WrittenLine;
 use path_search::PathAnswer;
+use power_hash::Swap;
 use query::Place;
 use query::PlaceAnswer;
 use query::PlacesAnswer;
@@ -63,6 +65,21 @@ pub extern "C" fn hs_hash_2008_bytes(text: &[u8]) -> u32
     ensures { λ r. ⌜ r ≡ hash2008 (now (text .entry)) ⌝ }
 {
     path_hash::hash_2008_bytes(text)
+}
+
+// The Vista hash on the table of powers of 37.
+#[no_mangle]
+pub extern "C" fn hs_hash_powers(numbers: &[u32]) -> u32
+    ensures { λ r. ⌜ r ≡ hashPowers (now (numbers .entry)) ⌝ }
+{
+    power_hash::hash_powers(numbers)
+}
+
+#[no_mangle]
+pub extern "C" fn hs_hash_powers_bytes(text: &[u8]) -> u32
+    ensures { λ r. ⌜ r ≡ hashPowers (now (text .entry)) ⌝ }
+{
+    power_hash::hash_powers_bytes(text)
 }
 
 // As many of the values as fit.
@@ -265,6 +282,58 @@ pub extern "C" fn hs_places(file: &[u8], out: &mut [u64]) -> u32
             0
         }
     }
+}
+
+// The refusal of a count that exceeds the old list, and what stands for the hash then.
+const TOO_LONG: u32 = 25;
+
+const NO_HASH: u64 = 0;
+
+fn put_swap(answer: Swap, out: &mut [u64]) -> u32
+    ensures { λ r. ⌜ Answered (swapSaid answer) r (now (out .entry)) (now (out .exit)) ⌝ }
+{
+    match answer {
+        Swap::Swapped(h) => {
+            put_one(out, h as u64);
+            0
+        }
+        Swap::TooLong => {
+            put_one(out, NO_HASH);
+            TOO_LONG
+        }
+    }
+}
+
+// The hash of a path whose first p numbers are swapped for another start, from the old hash.
+#[no_mangle]
+pub extern "C" fn hs_hash_swap(
+    old_hash: u32,
+    old: &[u32],
+    p: u64,
+    start: &[u32],
+    out: &mut [u64],
+) -> u32
+    ensures { λ r.
+        ⌜ Answered (swapSaid (swapAnswer «old_hash» (now (old .entry)) p (now (start .entry)))) r (now (out .entry)) (now (out .exit)) ⌝ }
+{
+    put_swap(power_hash::hash_swap(old_hash, old, p as usize, start), out)
+}
+
+#[no_mangle]
+pub extern "C" fn hs_hash_swap_bytes(
+    old_hash: u32,
+    old: &[u8],
+    p: u64,
+    start: &[u8],
+    out: &mut [u64],
+) -> u32
+    ensures { λ r.
+        ⌜ Answered (swapSaid (swapAnswer «old_hash» (now (old .entry)) p (now (start .entry)))) r (now (out .entry)) (now (out .exit)) ⌝ }
+{
+    put_swap(
+        power_hash::hash_swap_bytes(old_hash, old, p as usize, start),
+        out,
+    )
 }
 
 fn put_two(out: &mut [u64], a: u64, b: u64)

@@ -1,6 +1,7 @@
-//! The three path hashes, over a list of numbers and over the bytes of a text.
+//! The three path hashes, and a second engine for the last two, over a list of
+//! numbers and over the bytes of a text.
 
-use crate::raw;
+use crate::{raw, Refusal};
 
 /// The hash of Windows XP and 2003.
 ///
@@ -68,4 +69,97 @@ pub fn hash_vista_bytes(text: &[u8]) -> u32 {
 /// ```
 pub fn hash_2008_bytes(text: &[u8]) -> u32 {
     unsafe { raw::hs_hash_2008_bytes(text.as_ptr(), text.len()) }
+}
+
+/// [`hash_vista`] by a second engine, for many paths: it adds up each number
+/// times its power of 37, from a table of 1,024 powers. Past 1,024 numbers it
+/// takes the plain step.
+///
+/// ```
+/// assert_eq!(hivesaddle::hash_powers(&[]), 314159);
+/// assert_eq!(hivesaddle::hash_powers(&[65, 66]), 430086142);
+/// let long: Vec<u32> = (0..2_000).collect();
+/// assert_eq!(hivesaddle::hash_powers(&long), hivesaddle::hash_vista(&long));
+/// ```
+pub fn hash_powers(numbers: &[u32]) -> u32 {
+    unsafe { raw::hs_hash_powers(numbers.as_ptr(), numbers.len()) }
+}
+
+/// [`hash_powers`] over the bytes of a text, as [`hash_xp_bytes`] takes them.
+///
+/// ```
+/// assert_eq!(hivesaddle::hash_powers_bytes(b"A\0"), 430086076);
+/// assert_eq!(hivesaddle::hash_powers_bytes(b"\xE9\0"), 430092292);
+/// ```
+pub fn hash_powers_bytes(text: &[u8]) -> u32 {
+    unsafe { raw::hs_hash_powers_bytes(text.as_ptr(), text.len()) }
+}
+
+/// Swaps the first p numbers of the old list for another start. Where the old
+/// hash is [`hash_vista`] of the old list, the answer is that of the start
+/// followed by the numbers kept, which are not looked at. Any other old hash
+/// is taken as it is: the answer is the old hash plus (hash of the start less
+/// hash of the first p numbers) times 37 raised to the count of numbers kept,
+/// mod 2 to the 32.
+///
+/// Refusal 25 where p exceeds the length of the old list.
+///
+/// ```
+/// use hivesaddle::{hash_swap, hash_vista};
+/// let old = [65, 66, 67];
+/// let joined = hash_vista(&[7, 8, 9, 67]);
+/// assert_eq!(hash_swap(hash_vista(&old), &old, 2, &[7, 8, 9]), Ok(joined));
+/// let refusal = hash_swap(hash_vista(&old), &old, 4, &[]).unwrap_err();
+/// assert_eq!((refusal.number, refusal.index, refusal.offset), (25, 0, 0));
+/// ```
+pub fn hash_swap(old_hash: u32, old: &[u32], p: u64, start: &[u32]) -> Result<u32, Refusal> {
+    let mut out = [0];
+    let number = unsafe {
+        raw::hs_hash_swap(
+            old_hash,
+            old.as_ptr(),
+            old.len(),
+            p,
+            start.as_ptr(),
+            start.len(),
+            out.as_mut_ptr(),
+            out.len(),
+        )
+    };
+    swapped(number, out)
+}
+
+/// [`hash_swap`] over the bytes of two texts, as [`hash_xp_bytes`] takes them;
+/// p counts bytes.
+///
+/// ```
+/// use hivesaddle::hash_swap_bytes;
+/// let bytes = |text: &str| -> Vec<u8> { text.encode_utf16().flat_map(u16::to_le_bytes).collect() };
+/// let old = bytes(r"\DEVICE\HARDDISKVOLUME1\WINDOWS\NOTEPAD.EXE");
+/// let volume = bytes(r"\DEVICE\HARDDISKVOLUME2");
+/// assert_eq!(hash_swap_bytes(0x3D2AFDB4, &old, 46, &volume), Ok(0x86E0E9B9));
+/// assert_eq!(hash_swap_bytes(0x3D2AFDB4, &old, 87, &volume).unwrap_err().number, 25);
+/// ```
+pub fn hash_swap_bytes(old_hash: u32, old: &[u8], p: u64, start: &[u8]) -> Result<u32, Refusal> {
+    let mut out = [0];
+    let number = unsafe {
+        raw::hs_hash_swap_bytes(
+            old_hash,
+            old.as_ptr(),
+            old.len(),
+            p,
+            start.as_ptr(),
+            start.len(),
+            out.as_mut_ptr(),
+            out.len(),
+        )
+    };
+    swapped(number, out)
+}
+
+fn swapped(number: u32, out: [u64; 1]) -> Result<u32, Refusal> {
+    match number {
+        0 => Ok(out[0] as u32),
+        number => Err(Refusal { number, index: 0, offset: 0 }),
+    }
 }

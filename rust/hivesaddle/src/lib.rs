@@ -16,7 +16,8 @@ mod readers;
 
 pub use catalogue::{catalogue_read, catalogue_write, CatalogueFields, CATALOGUE_LINE_LENGTH};
 pub use hashes::{
-    hash_2008, hash_2008_bytes, hash_vista, hash_vista_bytes, hash_xp, hash_xp_bytes,
+    hash_2008, hash_2008_bytes, hash_powers, hash_powers_bytes, hash_swap, hash_swap_bytes,
+    hash_vista, hash_vista_bytes, hash_xp, hash_xp_bytes,
 };
 pub use queries::{
     entry_name, find_path, list_paths, list_paths_alloc, places, program_name, reference, volume,
@@ -36,7 +37,7 @@ pub struct Refusal {
     pub number: u32,
     /// The section, entry or volume at fault; 0 where there is none to name.
     pub index: u64,
-    /// Where the field at fault stands in the file; 0 for 18 and 19, which
+    /// Where the field at fault stands in the file; 0 for 18, 19 and 25, which
     /// are about no file.
     pub offset: u64,
 }

@@ -12,6 +12,30 @@ extern "C" {
     pub fn hs_hash_xp_bytes(text: *const u8, length: usize) -> u32;
     pub fn hs_hash_vista_bytes(text: *const u8, length: usize) -> u32;
     pub fn hs_hash_2008_bytes(text: *const u8, length: usize) -> u32;
+    pub fn hs_hash_powers(numbers: *const u32, count: usize) -> u32;
+    pub fn hs_hash_powers_bytes(text: *const u8, length: usize) -> u32;
+    /// 0 or 25. `out`: hash.
+    pub fn hs_hash_swap(
+        old_hash: u32,
+        old: *const u32,
+        old_count: usize,
+        p: u64,
+        start: *const u32,
+        start_count: usize,
+        out: *mut u64,
+        out_length: usize,
+    ) -> u32;
+    /// 0 or 25. `out`: hash.
+    pub fn hs_hash_swap_bytes(
+        old_hash: u32,
+        old: *const u8,
+        old_length: usize,
+        p: u64,
+        start: *const u8,
+        start_length: usize,
+        out: *mut u64,
+        out_length: usize,
+    ) -> u32;
 
     /// 0 or 18. `out`: size, stored hash, run count, version.
     pub fn hs_catalogue_read(

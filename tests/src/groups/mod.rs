@@ -7,6 +7,7 @@ mod catalogue;
 mod hashes;
 mod links;
 pub mod listing;
+mod powers;
 mod prefixes;
 mod queries;
 mod query_points;
@@ -33,6 +34,7 @@ pub type Group = (&'static str, fn(&Run, &mut Tally));
 
 pub const GROUPS: &[Group] = &[
     ("hashes", hashes::run),
+    ("powers", powers::run),
     ("catalogue", catalogue::run),
     ("readers", readers::run),
     ("prefixes", prefixes::run),

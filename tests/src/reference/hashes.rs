@@ -1,6 +1,8 @@
 //! The path hashes, with exact sums that are reduced where the paper says so.
 
 const MODULUS: i128 = 4_294_967_296;
+/// What Vista and 2008 start from.
+const START: i128 = 314159;
 
 /// XP: from 0, with the end step.
 pub fn hash_xp(numbers: &[u32]) -> u32 {
@@ -17,12 +19,12 @@ pub fn xp_end_step(after: i128) -> u32 {
 
 /// Vista: from 314159, no end step.
 pub fn hash_vista(numbers: &[u32]) -> u32 {
-    plain_steps(314159, numbers) as u32
+    plain_steps(START, numbers) as u32
 }
 
 /// 2008: eight numbers at a time while more than eight remain.
 pub fn hash_2008(numbers: &[u32]) -> u32 {
-    let mut h: i128 = 314159;
+    let mut h = START;
     let mut rest = numbers;
     while rest.len() > 8 {
         let c: Vec<i128> = rest[..8].iter().map(|&number| number as i128).collect();
@@ -33,6 +35,41 @@ pub fn hash_2008(numbers: &[u32]) -> u32 {
         rest = &rest[8..];
     }
     plain_steps(h, rest) as u32
+}
+
+/// The second engine: each number times its power of 37, up to as many numbers
+/// as its table has powers; past that the plain step.
+pub fn hash_powers(numbers: &[u32]) -> u32 {
+    if numbers.len() > POWERS {
+        return plain_steps(START, numbers) as u32;
+    }
+    let behind = |place: usize| numbers.len() - 1 - place;
+    let terms = numbers.iter().enumerate().map(|(place, &c)| c as i128 * power(behind(place)));
+    ((START * power(numbers.len()) + terms.sum::<i128>()) % MODULUS) as u32
+}
+
+/// Powers in the table of the second engine.
+pub const POWERS: usize = 1_024;
+
+/// 37 raised to the exponent, mod 2 to the 32, by squares.
+fn power(exponent: usize) -> i128 {
+    match exponent {
+        0 => 1,
+        _ if exponent % 2 == 1 => 37 * power(exponent - 1) % MODULUS,
+        _ => power(exponent / 2).pow(2) % MODULUS,
+    }
+}
+
+/// The old hash, which may be any, with the first p numbers of the old list
+/// swapped for another start; nothing where the list has fewer than p.
+pub fn hash_swap(old_hash: u32, old: &[u32], p: u64, start: &[u32]) -> Option<u32> {
+    if p > old.len() as u64 {
+        return None;
+    }
+    let (first, kept) = old.split_at(p as usize);
+    let difference = hash_powers(start) as i128 - hash_powers(first) as i128;
+    let hash = old_hash as i128 + difference * power(kept.len());
+    Some(hash.rem_euclid(MODULUS) as u32)
 }
 
 fn plain_steps(start: i128, numbers: &[u32]) -> i128 {
@@ -84,6 +121,22 @@ mod points {
                     (0..length).map(|i| start.wrapping_add(i * i * i)).collect();
                 assert_eq!(hash_vista(&numbers), hash_2008(&numbers));
             }
+        }
+    }
+
+    /// What #109 says of the second engine and of its swap.
+    #[test]
+    fn powers_are_vista_and_swaps_are_joined_lists() {
+        let numbers: Vec<u32> = (0..3_000u32).map(|i| i.wrapping_mul(0x9E37_79B9)).collect();
+        for length in [0, 1, 2, 1_023, 1_024, 1_025, 3_000] {
+            assert_eq!(hash_powers(&numbers[..length]), hash_vista(&numbers[..length]));
+        }
+        for (length, p) in [(0, 0), (1, 0), (1, 1), (1_025, 1), (3_000, 46), (3_000, 1_500)] {
+            let (old, start) = (&numbers[..length], &numbers[7..60]);
+            let joined = [start, &old[p..]].concat();
+            let swapped = hash_swap(hash_vista(old), old, p as u64, start);
+            assert_eq!(swapped, Some(hash_vista(&joined)));
+            assert_eq!(hash_swap(0, old, length as u64 + 1, start), None);
         }
     }
 

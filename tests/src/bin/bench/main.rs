@@ -2,6 +2,11 @@
 //!
 //! The path hashes over the C boundary beside a plain Rust loop.
 //!
+//! bench powers
+//!
+//! The second hash engine on device paths and on single lengths, and its swap
+//! of a path's volume, beside the plain Rust loop.
+//!
 //! bench readers
 //!
 //! The whole-file reader on files as Windows lays them out, from 1 KB to 16 MB,
@@ -26,6 +31,7 @@
 
 mod hashes;
 mod overlap;
+mod powers;
 mod readers;
 mod search;
 mod timing;
@@ -36,12 +42,13 @@ use std::process::ExitCode;
 fn main() -> ExitCode {
     match std::env::args().nth(1).as_deref() {
         Some("hashes") => hashes::run(),
+        Some("powers") => powers::run(),
         Some("readers") => readers::run(),
         Some("trace") => trace::run(),
         Some("overlap") => overlap::run(),
         Some("search") => search::run(),
         _ => {
-            eprintln!("bench hashes | readers | trace | overlap | search");
+            eprintln!("bench hashes | powers | readers | trace | overlap | search");
             return ExitCode::from(2);
         }
     }

@@ -1,0 +1,71 @@
+-- The rule of the constant table, proved once: one test that is computed over the whole table, and what it says of each entry.
+use mathlib.Core.Path.{_≡_, refl, sym, ap, _∙_}
+use mathlib.Core.Bool.{Bool, true, false, _&&_}
+use mathlib.Core.List.{List, [], _∷_}
+use Prim.Native.Nat.{ℕ, zero, suc, _+_, _-_, _*_, _%_, _^_, _≤_, _<_}
+use native.Mathlib.Nat.{pow-suc, mod-add-mod, not-suc-le-zero, le-of-suc-le-suc}
+use native.Mathlib.Numerals.{add-one}
+use native.Mathlib.Omega.{arith}
+use lib.Dec.{T, eqb, eqb→eq}
+use lib.ListN.{length, getD, drop}
+use Rattle.power_hash.specs.Powers.{PowerTable, powerSum}
+use Rattle.power_hash.proofs.Products.{mod-right}
+use Rattle.power_hash.proofs.Sum.{sum-more, sum-step}
+use Rattle.power_hash.proofs.Powers.{rest, powers}
+
+and-left : (a b : Bool) → T (a && b) → T a
+and-left true b t = tt
+and-left false b t = t
+
+and-right : (a b : Bool) → T (a && b) → T b
+and-right true b t = t
+and-right false b t = absurd t
+
+-- each entry is 37 times the one before, the first one after x
+follow : ℕ → List ℕ → Bool
+follow x [] = true
+follow x (y ∷ ys) = eqb y (37 * x % 2 ^ 32) && follow y ys
+
+-- the test at each entry
+each : (x : ℕ) (ys : List ℕ) → T (follow x ys) → (k : ℕ) → k < length ys → getD ys k 0 ≡ 37 * getD (x ∷ ys) k 0 % 2 ^ 32
+unfolding follow
+each x [] t k l = absurd (not-suc-le-zero l)
+each x (y ∷ ys) t zero l = eqb→eq y (37 * x % 2 ^ 32) (and-left (eqb y (37 * x % 2 ^ 32)) (follow y ys) t)
+each x (y ∷ ys) t (suc k) l = each y ys (and-right (eqb y (37 * x % 2 ^ 32)) (follow y ys) t) k (le-of-suc-le-suc l)
+
+-- entry k is 37 ^ k
+pub table-power : (t : List ℕ) → PowerTable t → (k : ℕ) → k < 1024 → getD t k 0 ≡ 37 ^ k % 2 ^ 32
+table-power t r zero l = r .first
+table-power t r (suc k) l =
+    rw (← add-one k) (r .next k (omega arith))
+    ∙ ap (λ (n : ℕ). 37 * n % 2 ^ 32) (table-power t r k (omega arith))
+    ∙ mod-right 37 (37 ^ k)
+    ∙ ap (λ (n : ℕ). n % 2 ^ 32) (omega (arith, pow-suc 37 k))
+
+-- THE RULE HOLDS OF THE CONSTANT TABLE: the test is computed here
+pub powers-table : PowerTable powers
+unfolding powers rest follow
+powers-table = record { size = refl; first = refl; next = λ k l. rw (add-one k) (each 1 rest tt k (omega arith)) }
+
+-- ENTRY k OF THE CONSTANT TABLE IS 37 ^ k, modulo 2 ^ 32
+pub powers-entry : (k : ℕ) → k < 1024 → getD powers k 0 ≡ 37 ^ k % 2 ^ 32
+powers-entry k l = table-power powers powers-table k l
+
+-- one turn of the sum: a number times its entry is added
+pub sum-turn : (s t : List ℕ) (sum i p r g : ℕ) → PowerTable t → length s ≤ 1024 → i < length s → p ≡ getD s i 0 * getD t (length s - 1 - i) 0 % 2 ^ 32
+    → r ≡ (sum + p) % 2 ^ 32 → (sum + powerSum (drop i s)) % 2 ^ 32 ≡ g → (r + powerSum (drop (i + 1) s)) % 2 ^ 32 ≡ g
+sum-turn s t sum i p r g w m l e d h =
+    let k = length s - 1 - i in
+    let n : k < 1024 = omega arith in
+    rw (d, e, table-power t w k n) (sum-step sum (powerSum (drop (i + 1) s)) (getD s i 0) (37 ^ k) ∙ rw (sum-more s i l) at h)
+
+-- 314159 is added, times 37 to the count: one step past the entry before
+pub start-turn : (t : List ℕ) (n sum w x r : ℕ) → PowerTable t → 0 < n → n ≤ 1024 → w ≡ 37 * getD t (n - 1) 0 % 2 ^ 32 → x ≡ 314159 * w % 2 ^ 32
+    → r ≡ (x + sum) % 2 ^ 32 → r ≡ (314159 * 37 ^ n + sum) % 2 ^ 32
+start-turn t n sum w x r p l m e d f =
+    let k = n - 1 in
+    let j : n ≡ suc k = omega arith in
+    let u : 37 ^ n ≡ 37 * 37 ^ k = ap (λ (i : ℕ). 37 ^ i) j ∙ omega (arith, pow-suc 37 k) in
+    let v : w ≡ 37 ^ n % 2 ^ 32 =
+    e ∙ ap (λ (i : ℕ). 37 * i % 2 ^ 32) (table-power t p k (omega arith)) ∙ mod-right 37 (37 ^ k) ∙ ap (λ (i : ℕ). i % 2 ^ 32) (sym u) in
+    f ∙ rw (d, v, mod-right 314159 (37 ^ n)) (mod-add-mod (314159 * 37 ^ n) (2 ^ 32) sum)

@@ -1,0 +1,62 @@
+-- Eight numbers at once are eight plain steps, so the plain hash of the rest stays that of the whole list.
+use mathlib.Core.Path.{_≡_, sym, _∙_}
+use Prim.Native.Nat.{_+_, _-_, _≤_}
+use native.Mathlib.Omega.{arith}
+use lib.ListN.{length, drop}
+use Rattle.path_hash.specs.Hash.{plain, vista}
+use Rattle.power_hash.proofs.Steps.{plain-fours}
+use borrow.Author.Needs.{needs}
+use Rattle.power_hash.proofs.eights.bytes_by_eights.Statement.{statement}
+use Rattle.power_hash.proofs.eights.bytes_by_eights.Tie as tie
+
+abbrev Inv-loop : tie.InvT-loop
+Inv-loop text h₀ i₀ h i = (i ≤ length text) × (plain h (drop i text) ≡ vista text)
+
+abbrev μ-loop : tie.MeasureT-loop
+μ-loop text h₀ i₀ h i = length text - i
+
+loop-holds : tie.Need-loop-holds Inv-loop μ-loop
+loop-holds c = search needs
+
+sub-loop : tie.Need-sub-loop Inv-loop μ-loop
+sub-loop c = search needs
+
+eight-bytes-requires : tie.Need-eight-bytes-requires Inv-loop μ-loop
+eight-bytes-requires c κs = search needs
+
+add-i : tie.Need-add-i Inv-loop μ-loop
+add-i c = search needs
+
+loop-less : tie.Need-loop-less Inv-loop μ-loop
+loop-less c = search needs
+
+loop-again : tie.Need-loop-again Inv-loop μ-loop
+loop-again c =
+    let b = c .before .before in
+    let s = b .before .before .args .text .now in
+    let l : b .loop .i + 8 ≤ length s = omega arith in (
+      omega arith,
+      rw (c .eight-bytes .ensures)
+          (sym (plain-fours s (b .loop .h) (b .loop .i) l) ∙ b .loop .inv .1),
+    )
+
+rest-bytes-requires : tie.Need-rest-bytes-requires Inv-loop μ-loop
+rest-bytes-requires c κs = search needs
+
+returns : tie.Need-returns Inv-loop μ-loop
+returns c = c .rest-bytes .ensures ∙ c .before .before .loop .inv .1
+
+pub bytes-by-eights-spec : {M : Type 1} → statement M
+bytes-by-eights-spec =
+    tie.close
+    (tie.spec
+    Inv-loop
+    μ-loop
+    loop-holds
+    sub-loop
+    eight-bytes-requires
+    add-i
+    loop-less
+    loop-again
+    rest-bytes-requires
+    returns)

@@ -1,0 +1,88 @@
+-- After each turn the sum so far and that of the numbers left are that of all of them.
+use mathlib.Core.Path.{_≡_, refl, sym, _∙_}
+use Prim.Native.Nat.{_+_, _-_, _*_, _%_, _^_, _≤_, _<_}
+use native.Mathlib.Omega.{arith}
+use lib.ListN.{length, getD, drop}
+use Rattle.power_hash.specs.Powers.{powerSum}
+use Rattle.power_hash.proofs.Sum.{sum-done}
+use Rattle.power_hash.proofs.Table.{sum-turn}
+use borrow.Author.Needs.{needs}
+use Rattle.power_hash.proofs.sum_numbers.Statement.{statement}
+use Rattle.power_hash.proofs.sum_numbers.Tie as tie
+
+abbrev Inv-loop : tie.InvT-loop
+Inv-loop cs t n sum₀ i₀ sum i =
+    (i ≤ length cs) × (sum < 2 ^ 32) × ((sum + powerSum (drop i cs)) % 2 ^ 32 ≡ powerSum cs % 2 ^ 32)
+
+abbrev μ-loop : tie.MeasureT-loop
+μ-loop cs t n sum₀ i₀ sum i = length cs - i
+
+loop-holds : tie.Need-loop-holds Inv-loop μ-loop
+loop-holds c = search needs
+
+mul-times : tie.Need-mul-times Inv-loop μ-loop
+mul-times c = search needs
+
+shared-slice-read-times : tie.Need-shared-slice-read-times Inv-loop μ-loop
+shared-slice-read-times c = search needs
+
+sub-times : tie.Need-sub-times Inv-loop μ-loop
+sub-times c = search needs
+
+sub-times-2 : tie.Need-sub-times-2 Inv-loop μ-loop
+sub-times-2 c = search needs
+
+mul-times-2 : tie.Need-mul-times-2 Inv-loop μ-loop
+mul-times-2 c = search needs
+
+element-copy-out-times : tie.Need-element-copy-out-times Inv-loop μ-loop
+element-copy-out-times c = search needs
+
+times-requires : tie.Need-times-requires Inv-loop μ-loop
+times-requires c κs = search needs
+
+wrapping-add-u32-requires : tie.Need-wrapping-add-u32-requires Inv-loop μ-loop
+wrapping-add-u32-requires c κs = search needs
+
+add-i : tie.Need-add-i Inv-loop μ-loop
+add-i c = search needs
+
+loop-less : tie.Need-loop-less Inv-loop μ-loop
+loop-less c = search needs
+
+loop-again : tie.Need-loop-again Inv-loop μ-loop
+loop-again c =
+    let b = c .before .before .before .before .before in
+    let a = b .before .before .args in
+    let p = b .before .before .pre in (
+      search needs,
+      search needs,
+      sum-turn (a .cs .now) (a .t .now) (b .loop .sum) (b .loop .i) _ _ _
+          (p .1) (p .0) (search needs)
+          (c .before .times .ensures) (c .wrapping-add-u32 .ensures) (b .loop .inv .2),
+    )
+
+returns : tie.Need-returns Inv-loop μ-loop
+returns c =
+    let b = c .before in
+    omega (arith, b .loop .inv .2, sum-done (b .before .before .args .cs .now) (b .loop .i) (c .loop-test .left))
+
+pub sum-numbers-spec : {M : Type 1} → statement M
+sum-numbers-spec =
+    tie.close
+    (tie.spec
+    Inv-loop
+    μ-loop
+    loop-holds
+    mul-times
+    shared-slice-read-times
+    sub-times
+    sub-times-2
+    mul-times-2
+    element-copy-out-times
+    times-requires
+    wrapping-add-u32-requires
+    add-i
+    loop-less
+    loop-again
+    returns)
