@@ -22,6 +22,7 @@ fn one_file(version: u32) {
     let found = find_path(&file).expect("the program's own path");
     assert_eq!(hivesaddle::list_paths(&file, &mut pairs), 1);
     assert_eq!(pairs.map(u64::from), [found.entry, found.number]);
+    let stored = u32::from_le_bytes([file[76], file[77], file[78], file[79]]);
     set_32(&mut file, 76, u32::MAX);
     assert_eq!(hivesaddle::find_path(&file), None);
     assert_eq!(search::find_path(&file), None);
@@ -39,6 +40,22 @@ fn one_file(version: u32) {
         || _ = black_box(search::list_paths(black_box(&file), &mut [0; 2])),
     );
     show("list", version, &times);
+    one_pair(version, &mut file, stored.wrapping_add(8));
+}
+
+/// One name has the stored hash, with number 8: the search looks at all names,
+/// and the list takes its second pass.
+fn one_pair(version: u32, file: &mut [u8], stored: u32) {
+    set_32(file, 76, stored);
+    let mut pairs = [0; 2];
+    let times = side_by_side(
+        TURNS,
+        1,
+        || _ = black_box(hivesaddle::list_paths(black_box(file), &mut pairs)),
+        || _ = black_box(hivesaddle::find_path(black_box(file))),
+    );
+    assert_eq!(pairs[1], 8);
+    show("list of one pair beside the library's search", version, &times);
 }
 
 fn show(what: &str, version: u32, times: &Times) {
