@@ -12,7 +12,7 @@
 
 #include "hivesaddle.h"
 
-#define LARGEST_FILE 16777215
+#define LARGEST_FILE 67108864
 #define MOST_TRACE_ENTRIES ((LARGEST_FILE - 148) / 12)
 #define BYTES_A_SECOND 11520
 

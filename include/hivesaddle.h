@@ -82,7 +82,7 @@ uint32_t hs_read_file(const uint8_t *file, size_t length, uint32_t *predecessors
                       size_t out_length);
 
 /* How many slots of predecessors both need for this file: its trace count. 1 where checks 1 to 6 of the table below pass on
- * these bytes, so from H bytes on, and the number is then at most 1,398,088. Else 0; both then answer the same with any
+ * these bytes, so from H bytes on, and the number is then at most 5,592,393. Else 0; both then answer the same with any
  * number of slots. Of the file only its head is looked at.
  * out: places, 0 after a no. */
 uint32_t hs_places(const uint8_t *file, size_t length, uint64_t *out, size_t out_length);
@@ -99,7 +99,7 @@ uint32_t hs_places(const uint8_t *file, size_t length, uint64_t *out, size_t out
  *  no.  required     refused exactly when                                                 index                file offset
  *   1   4            version not 17, 23 or 26                                             0                    0
  *   2   8            signature is not "SCCA"                                              0                    4
- *   3   16           S below H or above 16,777,215                                        0                    12
+ *   3   16           S below H or above 67,108,864                                        0                    12
  *   4   76           none of the 30 units of the program name is zero                     0                    16
  *   5   H            a section that is not empty starts before H or ends after S          first such section   offset field
  *   6   H            two sections share a byte                                            smallest that shares offset field
@@ -119,7 +119,7 @@ uint32_t hs_places(const uint8_t *file, size_t length, uint64_t *out, size_t out
  *  16                hs_read_file only: the file is shorter than S or than a check needs  0                    12
  *  17                hs_read_file only: the file is longer than S                         0                    12
  *  18                hs_catalogue_read only: not a catalogue line
- *  19                hs_catalogue_write only: fields that form no line, or an output below 25 bytes
+ *  19                hs_catalogue_write only: fields that form no line, or an output below 27 bytes
  *  25                hs_hash_swap and hs_hash_swap_bytes only: p exceeds the length of old
  *
  * 14 and 15 are found volume by volume, the first fault of the first volume that has one. The end of an empty section
@@ -196,15 +196,19 @@ uint32_t hs_hash_swap_bytes(uint32_t old_hash, const uint8_t *old, size_t old_le
 
 /* ---- Catalogue lines ----
  *
- * 24 digits 0-9 A-F and a line feed: size 6, stored hash 8, run count 8, version 2, most significant digit first.
+ * 26 digits 0-9 A-F and a line feed: size 8, stored hash 8, run count 8, version 2, most significant digit first. The
+ * version is one that the readers take, and the size lies between its H and 67,108,864. Old lines have 24 digits, size 6,
+ * and a size of at most 16,777,215. They are read, told apart by their length, and not written.
  */
-#define HS_CATALOGUE_LINE_LENGTH 25
+#define HS_CATALOGUE_LINE_LENGTH 27
+#define HS_CATALOGUE_OLD_LINE_LENGTH 25
 
-/* 0, or 18 with zeros in out where the bytes are no such line.
+/* 0, or 18 with zeros in out where the bytes are neither such line. An old line and the new line of equal fields give the
+ * same.
  * out: size, stored hash, run count, version. */
 uint32_t hs_catalogue_read(const uint8_t *line, size_t length, uint64_t *out, size_t out_length);
 
-/* 0 with the line in the first 25 bytes of output, the rest left alone; or 19 with nothing written. */
+/* 0 with the line in the first 27 bytes of output, the rest left alone; or 19 with nothing written. */
 uint32_t hs_catalogue_write(uint32_t size, uint32_t stored_hash, uint32_t run_count, uint32_t version, uint8_t *output,
                             size_t length);
 

@@ -35,7 +35,7 @@ impl Seeds {
         input.extend(i.to_le_bytes());
         input.extend(k.to_le_bytes());
         input.extend((self.count as u32).to_le_bytes());
-        input.extend([25 + self.count as u8 % 3, self.count as u8 % 16]);
+        input.extend([26 + self.count as u8 % 3, self.count as u8 % 16]);
         input.extend((self.count as u16 % 64).to_le_bytes());
         input.extend(bytes);
         std::fs::write(self.folder.join(format!("seed-{:03}", self.count)), input)?;
@@ -66,7 +66,17 @@ impl Seeds {
         self.add(CATALOGUE_READ, EXACT, 0, 0, b"000094000000410000000111\n")?;
         self.add(CATALOGUE_READ, EXACT, 0, 0, b"FFFFFFDEADBEEF0000002A17\n")?;
         self.add(CATALOGUE_READ, EXACT, 0, 0, b"0000D400000041000000011A\n")?;
-        for (size, version) in [(148, 17), (156, 23), (212, 26), (16_777_215, 26), (147, 17)] {
+        self.add(CATALOGUE_READ, EXACT, 0, 0, b"00000094000000410000000111\n")?;
+        self.add(CATALOGUE_READ, EXACT, 0, 0, b"04000000DEADBEEF0000002A1A\n")?;
+        for (size, version) in [
+            (148, 17),
+            (156, 23),
+            (212, 26),
+            (67_108_864, 26),
+            (67_108_865, 26),
+            (16_777_216, 26),
+            (147, 17),
+        ] {
             self.add(CATALOGUE_WRITE, EXACT, 65 << 32 | size, version << 32 | 1, &[])?;
         }
         Ok(())

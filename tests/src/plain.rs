@@ -7,7 +7,7 @@ pub mod search;
 use hivesaddle::{Record, Refusal};
 
 const END: u32 = u32::MAX;
-const LARGEST_SIZE: usize = 16_777_215;
+const LARGEST_SIZE: usize = 67_108_864;
 const TRACE_ENTRY: usize = 12;
 
 struct Layout {

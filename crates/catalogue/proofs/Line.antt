@@ -1,4 +1,4 @@
--- Document 01's "Catalogue line".
+-- Document 01's "Catalogue line", for any number w of size digits and any limit.
 use mathlib.Core.Path.{_≡_, refl, sym, _∙_}
 use mathlib.Core.Bool.{Bool, true, false, _&&_}
 use mathlib.Core.List.{List, _++_}
@@ -15,93 +15,103 @@ use Rattle.hex.proofs.Laws.{digits-all, digits-true, digits-within, read-digits
 use Rattle.hex.proofs.Hex.{hex-lt}
 use Rattle.hex.specs.declared.Read.{Read}
 use Rattle.hex.specs.declared.Read.the-variants.{Number, NoNumber}
-use Rattle.layout.specs.Versions.{versionOf}
+use Rattle.layout.specs.Versions.{versionOf, sizeLimit}
 use Rattle.layout.specs.declared.Version.{Version}
 use Rattle.layout.specs.declared.KnownVersion.{KnownVersion}
 use Rattle.layout.specs.declared.KnownVersion.the-variants.{Known, Unknown}
 use Rattle.catalogue.specs.declared.Fields.{Fields}
 use Rattle.catalogue.specs.declared.WrittenLine.the-variants as writtenLine
-use Rattle.catalogue.specs.Line.{lineOf, fieldsIn, sizeInRange, canForm, isFrame, isLine, noFields, reading, canWrite, Writing}
-use Rattle.catalogue.specs.Private.{Frame}
+use Rattle.catalogue.specs.Line.{lineOf, fieldsIn, sizeInRange, canForm, isFrame, isLine, noFields, reading, canWrite, Writing, oldSizeLimit}
+use Rattle.catalogue.specs.Private.{Frame, readingAs}
 
 -- ---- laws of the frame
-pub frame-size : (s : List ℕ) → (length s ≡ 25 → ⊥) → isFrame s ≡ false
-unfolding isFrame
-frame-size s h = rw (ne-eqb (length s) 25 h)
+module _ (w : ℕ) (s : List ℕ) where
+  pub frame-size : (length s ≡ w + 19 → ⊥) → isFrame w s ≡ false
+  unfolding isFrame
+  frame-size h = rw (ne-eqb (length s) (w + 19) h)
 
-pub frame-digits : (s : List ℕ) → length s ≡ 25 → areDigits s 0 24 ≡ false → isFrame s ≡ false
-unfolding isFrame
-frame-digits s e d = rw (eq-eqb (length s) 25 e, d)
+  pub frame-digits : length s ≡ w + 19 → areDigits s 0 (w + 18) ≡ false → isFrame w s ≡ false
+  unfolding isFrame
+  frame-digits e d = rw (eq-eqb (length s) (w + 19) e, d)
 
-pub frame-feed : (s : List ℕ) → length s ≡ 25 → areDigits s 0 24 ≡ true → isFrame s ≡ eqb (getD s 24 0) 10
-unfolding isFrame
-frame-feed s e d = rw (eq-eqb (length s) 25 e, d)
+  pub frame-feed : length s ≡ w + 19 → areDigits s 0 (w + 18) ≡ true → isFrame w s ≡ eqb (getD s (w + 18) 0) 10
+  unfolding isFrame
+  frame-feed e d = rw (eq-eqb (length s) (w + 19) e, d)
 
-pub frame-true : (s : List ℕ) → isFrame s ≡ true → Frame s
-unfolding isFrame
-frame-true s e = go (eqb (length s) 25) (areDigits s 0 24) (eqb (getD s 24 0) 10) refl refl refl e
-  where
-    go : (a b c : Bool) → eqb (length s) 25 ≡ a → areDigits s 0 24 ≡ b → eqb (getD s 24 0) 10 ≡ c → a && (b && c) ≡ true → Frame s
-    go true true true p q r e = record { size = eqb-true _ _ p; digits = q; feed = eqb-true _ _ r }
-    go true true false p q r e = absurd (true-false (sym e))
-    go true false c p q r e = absurd (true-false (sym e))
-    go false b c p q r e = absurd (true-false (sym e))
+  pub frame-true : isFrame w s ≡ true → Frame w s
+  unfolding isFrame
+  frame-true e = go (eqb (length s) (w + 19)) (areDigits s 0 (w + 18)) (eqb (getD s (w + 18) 0) 10) refl refl refl e
+    where
+      go : (a b c : Bool) → eqb (length s) (w + 19) ≡ a → areDigits s 0 (w + 18) ≡ b → eqb (getD s (w + 18) 0) 10 ≡ c
+          → a && (b && c) ≡ true → Frame w s
+      go true true true p q r e = record { size = eqb-true _ _ p; digits = q; feed = eqb-true _ _ r }
+      go true true false p q r e = absurd (true-false (sym e))
+      go true false c p q r e = absurd (true-false (sym e))
+      go false b c p q r e = absurd (true-false (sym e))
 
-pub frame-is : (s : List ℕ) → Frame s → isFrame s ≡ true
-frame-is s f = frame-feed s (f .size) (f .digits) ∙ eq-eqb (getD s 24 0) 10 (f .feed)
+  module _ (f : Frame w s) where
+    pub frame-is : isFrame w s ≡ true
+    frame-is = frame-feed (f .size) (f .digits) ∙ eq-eqb (getD s (w + 18) 0) 10 (f .feed)
 
--- the digits of a frame, field by field
-pub frame-part : (s : List ℕ) (at w : ℕ) → Frame s → at + w ≤ 24 → Digits s at w
-frame-part s at w f l = digits-within s 0 24 at w (digits-true s 0 24 (f .digits) .1) (omega arith) (omega arith)
+    -- the digits of a frame, field by field
+    pub frame-part : (at k : ℕ) → at + k ≤ w + 18 → Digits s at k
+    frame-part at k l = digits-within s 0 (w + 18) at k (digits-true s 0 (w + 18) (f .digits) .1) (omega arith) (omega arith)
 
-pub frame-field : (s : List ℕ) (at w : ℕ) → Frame s → at + w ≤ 24 → areDigits s at w ≡ true
-frame-field s at w f l = digits-all s at w (omega (arith, f .size)) (frame-part s at w f l)
+    pub frame-field : (at k : ℕ) → at + k ≤ w + 18 → areDigits s at k ≡ true
+    frame-field at k l = digits-all s at k (omega (arith, f .size)) (frame-part at k l)
 
 -- ---- laws of the fields, for a version that was looked up and matched on
-pub form-known : (f : Fields) (k : KnownVersion) (v : Version) → k ≡ versionOf (f .version) → k ≡ Known v
-    → canForm f ≡ sizeInRange (Known v) (f .size)
-unfolding canForm
-form-known f k v e q = rw (sym e ∙ q)
+module _ (limit : ℕ) (f : Fields) (k : KnownVersion) (e : k ≡ versionOf (f .version)) where
+  pub form-known : (v : Version) → k ≡ Known v → canForm limit f ≡ sizeInRange limit (Known v) (f .size)
+  unfolding canForm
+  form-known v q = rw (sym e ∙ q)
 
-pub form-unknown : (f : Fields) (k : KnownVersion) → k ≡ versionOf (f .version) → k ≡ Unknown → canForm f ≡ false
-unfolding canForm
-form-unknown f k e q = rw (sym e ∙ q)
+  pub form-unknown : k ≡ Unknown → canForm limit f ≡ false
+  unfolding canForm
+  form-unknown q = rw (sym e ∙ q)
 
 -- ---- laws of reading
-pub read-no-frame : (s : List ℕ) → isFrame s ≡ false → reading s ≡ record { number = 18; fields = noFields }
-unfolding reading isLine
-read-no-frame s e = rw e
 
-pub read-no-form : (s : List ℕ) → isFrame s ≡ true → canForm (fieldsIn s) ≡ false → reading s ≡ record { number = 18; fields = noFields }
-unfolding reading isLine
-read-no-form s e q = rw (e, q)
+-- the length tells which line it is
+pub read-old : (s : List ℕ) → length s ≡ 25 → readingAs 6 oldSizeLimit s ≡ reading s
+unfolding reading readingAs isLine
+read-old s e = rw (frame-size 8 s (λ n. omega arith))
 
-pub read-good : (s : List ℕ) → isFrame s ≡ true → canForm (fieldsIn s) ≡ true → reading s ≡ record { number = 0; fields = fieldsIn s }
-unfolding reading isLine
-read-good s e q = rw (e, q)
+pub read-new : (s : List ℕ) → (length s ≡ 25 → ⊥) → readingAs 8 sizeLimit s ≡ reading s
+unfolding reading readingAs isLine
+read-new s h = rw (frame-size 6 s h)
 
--- the same for fields that were read and tested
-pub read-formed : (s : List ℕ) (f : Fields) (t : Bool) → isFrame s ≡ true → f ≡ fieldsIn s → t ≡ canForm f → t ≡ true
-    → record { number = 0; fields = f } ≡ reading s
-read-formed s f t e q p h = rw q (sym (read-good s e (rw q at (sym p ∙ h))))
+module _ (w limit : ℕ) (s : List ℕ) where
+  pub read-no-frame : isFrame w s ≡ false → record { number = 18; fields = noFields } ≡ readingAs w limit s
+  unfolding readingAs isLine
+  read-no-frame e = rw e
 
-pub read-unformed : (s : List ℕ) (f : Fields) (t : Bool) → isFrame s ≡ true → f ≡ fieldsIn s → t ≡ canForm f → t ≡ false
-    → record { number = 18; fields = noFields } ≡ reading s
-read-unformed s f t e q p h = sym (read-no-form s e (rw q at (sym p ∙ h)))
+  pub read-good : isFrame w s ≡ true → canForm limit (fieldsIn w s) ≡ true → readingAs w limit s ≡ record { number = 0; fields = fieldsIn w s }
+  unfolding readingAs isLine
+  read-good e q = rw (e, q)
+
+  -- for fields that were read and tested
+  module _ (f : Fields) (t : Bool) (e : isFrame w s ≡ true) (q : f ≡ fieldsIn w s) (p : t ≡ canForm limit f) where
+    pub read-formed : t ≡ true → record { number = 0; fields = f } ≡ readingAs w limit s
+    read-formed h = rw q (sym (read-good e (rw q at (sym p ∙ h))))
+
+    pub read-unformed : t ≡ false → record { number = 18; fields = noFields } ≡ readingAs w limit s
+    unfolding readingAs isLine
+    read-unformed h = let n : canForm limit (fieldsIn w s) ≡ false = rw q at (sym p ∙ h) in rw (e, n)
 
 -- ---- laws of writing
-pub write-short : (f : Fields) (o : List ℕ) → length o < 25 → Writing f o writtenLine.Refused o
+pub write-short : (f : Fields) (o : List ℕ) → length o < 27 → Writing f o writtenLine.Refused o
 unfolding canWrite
-write-short f o l = let e = lt-leb 25 (length o) l in record { number = rw e; output = rw e }
+write-short f o l = let e = lt-leb 27 (length o) l in record { number = rw e; output = rw e }
 
-pub write-unformed : (f : Fields) (o : List ℕ) (t : Bool) → 25 ≤ length o → t ≡ canForm f → t ≡ false → Writing f o writtenLine.Refused o
-unfolding canWrite
-write-unformed f o t l p h = let e = le-leb 25 (length o) l in let q = sym p ∙ h in record { number = rw (e, q); output = rw (e, q) }
+module _ (f : Fields) (o : List ℕ) (t : Bool) (l : 27 ≤ length o) (p : t ≡ canForm sizeLimit f) where
+  pub write-unformed : t ≡ false → Writing f o writtenLine.Refused o
+  unfolding canWrite
+  write-unformed h = let e = le-leb 27 (length o) l in let q = sym p ∙ h in record { number = rw (e, q); output = rw (e, q) }
 
-pub write-formed : (f : Fields) (o n : List ℕ) (t : Bool) → 25 ≤ length o → t ≡ canForm f → t ≡ true → n ≡ lineOf f ++ drop 25 o
-    → Writing f o writtenLine.Written n
-unfolding canWrite
-write-formed f o n t l p h w = let e = le-leb 25 (length o) l in let q = sym p ∙ h in record { number = rw (e, q); output = rw (e, q) w }
+  pub write-formed : (n : List ℕ) → t ≡ true → n ≡ lineOf 8 f ++ drop 27 o → Writing f o writtenLine.Written n
+  unfolding canWrite
+  write-formed n h w = let e = le-leb 27 (length o) l in let q = sym p ∙ h in record { number = rw (e, q); output = rw (e, q) w }
 
 -- ---- a number of a good line: at most eight digits, so 32 bits hold it, and reading finds it
 module _ (s : List ℕ) (at w : ℕ) (l : w ≤ 8) (d : areDigits s at w ≡ true) (a : Read) (e : a ≡ readAt s at w) where

@@ -1,13 +1,19 @@
--- What a frame of 24 digits and a line feed has.
+-- What a line has, and reading it, for either number w of size digits.
 use mathlib.Core.Path.{_≡_}
 use mathlib.Core.Bool.{true}
 use mathlib.Core.List.{List}
-use Prim.Native.Nat.{ℕ}
+use Prim.Native.Nat.{ℕ, _+_}
 use lib.ListN.{getD, length}
+use Rattle.lists.specs.Count.{pick}
 use Rattle.hex.specs.Hex.{areDigits}
+use Rattle.catalogue.specs.Line.{LineAnswer, isLine, fieldsIn, noFields}
 
 -- what `isFrame` says
-pub record Frame (s : List ℕ) : Type 0 where
-  pub size : length s ≡ 25
-  pub digits : areDigits s 0 24 ≡ true
-  pub feed : getD s 24 0 ≡ 10
+pub record Frame (w : ℕ) (s : List ℕ) : Type 0 where
+  pub size : length s ≡ w + 19
+  pub digits : areDigits s 0 (w + 18) ≡ true
+  pub feed : getD s (w + 18) 0 ≡ 10
+
+-- reading bytes whose length tells w, and so the limit
+unfoldable pub readingAs : ℕ → ℕ → List ℕ → LineAnswer
+readingAs w limit s = pick (isLine w limit s) (record { number = 0; fields = fieldsIn w s }) (record { number = 18; fields = noFields })

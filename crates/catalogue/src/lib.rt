@@ -1,11 +1,12 @@
-// The catalogue line: 24 digits and a line feed, read and written.
+// The catalogue line: size, stored hash, run count and version in digits, and a line feed. A new line has 8 digits for the size, an old
+// one 6: the width below. Both are read, and only new lines are written.
 ghost use mathlib.Core.Path.{_≡_};
 ghost use mathlib.Core.Bool.{true};
-ghost use Prim.Native.Nat.{_≤_};
+ghost use Prim.Native.Nat.{_+_, _≤_};
 ghost use mathlib.Core.List.{_++_};
 ghost use lib.ListN.{length, drop};
 ghost use Rattle.hex.specs.Hex.{hexAt, areDigits};
-ghost use Rattle.catalogue.specs.Private.{Frame};
+ghost use Rattle.catalogue.specs.Private.{Frame, readingAs};
 ghost use Rattle.catalogue.specs.Line.{fieldsIn, lineOf, sizeInRange, canForm, isFrame, reading, readAnswer, Writing};
 ghost use Rattle.layout.specs.declared.KnownVersion.the-variants.{Known};
 use hex::Read;
@@ -13,6 +14,9 @@ use layout::KnownVersion;
 use layout::Layout;
 use layout::SIZE_LIMIT;
 use layout::Version;
+
+// The limit for the size of an old line.
+const OLD_SIZE_LIMIT: u32 = 16_777_215;
 
 // What a line says of a file.
 pub struct Fields {
@@ -34,17 +38,18 @@ pub enum WrittenLine {
     Refused,
 }
 
-// Whether the bytes are 24 digits and a line feed.
-fn is_frame(line: &[u8]) -> bool
-    ensures { λ r. ⌜ r ≡ isFrame (now (line .entry)) ⌝ }
+// Whether the bytes are the digits of a line of that width, and a line feed.
+fn is_frame(line: &[u8], width: usize) -> bool
+    requires { ⌜ width ≤ 8 ⌝ }
+    ensures { λ r. ⌜ r ≡ isFrame width (now (line .entry)) ⌝ }
 {
-    if line.len() != 25 {
+    if line.len() != width + 19 {
         return false;
     }
-    if !hex::are_digits(line, 0, 24) {
+    if !hex::are_digits(line, 0, width + 18) {
         return false;
     }
-    line[24] == 10
+    line[width + 18] == 10
 }
 
 // The number that digits of a good line form.
@@ -58,72 +63,84 @@ fn number_in(line: &[u8], at: usize, width: usize) -> u32
     }
 }
 
-fn fields_of(line: &[u8]) -> Fields
-    requires { ⌜ Frame (now line) ⌝ }
-    ensures { λ r. ⌜ r ≡ fieldsIn (now (line .entry)) ⌝ }
+fn fields_of(line: &[u8], width: usize) -> Fields
+    requires { ⌜ (width ≤ 8) × Frame width (now line) ⌝ }
+    ensures { λ r. ⌜ r ≡ fieldsIn width (now (line .entry)) ⌝ }
 {
     Fields {
-        size: number_in(line, 0, 6),
-        hash: number_in(line, 6, 8),
-        runs: number_in(line, 14, 8),
-        version: number_in(line, 22, 2),
+        size: number_in(line, 0, width),
+        hash: number_in(line, width, 8),
+        runs: number_in(line, width + 8, 8),
+        version: number_in(line, width + 16, 2),
     }
 }
 
 // Whether fields can form a line: a known version, and a size from the end of its head to the limit.
-fn can_form(fields: Fields) -> bool
-    ensures { λ r. ⌜ r ≡ canForm fields ⌝ }
+fn can_form(fields: Fields, limit: u32) -> bool
+    ensures { λ r. ⌜ r ≡ canForm limit fields ⌝ }
 {
     match Version::of(fields.version) {
-        KnownVersion::Known(v) => size_in_range(v, fields.size),
+        KnownVersion::Known(v) => size_in_range(v, fields.size, limit),
         KnownVersion::Unknown => false,
     }
 }
 
-fn size_in_range(version: Version, size: u32) -> bool
-    ensures { λ r. ⌜ r ≡ sizeInRange (Known version) size ⌝ }
+fn size_in_range(version: Version, size: u32, limit: u32) -> bool
+    ensures { λ r. ⌜ r ≡ sizeInRange limit (Known version) size ⌝ }
 {
     if size < (Layout::of(version).head_end as u32) {
         return false;
     }
-    size <= SIZE_LIMIT
+    size <= limit
 }
 
-// A line's fields, or refusal 18.
-pub fn read_line(line: &[u8]) -> ReadLine
-    ensures { λ r. ⌜ readAnswer r ≡ reading (now (line .entry)) ⌝ }
+// The fields of a line of that width and limit, or refusal 18.
+fn read_as(line: &[u8], width: usize, limit: u32) -> ReadLine
+    requires { ⌜ width ≤ 8 ⌝ }
+    ensures { λ r. ⌜ readAnswer r ≡ readingAs width limit (now (line .entry)) ⌝ }
 {
-    if !is_frame(line) {
+    if !is_frame(line, width) {
         return ReadLine::Refused;
     }
-    let fields = fields_of(line);
-    if can_form(fields) {
+    let fields = fields_of(line, width);
+    if can_form(fields, limit) {
         ReadLine::Line(fields)
     } else {
         ReadLine::Refused
     }
 }
 
-fn write_fields(output: &mut [u8], fields: Fields)
-    requires { ⌜ 25 ≤ length (now output) ⌝ }
-    ensures { λ _. ⌜ now (output .exit) ≡ lineOf fields ++ drop 25 (now (output .entry)) ⌝ }
+// A line's fields, or refusal 18. Its length tells an old line.
+pub fn read_line(line: &[u8]) -> ReadLine
+    ensures { λ r. ⌜ readAnswer r ≡ reading (now (line .entry)) ⌝ }
 {
-    hex::write_number(output, 0, 6, fields.size as u64);
-    hex::write_number(output, 6, 8, fields.hash as u64);
-    hex::write_number(output, 14, 8, fields.runs as u64);
-    hex::write_number(output, 22, 2, fields.version as u64);
-    output[24] = 10;
+    if line.len() == 25 {
+        read_as(line, 6, OLD_SIZE_LIMIT)
+    } else {
+        read_as(line, 8, SIZE_LIMIT)
+    }
 }
 
-// The line into the first 25 bytes of the output, or refusal 19 with the output as it was.
+fn write_fields(output: &mut [u8], fields: Fields, width: usize)
+    requires { ⌜ width + 19 ≤ length (now output) ⌝ }
+    ensures { λ _. ⌜ now (output .exit) ≡ lineOf width fields ++ drop (width + 19) (now (output .entry)) ⌝ }
+{
+    hex::write_number(output, 0, width, fields.size as u64);
+    hex::write_number(output, width, 8, fields.hash as u64);
+    hex::write_number(output, width + 8, 8, fields.runs as u64);
+    hex::write_number(output, width + 16, 2, fields.version as u64);
+    output[width + 18] = 10;
+}
+
+// The new line into the first 27 bytes of the output, or refusal 19 with the output as it was.
 pub fn write_line(fields: Fields, output: &mut [u8]) -> WrittenLine
     ensures { λ r. ⌜ Writing fields (now (output .entry)) r (now (output .exit)) ⌝ }
 {
-    if output.len() < 25 {
+    if output.len() < 27 {
         return WrittenLine::Refused;
     }
-    if can_form(fields) {
-        write_fields(output, fields);
+    if can_form(fields, SIZE_LIMIT) {
+        write_fields(output, fields, 8);
         WrittenLine::Written
     } else {
         WrittenLine::Refused

@@ -104,7 +104,8 @@ pub record Claims : Type 1 where
   -- Refusal 13, "following next from an entry comes back to it": a test of as many steps as there are entries finds every cycle.
   pub cycles : (s : List ℕ) (i : ℕ) → i < length s → length s ≤ end → (cyclic s i ≡ true) ↔ Cyclic s i
   -- ---- the catalogue line, decimal numbers, the hashes
-  -- Demand 2: a catalogue line written reads back equal, and a line that reads is the one we would write.
+  -- Demand 2: a catalogue line written reads back equal, and a new line that reads is the one we would write. Request 111: an old
+  -- line, read and written, comes out as the new line of equal fields.
   pub round-trip : RoundTrip
   -- "Program", "other numbers are decimal": these digits are the number, with no leading zero, and no other bytes are.
   pub decimal-is : (n : ℕ) → IsDecimal n (decimal n)

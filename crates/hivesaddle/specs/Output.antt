@@ -26,7 +26,7 @@ fieldsOf size hash runs version = record { size = size; hash = hash; runs = runs
 -- writing a line: 0 or 19, and the output afterwards
 pub record LineWriting (f : Fields) (before : List ℕ) (r : ℕ) (after : List ℕ) : Type 0 where
   pub number : r ≡ pick (canWrite f (length before)) 0 19
-  pub output : after ≡ pick (canWrite f (length before)) (lineOf f ++ drop 25 before) before
+  pub output : after ≡ pick (canWrite f (length before)) (lineOf 8 f ++ drop 27 before) before
 
 -- a verdict's values in order: refusal number and index, bytes wanted, the acceptance record with the latest run time, the refusal's
 -- file offset, how many run times there are, and the seven older ones

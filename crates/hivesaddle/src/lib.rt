@@ -132,7 +132,7 @@ pub extern "C" fn hs_catalogue_read(line: &[u8], out: &mut [u64]) -> u32
     }
 }
 
-// 0 and the line in the first 25 bytes of the output, or 19 and the output as it was.
+// 0 and the new line in the first 27 bytes of the output, or 19 and the output as it was.
 #[no_mangle]
 pub extern "C" fn hs_catalogue_write(
     size: u32,

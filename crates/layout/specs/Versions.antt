@@ -12,7 +12,7 @@ use Rattle.layout.specs.declared.KnownVersion.the-variants.{Known, Unkno
 
 -- the greatest declared size
 abbrev pub sizeLimit : ℕ
-sizeLimit = 16_777_215
+sizeLimit = 67_108_864
 
 -- one row: last run time | how many run times | run count | H | metrics entry | name offset, length in it | volume entry | trace entry
 abbrev pub row : ℕ → ℕ → ℕ → ℕ → ℕ → ℕ → ℕ → ℕ → ℕ → Layout

@@ -41,7 +41,7 @@ pub const PROGRAM_NAME_UNITS: u32 = 30;
 pub const SIGNATURE: u32 = 0x41434353;
 
 // The greatest declared size.
-pub const SIZE_LIMIT: u32 = 16_777_215;
+pub const SIZE_LIMIT: u32 = 67_108_864;
 
 pub enum Version {
     V17,

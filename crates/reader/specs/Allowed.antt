@@ -27,7 +27,7 @@ pub record Allowed (p : List ℕ) (o : Opening) : Type 0 where
   pub layout : o .layout ≡ layoutOf (o .version)
   -- 2: the signature is 53 43 43 41
   pub signature : le 4 p signatureAt ≡ 0x41434353
-  -- 3: S is neither below H nor above 16,777,215
+  -- 3: S is neither below H nor above 67,108,864
   pub least : headEnd (o .layout) ≤ declaredSize p
   pub most : declaredSize p ≤ sizeLimit
   -- 16, 17: the file is as long as it says

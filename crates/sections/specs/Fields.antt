@@ -30,7 +30,7 @@ declaredSize b = le 4 b declaredSizeAt
 abbrev pub storedHash : List ℕ → ℕ
 storedHash b = le 4 b storedHashAt
 
--- 3: S below H or above 16,777,215
+-- 3: S below H or above 67,108,864
 unfoldable pub sizeFault : Layout → List ℕ → Fault
 sizeFault l b = faultAt 0 declaredSizeAt (ltb (declaredSize b) (headEnd l) || ltb sizeLimit (declaredSize b))
 

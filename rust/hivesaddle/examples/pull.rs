@@ -13,7 +13,7 @@ use std::fs::File;
 use std::io::{self, Read};
 use std::process::ExitCode;
 
-const LARGEST_FILE: usize = 16_777_215;
+const LARGEST_FILE: usize = 67_108_864;
 const MOST_TRACE_ENTRIES: usize = (LARGEST_FILE - 148) / 12;
 const BYTES_A_SECOND: u64 = 11_520;
 

@@ -35,4 +35,6 @@ pub const HS_READER_OUT: usize = 22;
 /// In a slot of `predecessors`: no entry.
 pub const HS_NONE: u32 = 4294967295;
 
-pub const HS_CATALOGUE_LINE_LENGTH: usize = 25;
+/// Bytes of a line with its line feed: as it is written, and as old ones are.
+pub const HS_CATALOGUE_LINE_LENGTH: usize = 27;
+pub const HS_CATALOGUE_OLD_LINE_LENGTH: usize = 25;

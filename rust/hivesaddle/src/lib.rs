@@ -14,7 +14,10 @@ mod queries;
 pub mod raw;
 mod readers;
 
-pub use catalogue::{catalogue_read, catalogue_write, CatalogueFields, CATALOGUE_LINE_LENGTH};
+pub use catalogue::{
+    catalogue_read, catalogue_write, CatalogueFields, CATALOGUE_LINE_LENGTH,
+    CATALOGUE_OLD_LINE_LENGTH,
+};
 pub use hashes::{
     hash_2008, hash_2008_bytes, hash_powers, hash_powers_bytes, hash_swap, hash_swap_bytes,
     hash_vista, hash_vista_bytes, hash_xp, hash_xp_bytes,

@@ -37,8 +37,8 @@ pub struct FoundPath {
 /// bytes; both then answer the same with any number of slots.
 ///
 /// Only the head is looked at, so a prefix that has all of it is enough. The
-/// number is at most 1,398,088: check 5 keeps the trace entries, 12 bytes each,
-/// inside the declared size, and check 3 keeps that to 16,777,215.
+/// number is at most 5,592,393: check 5 keeps the trace entries, 12 bytes each,
+/// inside the declared size, and check 3 keeps that to 67,108,864.
 ///
 /// ```
 /// // Version 17: three trace entries at 148.
@@ -210,9 +210,9 @@ pub fn list_paths(file: &[u8], pairs: &mut [u32]) -> u64 {
 /// [`list_paths`] with as many pairs as there are. The names are hashed twice,
 /// first to count.
 ///
-/// An entry matches with one number at most, and there are at most 838,853
+/// An entry matches with one number at most, and there are at most 3,355,435
 /// entries, 20 bytes each inside the declared size, so no file takes more than
-/// 20.2 MB.
+/// 80.6 MB.
 ///
 /// ```
 /// // Version 17, one empty name, which XP gives 0, and a stored hash of 8.

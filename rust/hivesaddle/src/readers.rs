@@ -145,7 +145,7 @@ pub fn read_file(file: &[u8], predecessors: &mut [u32]) -> Result<Record, Refusa
 /// comes. Any other answer is the one that [`read_file`] gives.
 ///
 /// The slots are allocated before the trace section is looked at. There are
-/// at most 1,398,088, see [`places`], so no file takes more than 5.6 MB.
+/// at most 5,592,393, see [`places`], so no file takes more than 22.4 MB.
 ///
 /// ```
 /// // Version 17: three trace entries at 148, the chains 2 -> 0 and 1.

@@ -95,7 +95,7 @@ impl Places {
 
 type Damage = (&'static str, fn(&mut Vec<u8>, &Places));
 
-const DAMAGE: [Damage; 35] = [
+const DAMAGE: [Damage; 36] = [
     ("00-none", |_, _| ()),
     // Sound, but not as Windows lays a file out.
     ("00-gap-behind-head", |file, at| {
@@ -116,7 +116,7 @@ const DAMAGE: [Damage; 35] = [
     ("01-version-30", |file, _| set_32(file, 0, 30)),
     ("02-signature", |file, _| file[5] ^= 1),
     ("03-size-147", |file, _| set_32(file, 12, 147)),
-    ("03-size-16777216", |file, _| set_32(file, 12, 16_777_216)),
+    ("03-size-67108865", |file, _| set_32(file, 12, 67_108_865)),
     ("04-name-without-end", |file, _| (0..30).for_each(|unit| set_16(file, 16 + 2 * unit, 65))),
     ("05-metrics-in-head", |file, _| set_32(file, 84, 120)),
     ("05-trace-past-end", |file, at| set_32(file, 92, at.size)),
@@ -146,6 +146,7 @@ const DAMAGE: [Damage; 35] = [
     ("14-directory-count", |file, at| set_32(file, at.volume + 32, 1_000)),
     ("15-directory-without-end", |file, at| set_16(file, at.directory_end, 65)),
     ("16-one-byte-short", |file, _| file.truncate(file.len() - 1)),
+    ("16-size-16777216", |file, _| set_32(file, 12, 16_777_216)),
     ("17-one-byte-more", |file, _| file.push(0)),
 ];
 

@@ -60,7 +60,7 @@ fn wrong_version(file: &mut [u8]) {
 
 /// One bit of the declared size: past the limit.
 fn wrong_size(file: &mut [u8]) {
-    file[15] |= 1;
+    file[15] |= 4;
 }
 
 /// The name of metrics entry 100 begins where the strings end.

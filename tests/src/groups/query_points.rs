@@ -53,7 +53,7 @@ fn numbers_of_places(tally: &mut Tally) {
         needs(tally, "H bytes", &file[..cut], Some(3));
         needs(tally, "a byte short of H", &file[..cut - 1], None);
         needs(tally, "no bytes", &[], None);
-        let trace_fields: [(&str, usize, u32, Option<u64>); 9] = [
+        let trace_fields: [(&str, usize, u32, Option<u64>); 10] = [
             ("an entry past S", 96, 4, None),
             ("a section that ends at S + 1", 92, head_end + 1, None),
             ("a section that starts at H - 1", 92, head_end - 1, None),
@@ -62,7 +62,8 @@ fn numbers_of_places(tally: &mut Tally) {
             ("a product past 32 bits", 96, 357_913_942, None),
             ("the greatest count", 96, u32::MAX, None),
             ("a size below H", 12, head_end - 1, None),
-            ("a size past the limit", 12, 16_777_216, None),
+            ("a size past the limit", 12, 67_108_865, None),
+            ("a size at the limit", 12, 67_108_864, Some(3)),
         ];
         for (name, field, number, expected) in trace_fields {
             let mut file = with_three(version);
@@ -100,16 +101,16 @@ fn others_of_places(tally: &mut Tally, version: u32, head_end: u32) {
     needs(tally, "check 4", &file, None);
 }
 
-/// The head of the largest file: 16,777,067 bytes behind 148, 12 for each.
+/// The head of the largest file: 67,108,716 bytes behind 148, 12 for each.
 fn most_places(tally: &mut Tally) {
     let mut file = bare(17, 0);
-    set_32(&mut file, 12, 16_777_215);
+    set_32(&mut file, 12, 67_108_864);
     set_32(&mut file, 92, 148);
-    set_32(&mut file, 96, 1_398_088);
-    needs(tally, "the most that can be", &file, Some(1_398_088));
+    set_32(&mut file, 96, 5_592_393);
+    needs(tally, "the most that can be", &file, Some(5_592_393));
     let contents = read_file_alloc(&file);
     tally.named("the most, on a head alone", &refused(16, 0, 12), &contents);
-    set_32(&mut file, 96, 1_398_089);
+    set_32(&mut file, 96, 5_592_394);
     needs(tally, "one more than can be", &file, None);
     tally.named("one more, read", &refused(5, 2, 92), &read_file_alloc(&file));
 }

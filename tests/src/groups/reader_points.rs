@@ -90,7 +90,11 @@ fn sizes(tally: &mut Tally) {
             (head_end - 1, refused(3, 0, 12)),
             (head_end, Verdict::Wanted(76)),
             (16_777_215, Verdict::Wanted(76)),
-            (16_777_216, refused(3, 0, 12)),
+            (16_777_216, Verdict::Wanted(76)),
+            (67_108_863, Verdict::Wanted(76)),
+            (67_108_864, Verdict::Wanted(76)),
+            (67_108_865, refused(3, 0, 12)),
+            (134_217_728, refused(3, 0, 12)),
             (u32::MAX, refused(3, 0, 12)),
         ];
         for (size, verdict) in edges {
@@ -593,17 +597,17 @@ fn complete_files(tally: &mut Tally) {
     }
 }
 
-/// A file of the greatest size, full of trace entries in chains of eight.
+/// A file of the greatest size, full of trace entries in chains of eight; and
+/// one past the limit that there was before.
 fn largest_files(tally: &mut Tally) {
-    let entries = (16_777_215 - 148) / 12;
+    let entries = 5_592_393;
     let next = |entry: u32| match entry % 8 == 7 || entry + 1 == entries {
         true => END,
         false => entry + 1,
     };
     let links: Vec<u32> = (0..entries).map(next).collect();
     let mut file = with_links(&links);
-    file.resize(16_777_215, 0xAA);
-    set_32(&mut file, 12, 16_777_215);
+    assert_eq!(file.len(), 67_108_864);
     let record = Record {
         trace_count: entries as u64,
         chain_count: entries.div_ceil(8) as u64,
@@ -613,8 +617,14 @@ fn largest_files(tally: &mut Tally) {
     let predecessors = (0..entries).map(predecessor).collect();
     let answer = Answer { verdict: Verdict::Accepted(record), predecessors };
     check_answer(tally, "the largest file", WHOLE_READER, &file, &answer);
-    set_32(&mut file, 12, 16_777_216);
+    set_32(&mut file, 12, 67_108_865);
+    file.push(0);
     check(tally, "one too large", WHOLE_READER, &file, refused(3, 0, 12));
+    for (version, head_end) in HEADS {
+        let file = bare(version, 16_777_216 - head_end);
+        let record = Verdict::Accepted(bare_record(&file));
+        whole(tally, "past the limit of old", &file, record);
+    }
 }
 
 fn null_pointers(tally: &mut Tally) {

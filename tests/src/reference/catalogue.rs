@@ -1,7 +1,10 @@
-//! The catalogue line: size 6 digits, stored hash 8, run count 8, version 2,
-//! and a line feed.
+//! The catalogue line: size 8 digits, stored hash 8, run count 8, version 2,
+//! and a line feed. Old lines, with 6 digits for the size, are read too.
 
 use super::layout::{layout_of, LARGEST_SIZE};
+
+/// The greatest size in an old line.
+pub const OLD_LARGEST_SIZE: u64 = 16_777_215;
 
 #[derive(Clone, Copy, Debug, PartialEq, Eq)]
 pub struct Fields {
@@ -12,32 +15,37 @@ pub struct Fields {
 }
 
 /// Size, stored hash, run count and version, or nothing where the bytes are
-/// no line.
+/// no line. The length tells a new line from an old one.
 pub fn read(line: &[u8]) -> Option<Fields> {
-    if line.len() != 25 || line[24] != b'\n' {
-        return None;
-    }
-    let digits: Vec<u64> = line[..24].iter().map(|&byte| digit(byte)).collect::<Option<_>>()?;
-    let fields = Fields {
-        size: number(&digits[0..6]),
-        stored_hash: number(&digits[6..14]),
-        run_count: number(&digits[14..22]),
-        version: number(&digits[22..24]),
+    let (size_digits, largest) = match line.len() {
+        27 => (8, LARGEST_SIZE),
+        25 => (6, OLD_LARGEST_SIZE),
+        _ => return None,
     };
-    good(&fields).then_some(fields)
+    let (&last, digits) = line.split_last()?;
+    let digits: Vec<u64> = digits.iter().map(|&byte| digit(byte)).collect::<Option<_>>()?;
+    let (size, others) = digits.split_at(size_digits);
+    let fields = Fields {
+        size: number(size),
+        stored_hash: number(&others[0..8]),
+        run_count: number(&others[8..16]),
+        version: number(&others[16..18]),
+    };
+    (last == b'\n' && good(&fields, largest)).then_some(fields)
 }
 
-/// The line, or nothing where the fields can't form one.
+/// The line, always a new one, or nothing where the fields can't form one.
 pub fn write(fields: &Fields) -> Option<Vec<u8>> {
     let Fields { size, stored_hash, run_count, version } = fields;
-    let line = format!("{size:06X}{stored_hash:08X}{run_count:08X}{version:02X}\n");
-    good(fields).then(|| line.into_bytes())
+    let line = format!("{size:08X}{stored_hash:08X}{run_count:08X}{version:02X}\n");
+    good(fields, LARGEST_SIZE).then(|| line.into_bytes())
 }
 
-/// The version is one of three and the size lies between its H and the limit.
-fn good(fields: &Fields) -> bool {
+/// The version is one of three and the size lies between its H and the
+/// limit.
+fn good(fields: &Fields, largest: u64) -> bool {
     match layout_of(fields.version as u32) {
-        Some(layout) => layout.head_end <= fields.size && fields.size <= LARGEST_SIZE,
+        Some(layout) => layout.head_end <= fields.size && fields.size <= largest,
         None => false,
     }
 }
@@ -59,6 +67,7 @@ mod points {
     fn the_line_of_the_paper() {
         let fields = Fields { size: 148, stored_hash: 65, run_count: 1, version: 17 };
         assert_eq!(read(b"000094000000410000000111\n"), Some(fields));
-        assert_eq!(write(&fields).unwrap(), b"000094000000410000000111\n");
+        assert_eq!(read(b"00000094000000410000000111\n"), Some(fields));
+        assert_eq!(write(&fields).unwrap(), b"00000094000000410000000111\n");
     }
 }

@@ -53,7 +53,7 @@ pub const LAYOUTS: [Layout; 3] = [
 ];
 
 /// The greatest declared size.
-pub const LARGEST_SIZE: u64 = 16_777_215;
+pub const LARGEST_SIZE: u64 = 67_108_864;
 /// Bytes of a trace entry, in every version.
 pub const TRACE_ENTRY: u64 = 12;
 /// The end of a chain, and a slot that holds no entry.

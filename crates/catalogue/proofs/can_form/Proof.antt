@@ -21,10 +21,10 @@ returns : tie.Need-returns
 returns c =
     let known = c .before .before in
     let of = known .before .before in
-    c .size-in-range .ensures ∙ sym (form-known (of .before .args .fields) _ _ (of .of .ensures .answer) (known .v .given .1))
+    c .size-in-range .ensures ∙ sym (form-known _ (of .before .args .fields) _ (of .of .ensures .answer) _ (known .v .given .1))
 
 returns-2 : tie.Need-returns-2
-returns-2 c = sym (form-unknown (c .before .before .before .args .fields) _ (c .before .before .of .ensures .answer) (c .enum-told .given .1))
+returns-2 c = sym (form-unknown _ (c .before .before .before .args .fields) _ (c .before .before .of .ensures .answer) (c .enum-told .given .1))
 
 pub can-form-spec : {M : Type 1} → statement M
 can-form-spec =

@@ -1,21 +1,28 @@
--- Each field's digits are among the 24 of the frame.
+-- Each field's digits are among those of the frame.
 use native.Mathlib.Omega.{arith}
 use Rattle.catalogue.specs.Line.{fieldsIn}
 use Rattle.catalogue.proofs.Line.{frame-field}
+use borrow.Author.Needs.{needs}
 use Rattle.catalogue.proofs.fields_of.Statement.{statement}
 use Rattle.catalogue.proofs.fields_of.Tie as tie
 
 number-in-requires : tie.Need-number-in-requires
-number-in-requires c κs = let f = c .before .pre in (omega arith, frame-field _ 0 6 f (omega arith))
+number-in-requires c κs = let p = c .before .pre in (omega arith, frame-field _ _ (p .1) _ _ (omega arith))
 
 number-in-requires-2 : tie.Need-number-in-requires-2
-number-in-requires-2 c κs = let f = c .before .before .pre in (omega arith, frame-field _ 6 8 f (omega arith))
+number-in-requires-2 c κs = let p = c .before .before .pre in (omega arith, frame-field _ _ (p .1) _ _ (omega arith))
+
+add-number-in : tie.Need-add-number-in
+add-number-in c = search needs
 
 number-in-requires-3 : tie.Need-number-in-requires-3
-number-in-requires-3 c κs = let f = c .before .before .before .pre in (omega arith, frame-field _ 14 8 f (omega arith))
+number-in-requires-3 c κs = let p = c .before .before .before .pre in (omega arith, frame-field _ _ (p .1) _ _ (omega arith))
+
+add-number-in-2 : tie.Need-add-number-in-2
+add-number-in-2 c = search needs
 
 number-in-requires-4 : tie.Need-number-in-requires-4
-number-in-requires-4 c κs = let f = c .before .before .before .before .pre in (omega arith, frame-field _ 22 2 f (omega arith))
+number-in-requires-4 c κs = let p = c .before .before .before .before .pre in (omega arith, frame-field _ _ (p .1) _ _ (omega arith))
 
 returns : tie.Need-returns
 unfolding fieldsIn
@@ -27,6 +34,8 @@ fields-of-spec =
     (tie.spec
     number-in-requires
     number-in-requires-2
+    add-number-in
     number-in-requires-3
+    add-number-in-2
     number-in-requires-4
     returns)

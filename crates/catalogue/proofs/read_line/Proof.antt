@@ -1,36 +1,21 @@
--- No frame, a frame whose fields form no line, and a good line: a law of `reading` for each.
-use Rattle.catalogue.proofs.Line.{read-formed, read-unformed, read-no-frame, frame-true}
-use mathlib.Core.Path.{sym, _∙_}
-use borrow.Author.Tests.{not-true, not-false}
+-- The length tells an old line, which `read-old` reads, and any other bytes go to `read-new`.
+use mathlib.Core.Path.{_∙_}
+use Rattle.catalogue.proofs.Line.{read-old, read-new}
 use borrow.Author.Needs.{needs}
 use Rattle.catalogue.proofs.read_line.Statement.{statement}
 use Rattle.catalogue.proofs.read_line.Tie as tie
 
-is-frame-requires : tie.Need-is-frame-requires
-is-frame-requires c κs = search needs
+read-as-requires : tie.Need-read-as-requires
+read-as-requires c κs = search needs
+
+read-as-requires-2 : tie.Need-read-as-requires-2
+read-as-requires-2 c κs = search needs
 
 returns : tie.Need-returns
-returns c = sym (read-no-frame _ (sym (c .before .is-frame .ensures) ∙ not-true _ (c .if1 .taken)))
-
-fields-of-requires : tie.Need-fields-of-requires
-fields-of-requires c κs = frame-true _ (sym (c .before .is-frame .ensures) ∙ not-false _ (c .if1 .left))
-
-can-form-requires : tie.Need-can-form-requires
-can-form-requires c κs = search needs
+returns c = c .read-as .ensures ∙ read-old _ (c .before .if1 .taken)
 
 returns-2 : tie.Need-returns-2
-returns-2 c =
-    let b = c .before .before .before in
-    let frame = sym (b .before .is-frame .ensures) ∙ not-false _ (b .if1 .left) in
-    read-formed _ _ _ frame (c .before .before .fields-of .ensures) (c .before .can-form .ensures) (c .if2 .taken)
-
-returns-3 : tie.Need-returns-3
-returns-3 c =
-    let b = c .before .before .before in
-    let frame = sym (b .before .is-frame .ensures) ∙ not-false _ (b .if1 .left) in
-    read-unformed _ _ _ frame (c .before .before .fields-of .ensures) (c .before .can-form .ensures) (c .if2 .left)
+returns-2 c = c .read-as2 .ensures ∙ read-new _ (c .before .if1 .left)
 
 pub read-line-spec : {M : Type 1} → statement M
-read-line-spec =
-    tie.close
-    (tie.spec is-frame-requires returns fields-of-requires can-form-requires returns-2 returns-3)
+read-line-spec = tie.close (tie.spec read-as-requires read-as-requires-2 returns returns-2)

@@ -18,17 +18,26 @@ cast-write-number-2 c = search needs
 write-number-requires-2 : tie.Need-write-number-requires-2
 write-number-requires-2 c κs = search needs
 
+add-write-number : tie.Need-add-write-number
+add-write-number c = search needs
+
 cast-write-number-3 : tie.Need-cast-write-number-3
 cast-write-number-3 c = search needs
 
 write-number-requires-3 : tie.Need-write-number-requires-3
 write-number-requires-3 c κs = search needs
 
+add-write-number-2 : tie.Need-add-write-number-2
+add-write-number-2 c = search needs
+
 cast-write-number-4 : tie.Need-cast-write-number-4
 cast-write-number-4 c = search needs
 
 write-number-requires-4 : tie.Need-write-number-requires-4
 write-number-requires-4 c κs = search needs
+
+add-output : tie.Need-add-output
+add-output c = search needs
 
 slice-write-output : tie.Need-slice-write-output
 slice-write-output c = search needs
@@ -43,7 +52,7 @@ returns c =
     let w2 = w3 .before .before .before .before .before in
     let w1 = w2 .before .before .before .before .before in
     let a = w1 .before .before .before .before in
-    line-written (a .args .fields) (a .args .output .now) _ _ _ _ (a .pre)
+    line-written _ (a .args .fields) (a .args .output .now) _ _ _ _ (a .pre)
     (w1 .write-number .ensures)
     (w2 .write-number2 .ensures)
     (w3 .write-number3 .ensures)
@@ -57,10 +66,13 @@ write-fields-spec =
     write-number-requires
     cast-write-number-2
     write-number-requires-2
+    add-write-number
     cast-write-number-3
     write-number-requires-3
+    add-write-number-2
     cast-write-number-4
     write-number-requires-4
+    add-output
     slice-write-output
     same-length
     returns)

@@ -20,7 +20,7 @@ returns-2 : tie.Need-returns-2
 returns-2 c =
     let d = c .before .before in
     let e = d .before .before in
-    write-formed _ _ _ _ (e .before .before .if1 .left) (e .before .can-form .ensures) (e .if2 .taken) (d .write-fields .ensures)
+    write-formed _ _ _ (e .before .before .if1 .left) (e .before .can-form .ensures) _ (e .if2 .taken) (d .write-fields .ensures)
 
 returns-3 : tie.Need-returns-3
 returns-3 c = write-unformed _ _ _ (c .before .before .if1 .left) (c .before .can-form .ensures) (c .if2 .left)

@@ -9,7 +9,7 @@
 //!
 //! bench readers
 //!
-//! The whole-file reader on files as Windows lays them out, from 1 KB to 16 MB,
+//! The whole-file reader on files as Windows lays them out, from 1 KB to 64 MiB,
 //! beside the reader of `plain`.
 //!
 //! bench trace

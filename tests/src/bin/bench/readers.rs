@@ -8,8 +8,11 @@ use std::hint::black_box;
 /// Bytes read in one turn, at least.
 const BYTES_A_TURN: usize = 1 << 20;
 const TURNS: usize = 101;
-/// The amounts come to some bytes less than the largest file.
-const LARGEST: usize = 16_300_000;
+/// For the largest file, which takes long.
+const FEWER_TURNS: usize = 25;
+/// The amounts come to some bytes less than 16 MiB and 64 MiB, the largest file.
+const LARGE: usize = 16_300_000;
+const LARGEST: usize = 65_400_000;
 
 /// One size: how long both readers take for a byte.
 struct Row {
@@ -31,7 +34,7 @@ pub fn run() {
     let sizes = [250, 4_000, 16_000, 64_000];
     let small = sizes.map(|bytes| row_of_size(bytes));
     let typical = row(&typical::file(23, &TYPICAL));
-    let large = [1_000_000, 4_000_000, LARGEST].map(|bytes| row_of_size(bytes));
+    let large = [1_000_000, 4_000_000, LARGE, LARGEST].map(|bytes| row_of_size(bytes));
     println!("bytes, library ns a byte, plain ns a byte, ratio, growth over the typical file");
     for row in small.iter().chain([&typical]).chain(&large) {
         println!(
@@ -64,7 +67,7 @@ fn growth(read: impl Fn(&[u8], &mut [u32])) -> f64 {
     let mut few = vec![0; trace_count(&typical) as usize];
     let mut many = vec![0; trace_count(&largest) as usize];
     let times = side_by_side(
-        TURNS,
+        FEWER_TURNS,
         1,
         || (0..calls).for_each(|_| read(&typical, &mut few)),
         || read(&largest, &mut many),
@@ -108,7 +111,7 @@ fn row(file: &[u8]) -> Row {
     assert_eq!(Ok(library), plain::read_file(file, &mut others));
     assert_eq!(places, others);
     let times = side_by_side(
-        TURNS,
+        if file.len() > 1 << 25 { FEWER_TURNS } else { TURNS },
         BYTES_A_TURN.div_ceil(file.len()),
         || _ = black_box(hivesaddle::read_file(black_box(file), &mut places)),
         || _ = black_box(plain::read_file(black_box(file), &mut others)),
