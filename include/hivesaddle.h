@@ -1,4 +1,4 @@
-/* Hivesaddle: a reader of Windows Prefetch (SCCA) files, versions 17, 23 and 26, uncompressed.
+/* Hivesaddle: a reader of Windows Prefetch (SCCA) files, versions 17, 23, 26 and 30, uncompressed.
  *
  * Link with libhivesaddle.a. It needs memcpy and memset and nothing else: it allocates nothing, keeps nothing between
  * calls, and does no input or output. Calls with different lists may run at the same time.
@@ -37,6 +37,10 @@ extern "C" {
  * slots, and hs_places says how many a file needs. After an acceptance slot j holds the predecessor of entry j, the entry
  * that names j as next, and HS_NONE where it has none and behind the last entry. After anything else every slot holds
  * HS_NONE. All of it is written in every call, whatever it held.
+ *
+ * The trace entries of version 30 have no next index. Such a file needs no slots, and after an acceptance too every
+ * slot holds HS_NONE. It has no chains, and its trace section is neither looked at nor waited for; it has to lie
+ * inside the file and apart from the others all the same.
  */
 
 /* What both give back. */
@@ -60,9 +64,9 @@ enum hs_reader_out {
     HS_METRICS_COUNT = 9,
     HS_TRACE_COUNT = 10,
     HS_VOLUME_COUNT = 11,
-    HS_CHAIN_COUNT = 12, /* trace entries that no entry names as next */
+    HS_CHAIN_COUNT = 12, /* trace entries that no entry names as next; 0 for version 30 */
     HS_OFFSET = 13,      /* of the refusal: where the field at fault stands in the file */
-    HS_TIME_COUNT = 14,  /* run times that the version has: 1 for 17 and 23, 8 for 26 */
+    HS_TIME_COUNT = 14,  /* run times that the version has: 1 for 17 and 23, 8 for 26 and 30 */
     HS_RUN_TIME_2 = 15,  /* the seven behind the latest, as they stand, sorted or not; 0 where the version has none */
     HS_RUN_TIME_3 = 16,
     HS_RUN_TIME_4 = 17,
@@ -81,26 +85,33 @@ uint32_t hs_read_prefix(const uint8_t *file, size_t length, uint32_t *predecesso
 uint32_t hs_read_file(const uint8_t *file, size_t length, uint32_t *predecessors, size_t places, uint64_t *out,
                       size_t out_length);
 
-/* How many slots of predecessors both need for this file: its trace count. 1 where checks 1 to 6 of the table below pass on
- * these bytes, so from H bytes on, and the number is then at most 5,592,393. Else 0; both then answer the same with any
- * number of slots. Of the file only its head is looked at.
+/* How many slots of predecessors both need for this file: its trace count, and 0 for version 30. 1 where checks 1 to
+ * 6 of the table below, 21 among them, pass on these bytes, so from H bytes on, and the number is then at most
+ * 5,592,393. Else 0; both then answer the same with any number of slots. Of the file only its head is looked at.
  * out: places, 0 after a no. */
 uint32_t hs_places(const uint8_t *file, size_t length, uint64_t *out, size_t out_length);
 
 /* Refusals, in the order of the checks. A check is decided once the prefix has the required length, the second column, and
- * the first that is not passed gives the answer. S is the declared size, H the end of the head's last field: 148, 156 and
- * 212 for versions 17, 23 and 26. Sections are numbered 1 metrics, 2 trace, 3 strings, 4 volumes.
+ * the first that is not passed gives the answer. S is the declared size, H the end of the head's last field: 148, 156,
+ * 212 and 212 for versions 17, 23, 26 and 30. Sections are numbered 1 metrics, 2 trace, 3 strings, 4 volumes.
+ *
+ * "Checks 1 to 6" are all up to 6 in this order, 21 among them; "checks 1 to 4" are the four before it. 21 is about
+ * version 30: its metrics offset tells which form the head has, as it stands, also where the metrics array is empty.
+ * One form is known, that of version 26, whose metrics array starts at 304. Files with other starts exist, 296 among
+ * them; read by this form they would give a wrong run count. 3 and catalogue lines take the smallest H of the forms.
  *
  * The file offset says where the field at fault stands, from the first byte of the file: for a section its offset field,
  * which is at 84, 92, 100 or 108; for a name the field of its metrics entry that holds the name's offset, 8 bytes into the
- * entry in version 17 and 12 in 23 and 26; for an entry its first byte. A trace entry begins with its next index. 16 has 12
- * also where the file is too short to have those bytes.
+ * entry in version 17 and 12 in the others; for an entry its first byte. A trace entry begins with its next index, if
+ * it has one. 16 has 12 also where the file is too short to have those bytes.
  *
  *  no.  required     refused exactly when                                                 index                file offset
- *   1   4            version not 17, 23 or 26                                             0                    0
+ *   1   4            version not 17, 23, 26 or 30                                         0                    0
  *   2   8            signature is not "SCCA"                                              0                    4
  *   3   16           S below H or above 67,108,864                                        0                    12
  *   4   76           none of the 30 units of the program name is zero                     0                    16
+ *  21   88           version 30 only: no known head form has this metrics offset, or S    0                    84
+ *                    is below the H of the form that has
  *   5   H            a section that is not empty starts before H or ends after S          first such section   offset field
  *   6   H            two sections share a byte                                            smallest that shares offset field
  *                                                                                         one with a lower
@@ -123,7 +134,8 @@ uint32_t hs_places(const uint8_t *file, size_t length, uint64_t *out, size_t out
  *  25                hs_hash_swap and hs_hash_swap_bytes only: p exceeds the length of old
  *
  * 14 and 15 are found volume by volume, the first fault of the first volume that has one. The end of an empty section
- * counts as H; strings without metrics entries and a volumes section without volumes are not waited for.
+ * counts as H; strings without metrics entries and a volumes section without volumes are not waited for. Version 30
+ * passes 7 and 11 to 13 with any slots and any bytes, as soon as it has H.
  */
 
 /* ---- Queries about one entry ----
@@ -153,7 +165,7 @@ uint32_t hs_reference(const uint8_t *file, size_t length, uint64_t i, uint64_t k
 /* The path search. Windows adds the number of a program's /prefetch switch to the hash of its path, and 1 to 8 have an
  * effect. So a metrics entry matches with a number from 0 to 8 where it can be shown and the hash of its name plus that
  * number, mod 2 to the 32, is the stored hash. The hash is taken over the bytes of the name: XP for version 17, with its
- * end step; for 23 and 26 Vista or 2008, which are equal. An entry matches with one number at most.
+ * end step; for 23, 26 and 30 Vista or 2008, which are equal. An entry matches with one number at most.
  *
  * The least number with which an entry matches, and the first entry that matches with it. No where there is none, or where
  * checks 1 to 6 do not pass.

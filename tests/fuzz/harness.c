@@ -162,8 +162,9 @@ static void set_breakpoints(const char *path) {
 
 /* ---- What has been seen, as the library answered ---- */
 
-enum { ANSWERS = 26 };
-static uint64_t calls[CALLS], answers[CALLS][ANSWERS], refusals[2][18], accepted[2][32], numbers_found[9];
+/* The greatest refusal number of the readers is 21. */
+enum { ANSWERS = 26, REFUSALS = 22 };
+static uint64_t calls[CALLS], answers[CALLS][ANSWERS], refusals[2][REFUSALS], accepted[2][32], numbers_found[9];
 
 static void count(enum call call, uint64_t code, const uint64_t *out, size_t out_length) {
     calls[call]++;
@@ -187,7 +188,7 @@ static void report(void) {
         for (int version = 0; version < 32; version++)
             if (accepted[call][version]) fprintf(stderr, ", version %d: %lu", version, accepted[call][version]);
         fprintf(stderr, "; refusals");
-        for (int number = 0; number < 18; number++)
+        for (int number = 0; number < REFUSALS; number++)
             if (refusals[call][number]) fprintf(stderr, ", %d: %lu", number, refusals[call][number]);
         fputc('\n', stderr);
     }

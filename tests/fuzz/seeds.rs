@@ -1,10 +1,11 @@
 //! seeds FOLDER FILE..
 //!
 //! Writes inputs for the fuzzer to start from: the files given, and of each version sound files, a file damaged for
-//! each check, and cuts; lines; and lists around the end of the table of powers. The same bytes every time.
+//! each check that it can fail, and cuts; lines; and lists around the end of the table of powers. The same bytes every
+//! time.
 
 use compare::generate::cuts::cuts;
-use compare::generate::damage::{damage, AIMS};
+use compare::generate::damage::{aims_of, damage};
 use compare::generate::{sound_of, Counts, Sample};
 use compare::random::Random;
 use compare::reference::layout::LAYOUTS;
@@ -51,7 +52,7 @@ impl Seeds {
                 let cut = *random.pick(&cuts(&sample));
                 self.add(ALL, EXACT, 0, 0, &sample.bytes[..cut])?;
             }
-            for number in AIMS {
+            for number in aims_of(layout) {
                 let mut sample: Sample =
                     sound_of(random, layout, Counts { metrics: 3, trace: 5, volumes: 2 });
                 damage(random, &mut sample, number);
@@ -68,10 +69,13 @@ impl Seeds {
         self.add(CATALOGUE_READ, EXACT, 0, 0, b"0000D400000041000000011A\n")?;
         self.add(CATALOGUE_READ, EXACT, 0, 0, b"00000094000000410000000111\n")?;
         self.add(CATALOGUE_READ, EXACT, 0, 0, b"04000000DEADBEEF0000002A1A\n")?;
+        self.add(CATALOGUE_READ, EXACT, 0, 0, b"0000D400000041000000011E\n")?;
+        self.add(CATALOGUE_READ, EXACT, 0, 0, b"000000D400000041000000011E\n")?;
         for (size, version) in [
             (148, 17),
             (156, 23),
             (212, 26),
+            (212, 30),
             (67_108_864, 26),
             (67_108_865, 26),
             (16_777_216, 26),

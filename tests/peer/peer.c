@@ -31,7 +31,7 @@ struct volume {
     uint32_t serial_number;
 };
 
-/* Of version 26. The versions before it have one. */
+/* Of versions 26 and 30. The versions before them have one. */
 #define MOST_RUN_TIMES 8
 
 /* What a listing shows. The texts lie in one pool. */

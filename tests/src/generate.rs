@@ -11,7 +11,7 @@ mod volumes;
 
 use crate::random::Random;
 use crate::reference::hashes;
-use crate::reference::layout::{Layout, END, LAYOUTS, TRACE_ENTRY};
+use crate::reference::layout::{Layout, END, LAYOUTS};
 use crate::reference::search::hash_of;
 use strings::{Aim, Strings};
 
@@ -67,7 +67,8 @@ pub fn sound_of(random: &mut Random, layout: &Layout, counts: Counts) -> Sample 
     Sample { bytes: around_links(random, layout, counts, &links), places: counts.trace }
 }
 
-/// A file with these links, sound in everything else.
+/// A file with these links, sound in everything else. Where trace entries have
+/// no next index there are as many, full of noise.
 pub fn around_links(
     random: &mut Random,
     layout: &Layout,
@@ -78,7 +79,7 @@ pub fn around_links(
     let strings = strings::section(random, counts.metrics, &aim);
     let contents = Contents {
         metrics: metrics_section(random, layout, &strings),
-        trace: trace_section(random, links),
+        trace: trace_section(random, layout, links),
         volumes: volumes::section(random, layout, counts.volumes),
         volume_count: counts.volumes as u32,
         stored_hash: stored_hash(random, &aim, &strings),
@@ -122,11 +123,14 @@ pub fn links(random: &mut Random, count: usize) -> Vec<u32> {
     links
 }
 
-pub fn trace_section(random: &mut Random, links: &[u32]) -> Vec<u8> {
+pub fn trace_section(random: &mut Random, layout: &Layout, links: &[u32]) -> Vec<u8> {
     let mut section = Vec::new();
     for link in links {
-        section.extend(link.to_le_bytes());
-        section.extend(random.bytes(TRACE_ENTRY as usize - 4));
+        let mut entry = random.bytes(layout.trace_entry as usize);
+        if layout.has_next {
+            set_32(&mut entry, 0, *link);
+        }
+        section.extend(entry);
     }
     section
 }
@@ -174,9 +178,12 @@ pub fn lay_out(random: &mut Random, layout: &Layout, contents: &Contents) -> Vec
     set_program_name(random, &mut file);
     set_run_times(random, &mut file, layout);
     set_32(&mut file, 76, contents.stored_hash);
-    place_sections(random, &mut file, contents);
+    match layout.metrics_start {
+        Some(start) => place_around(random, &mut file, contents, start as usize),
+        None => place_sections(random, &mut file, contents),
+    }
     set_32(&mut file, 88, (contents.metrics.len() as u64 / layout.metrics_entry) as u32);
-    set_32(&mut file, 96, (contents.trace.len() as u64 / TRACE_ENTRY) as u32);
+    set_32(&mut file, 96, (contents.trace.len() as u64 / layout.trace_entry) as u32);
     set_32(&mut file, 104, contents.strings.len() as u32);
     set_32(&mut file, 112, contents.volume_count);
     set_32(&mut file, 116, contents.volumes.len() as u32);
@@ -195,20 +202,52 @@ fn place_sections(random: &mut Random, file: &mut Vec<u8>, contents: &Contents) 
     ];
     random.shuffle(&mut sections);
     for (field, section) in sections {
-        gap(random, file);
-        let offset = match section.is_empty() {
-            true => ignored_offset(random),
-            false => file.len() as u32,
-        };
-        set_32(file, field, offset);
-        file.extend(section);
+        match section.is_empty() {
+            true => set_32(file, field, ignored_offset(random)),
+            false => place(random, file, field, section),
+        }
     }
+}
+
+/// The metrics array where its form wants it, and the others before it, as
+/// far as they fit there, or behind it, in a random order and with gaps.
+fn place_around(random: &mut Random, file: &mut Vec<u8>, contents: &Contents, start: usize) {
+    set_32(file, 84, start as u32);
+    let mut others = [(92, &contents.trace), (100, &contents.strings), (108, &contents.volumes)];
+    random.shuffle(&mut others);
+    let mut left = Vec::new();
+    for (field, section) in others {
+        // An empty array has no bytes to keep clear of.
+        let fits = contents.metrics.is_empty() || file.len() + 9 + section.len() <= start;
+        if section.is_empty() {
+            set_32(file, field, ignored_offset(random));
+        } else if fits && !random.one_in(4) {
+            place(random, file, field, section);
+        } else {
+            left.push((field, section));
+        }
+    }
+    if !contents.metrics.is_empty() {
+        let noise = random.bytes(start - file.len());
+        file.extend(noise);
+        file.extend(&contents.metrics);
+    }
+    for (field, section) in left {
+        place(random, file, field, section);
+    }
+}
+
+fn place(random: &mut Random, file: &mut Vec<u8>, field: usize, section: &[u8]) {
+    gap(random, file);
+    let offset = file.len() as u32;
+    set_32(file, field, offset);
+    file.extend(section);
 }
 
 /// An offset that nothing looks at.
 fn ignored_offset(random: &mut Random) -> u32 {
     let noise = random.u32();
-    *random.pick(&[0, 1, 148, 0x7FFF_FFFF, 0x8000_0000, u32::MAX, noise])
+    *random.pick(&[0, 1, 148, 304, 0x7FFF_FFFF, 0x8000_0000, u32::MAX, noise])
 }
 
 fn gap(random: &mut Random, bytes: &mut Vec<u8>) {

@@ -8,6 +8,7 @@ use hivesaddle::{Record, Refusal};
 
 const END: u32 = u32::MAX;
 const LARGEST_SIZE: usize = 67_108_864;
+/// With a next index.
 const TRACE_ENTRY: usize = 12;
 
 struct Layout {
@@ -17,6 +18,8 @@ struct Layout {
     head_end: usize,
     metrics_entry: usize,
     name_offset: usize,
+    trace_entry: usize,
+    has_next: bool,
     volume_entry: usize,
 }
 
@@ -27,6 +30,8 @@ const LAYOUT_17: Layout = Layout {
     head_end: 148,
     metrics_entry: 20,
     name_offset: 8,
+    trace_entry: TRACE_ENTRY,
+    has_next: true,
     volume_entry: 40,
 };
 const LAYOUT_23: Layout = Layout {
@@ -36,9 +41,14 @@ const LAYOUT_23: Layout = Layout {
     head_end: 156,
     metrics_entry: 32,
     name_offset: 12,
+    trace_entry: TRACE_ENTRY,
+    has_next: true,
     volume_entry: 104,
 };
 const LAYOUT_26: Layout = Layout { time_count: 8, run_count: 208, head_end: 212, ..LAYOUT_23 };
+const LAYOUT_30: Layout = Layout { trace_entry: 8, has_next: false, volume_entry: 96, ..LAYOUT_26 };
+/// Where version 30 has its metrics array.
+const START_30: usize = 304;
 
 pub fn read_file(file: &[u8], predecessors: &mut [u32]) -> Result<Record, Refusal> {
     predecessors.fill(END);
@@ -65,12 +75,13 @@ fn read(file: &[u8], predecessors: &mut [u32]) -> Result<Record, Refusal> {
     let layout = layout(file)?;
     let size = declared_size(file, layout)?;
     let name_units = program_name(file)?;
+    form(file)?;
     need(file, layout.head_end)?;
     let sections = sections(file, layout, size)?;
     let [metrics, trace, strings, volumes] = &sections;
     let trace_count = number(file, 96);
     let volume_count = number(file, 112);
-    if predecessors.len() < trace_count {
+    if layout.has_next && predecessors.len() < trace_count {
         return refused(7, 0, 96);
     }
     if volume_count * layout.volume_entry > volumes.length {
@@ -79,7 +90,10 @@ fn read(file: &[u8], predecessors: &mut [u32]) -> Result<Record, Refusal> {
     if metrics.length > 0 {
         names(file, layout, metrics, strings)?;
     }
-    let chain_count = links(file, trace, &mut predecessors[..trace_count])?;
+    let chain_count = match layout.has_next {
+        true => links(file, trace, &mut predecessors[..trace_count])?,
+        false => 0,
+    };
     if volume_count > 0 {
         all_volumes(file, volumes, layout, volume_count)?;
     }
@@ -107,6 +121,7 @@ fn layout(file: &[u8]) -> Result<&'static Layout, Refusal> {
         17 => &LAYOUT_17,
         23 => &LAYOUT_23,
         26 => &LAYOUT_26,
+        30 => &LAYOUT_30,
         _ => return refused(1, 0, 0),
     };
     need(file, 8)?;
@@ -130,6 +145,18 @@ fn program_name(file: &[u8]) -> Result<u32, Refusal> {
     match file[16..76].chunks_exact(2).position(is_zero) {
         Some(units) => Ok(units as u32),
         None => refused(4, 0, 16),
+    }
+}
+
+/// Check 21, behind 3: the one form of version 30 has the smallest H.
+fn form(file: &[u8]) -> Result<(), Refusal> {
+    if number(file, 0) != 30 {
+        return Ok(());
+    }
+    need(file, 88)?;
+    match number(file, 84) {
+        START_30 => Ok(()),
+        _ => refused(21, 0, 84),
     }
 }
 
@@ -178,7 +205,7 @@ impl Section {
 fn sections(file: &[u8], layout: &Layout, size: usize) -> Result<[Section; 4], Refusal> {
     let sections = [
         Section { start: number(file, 84), length: number(file, 88) * layout.metrics_entry },
-        Section { start: number(file, 92), length: number(file, 96) * TRACE_ENTRY },
+        Section { start: number(file, 92), length: number(file, 96) * layout.trace_entry },
         Section { start: number(file, 100), length: number(file, 104) },
         Section { start: number(file, 108), length: number(file, 116) },
     ];
@@ -407,8 +434,8 @@ mod beside_the_reference {
     #[test]
     fn damaged_files() {
         let mut random = Random::new(2);
-        for first in AIMS {
-            for second in first..=*AIMS.end() {
+        for (place, &first) in AIMS.iter().enumerate() {
+            for &second in &AIMS[place..] {
                 for _ in 0..100 {
                     let mut sample = rich(&mut random);
                     damage(&mut random, &mut sample, second);

@@ -3,7 +3,8 @@
 
 use crate::generate::{set_32, set_64};
 use crate::reference::hashes;
-use crate::reference::layout::{layout_of, Layout, END, TRACE_ENTRY};
+use crate::reference::head::number_32;
+use crate::reference::layout::{forms_of, Layout, END};
 use crate::reference::search::hash_of;
 
 /// How much a file has to say.
@@ -74,14 +75,14 @@ pub fn file(version: u32, amounts: &Amounts) -> Vec<u8> {
 
 /// A sound file. The stored hash is that of the program's path and its number.
 pub fn file_of(program: &Program, version: u32, amounts: &Amounts) -> Vec<u8> {
-    let layout = layout_of(version).expect("one of the three versions");
+    let layout = forms_of(version).next().expect("one of the four versions");
     let names: Vec<String> = (0..amounts.files).map(|i| name(program, i)).collect();
     let mut file = vec![0; first_section(version)];
     set_head(&mut file, layout, program, &names);
     let metrics = metrics(layout, &names, amounts.trace);
     add_section(&mut file, &metrics, 84);
     set_32(&mut file, 88, names.len() as u32);
-    add_section(&mut file, &trace(amounts), 92);
+    add_section(&mut file, &trace(layout, amounts), 92);
     set_32(&mut file, 96, amounts.trace as u32);
     let strings: Vec<u8> = names.iter().flat_map(|name| ended(name)).collect();
     add_section(&mut file, &strings, 100);
@@ -92,6 +93,18 @@ pub fn file_of(program: &Program, version: u32, amounts: &Amounts) -> Vec<u8> {
     set_32(&mut file, 116, volumes.len() as u32);
     let size = file.len() as u32;
     set_32(&mut file, 12, size);
+    file
+}
+
+/// A version 30 file as others of that version are: all of it from the metrics
+/// array on lies eight bytes earlier, so that the array starts at 296.
+pub fn another_form(file: &[u8]) -> Vec<u8> {
+    let mut file = file.to_vec();
+    file.drain(296..304);
+    for field in [12, 84, 92, 100, 108] {
+        let moved = number_32(&file, field) as u32 - 8;
+        set_32(&mut file, field, moved);
+    }
     file
 }
 
@@ -172,16 +185,18 @@ fn chain(files: usize, trace: usize, i: usize) -> std::ops::Range<usize> {
     trace * i / files..trace * (i + 1) / files
 }
 
-fn trace(amounts: &Amounts) -> Vec<u8> {
-    let mut section = vec![0; amounts.trace * TRACE_ENTRY as usize];
+/// The next index, where there is one, the block count and the rest.
+fn trace(layout: &Layout, amounts: &Amounts) -> Vec<u8> {
+    let mut section = Vec::new();
     for i in 0..amounts.files {
         let chain = chain(amounts.files, amounts.trace, i);
         for entry in chain.clone() {
-            let at = entry * TRACE_ENTRY as usize;
             let next = if entry + 1 < chain.end { entry as u32 + 1 } else { END };
-            set_32(&mut section, at, next);
-            set_32(&mut section, at + 4, 8 * (entry - chain.start) as u32);
-            set_32(&mut section, at + 8, 0x0001_0102);
+            if layout.has_next {
+                section.extend(next.to_le_bytes());
+            }
+            section.extend((8 * (entry - chain.start) as u32).to_le_bytes());
+            section.extend(0x0001_0102u32.to_le_bytes());
         }
     }
     section
@@ -250,7 +265,7 @@ mod points {
 
     #[test]
     fn accepted_in_every_version_and_size() {
-        for version in [17, 23, 26] {
+        for version in [17, 23, 26, 30] {
             for bytes in [1_000, 4_000, 20_000] {
                 let amounts = Amounts::for_bytes(bytes);
                 let file = file(version, &amounts);

@@ -7,7 +7,7 @@ use Rattle.incremental.specs.Decision.{accept, refuse}
 use Rattle.incremental.specs.Plan.{Answer, decided, wants}
 use Rattle.head.specs.declared.checks.Opening.{Opening}
 use Rattle.layout.specs.Versions.{traceEntry}
-use Rattle.sections.specs.Fields.{part}
+use Rattle.sections.specs.Fields.{linkCount, part}
 use Rattle.incremental.specs.declared.Fault.the-variants.{Nowhere}
 use Rattle.trace.specs.Links.{filled, chains, linkChecks, astrayFault, sharedFault, cyclicFault}
 use Rattle.trace.proofs.Steps.{length-nexts}
@@ -17,7 +17,7 @@ use Rattle.reader.specs.Verdict.{Acceptable, Reads}
 use Rattle.reader.specs.Checks.{nextsIn, linkAt}
 use Rattle.reader.specs.Allowed.{Allowed}
 use Rattle.reader.proofs.Values.{same-values}
-use Rattle.reader.proofs.AllowedLaws.{trace-few, free-clear}
+use Rattle.reader.proofs.AllowedLaws.{links-few, free-clear}
 use Rattle.reader.proofs.Allowed.{opens}
 use Rattle.claims.specs.Claims.{NotAccepted, Linked}
 
@@ -34,8 +34,8 @@ clear-passes at s c = rw (c .0, c .1, c .2)
 
 pub allowed-linked : (p : List ℕ) (o : Opening) → Allowed p o → Linked (nextsIn o p)
 allowed-linked p o a =
-    let size = length-nexts (part (o .head .trace) p) (traceEntry (o .layout)) (o .head .trace .count) in
-    let few = trace-few p o (opens p o a) in
+    let size = length-nexts (part (o .head .trace) p) (traceEntry (o .layout)) (linkCount (o .layout) (o .head)) in
+    let few = links-few p o (opens p o a) in
     record {
       short = omega (arith, size, few);
       at = linkAt o;

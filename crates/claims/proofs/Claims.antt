@@ -20,6 +20,7 @@ use Rattle.claims.proofs.Numbers.{numbers}
 use Rattle.claims.proofs.OneHash.{one-hash}
 use Rattle.claims.proofs.Powers.{powers}
 use Rattle.claims.proofs.Times.{times}
+use Rattle.claims.proofs.WithoutNext.{without-next}
 use Rattle.claims.proofs.Places.{places-say}
 use Rattle.claims.proofs.EmptyPrograms.{empty-programs}
 use Rattle.claims.proofs.Examples.{examples}
@@ -39,6 +40,7 @@ claims =
       every-name = every-name;
       times = times;
       name-stops = record { part = name-part; behind = name-behind; none = name-none; whole = name-whole };
+      without-next = without-next;
       places = places-say;
       linked = allowed-linked;
       working-buffer = λ s places l room. working-buffer (l .at) s (l .count) places (l .short) room (l .passes);

@@ -9,6 +9,7 @@ use Rattle.layout.specs.declared.Version.{Version}
 use Rattle.incremental.specs.Decision.{accept, refuse, refusal}
 use Rattle.incremental.specs.Plan.{Answer, decided, wants}
 use Rattle.incremental.specs.declared.Refusal.{Refusal}
+use Rattle.sections.specs.Fields.{linkCount}
 use Rattle.head.specs.declared.checks.Opening.{Opening}
 use Rattle.trace.specs.Links.{end, chains}
 use Rattle.reader.specs.declared.verdict.Acceptance.{Acceptance}
@@ -22,7 +23,7 @@ use Rattle.reader.specs.Allowed.{Allowed}
 use Rattle.reader.proofs.Allowed.{demand-2}
 use Rattle.reader.proofs.Early.{demand-3}
 use Rattle.claims.proofs.Points.{points}
-use Rattle.claims.specs.Examples.{smallest, smallestRecord, full, fullRecord}
+use Rattle.claims.specs.Examples.{smallest, smallestRecord, full, fullChains, fullRecord}
 use Rattle.claims.proofs.Examples.{examples}
 use Rattle.claims.specs.EmptyPrograms.{Program, Reader, part, whole, Meets, EmptyPrograms}
 
@@ -119,7 +120,7 @@ module _ (k : Reader) (f : Program) (h : Meets k f) where
       let g = gives k f h (24 ∷ 0 ∷ 0 ∷ 0 ∷ []) (0 ∷ []) _ (Refused (refusal 1 0 0)) (refused-24 k 1) refl in
       filled-not-zero _ (g .1) (n (24 ∷ 0 ∷ 0 ∷ 0 ∷ []) (0 ∷ []) _ (g .0))
 
-  the-one-chain : (v : Version) (x y : ℕ) (a : Acceptance) → f .verdict (full v) (x ∷ y ∷ []) ≡ Accepted a → a .«chain_count» ≡ 1
+  the-one-chain : (v : Version) (x y : ℕ) (a : Acceptance) → f .verdict (full v) (x ∷ y ∷ []) ≡ Accepted a → a .«chain_count» ≡ fullChains v
   the-one-chain v x y a e =
       let q : Accepted a ≡ Accepted (fullRecord v) = sym e ∙ accepts k f h (full v) (x ∷ y ∷ []) _ _ (examples .full-file v .answer) .0 in
       let r : a ≡ fullRecord v = cc in
@@ -163,7 +164,7 @@ module _ (f : Program) (h : Meets part f) where
 
 module _ (f : Program) (h : Meets whole f) where
   -- demand 2: what is allowed is accepted, with the defined chain count
-  never-refuses-allowed : (p buffer : List ℕ) (o : Opening) → Allowed p o → o .head .trace .count ≤ length buffer
+  never-refuses-allowed : (p buffer : List ℕ) (o : Opening) → Allowed p o → linkCount (o .layout) (o .head) ≤ length buffer
       → (r : Refusal) → f .verdict p buffer ≡ Refused r → ⊥
   never-refuses-allowed p buffer o a l r e =
       accepted-not-refused (sym (demand-2 p buffer _ _ (h p buffer) .complete o a l .0) ∙ e)

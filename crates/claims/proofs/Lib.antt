@@ -7,6 +7,7 @@ pub mod Placeless
 pub mod Numbers
 pub mod OneHash
 pub mod Times
+pub mod WithoutNext
 pub mod EveryName
 pub mod Examples
 pub mod Places

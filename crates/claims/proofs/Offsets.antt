@@ -2,6 +2,7 @@
 use mathlib.Core.Path.{_≡_, refl, sym, ap, _∙_}
 use mathlib.Core.Bool.{Bool, true, false, not, _||_}
 use mathlib.Core.List.{List}
+use mathlib.Core.Logic.{_⊎_, inl, inr}
 use mathlib.Core.Option.{Option, some, none}
 use Prim.Native.Nat.{ℕ, _+_, _*_, _≤_, _<_}
 use native.Mathlib.Nat.{mul-le-mul-right, add-mul, one-mul}
@@ -18,9 +19,9 @@ use Rattle.lists.specs.declared.Found.the-variants as found
 use Rattle.little_endian.specs.Number.{le}
 use Rattle.little_endian.proofs.Number.{le-take}
 use Rattle.layout.specs.Head.{signatureAt, entryOffset}
-use Rattle.layout.specs.Versions.{versionOf, layoutOf, headEnd, sizeLimit, traceEntry, volumeEntry, metricsEntry, nameOffsetAt}
+use Rattle.layout.specs.Versions.{versionOf, layoutOf, headEnd, sizeLimit, traceEntry, volumeEntry, metricsEntry, nameOffsetAt, hasNext, formRequired}
 use Rattle.layout.specs.Private.{SoundLayout}
-use Rattle.layout.proofs.Laws.{layout-sound}
+use Rattle.layout.proofs.Laws.{layout-sound, form-required}
 use Rattle.layout.specs.declared.Version.{Version}
 use Rattle.layout.specs.declared.KnownVersion.{KnownVersion}
 use Rattle.layout.specs.declared.KnownVersion.the-variants.{Known, Unknown}
@@ -30,14 +31,15 @@ use Rattle.incremental.specs.declared.Fault.{Fault}
 use Rattle.incremental.specs.declared.Fault.the-variants.{At, Nowhere}
 use Rattle.incremental.specs.Decision.{accept, refuse, refusal, faultAt, faultOf}
 use Rattle.incremental.specs.Plan.{Plan, Answer, decided, wants, run, andThen, reach, check}
-use Rattle.incremental.proofs.Each.{Each, each-refuse, each-accept, each-done, each-reach, each-check, each-given, each-decide}
+use Rattle.incremental.proofs.Each.{Each, each-refuse, each-accept, each-done, each-reach, each-check, each-given, each-found, each-decide}
 use Rattle.sections.specs.declared.Section.{Section}
 use Rattle.sections.specs.declared.Head.{Head}
-use Rattle.sections.specs.Fields.{declaredSize, sizeIn, numbered, outside, sharesLower}
+use Rattle.sections.specs.Fields.{declaredSize, formIn, linkCount, sizeIn, numbered, outside, sharesLower}
 use Rattle.sections.specs.Fields.{signatureFault, sizeFault, headOf, part, offsetFieldAt, outsideFault, sharedFault, placesFault, entriesFault}
 use Rattle.sections.proofs.Cases.{entries-met}
 use Rattle.head.specs.Checks.{version}
-use Rattle.head.proofs.Facts.{Shapes, head-shapes}
+use Rattle.head.proofs.Rules.{size-law}
+use Rattle.head.proofs.Facts.{Shapes, head-shapes, size-take, form-take, form-facts}
 use Rattle.names.specs.Names.{nameAt, nameUnits, nameFieldAt, fits, sound as soundText, misfitFault, unsoundFault}
 use Rattle.trace.specs.Links.{astray, shared, cyclic}
 use Rattle.trace.proofs.Steps.{length-nexts}
@@ -45,10 +47,10 @@ use Rattle.volumes.proofs.Fair.{fair-volumes}
 use Rattle.reader.specs.declared.verdict.Verdict.{Verdict}
 use Rattle.reader.specs.declared.verdict.Verdict.the-variants.{Refused}
 use Rattle.reader.specs.Verdict.{Acceptable, Reads, valuesOf}
-use Rattle.reader.specs.Checks.{nextsIn, volumesRequired, opening, readPlan, prefixAnswer, whole, sized, sizeOf}
+use Rattle.reader.specs.Checks.{nextsIn, traceRequired, volumesRequired, opening, readPlan, prefixAnswer, whole, sized, sizeOf}
 use Rattle.reader.proofs.Values.{refused-answer}
 use Rattle.reader.proofs.AllowedLaws.{head-take}
-use Rattle.claims.specs.Offsets.{offsetOf, constants, layoutIn, offsetIn, Offsets}
+use Rattle.claims.specs.Offsets.{offsetOf, constants, orElse, layoutIn, offsetIn, Offsets}
 use Rattle.claims.proofs.Placeless.{without-offset}
 
 abbrev Any : {A : Type 0} → A → Type 0
@@ -95,6 +97,27 @@ entry-inside s h size w i e l a b c =
 version-some : (k : KnownVersion) (v : Version) → version k ≡ some v → k ≡ Known v
 version-some (Known u) v e = let q : u ≡ v = cc in ap (λ x. Known x) q
 version-some Unknown v e = let z : _≡_ {A = ℕ} 0 1 = cc in absurd (omega arith)
+
+-- an entry that has a next index is one of the trace section, which is then waited for
+links-there : (l : Layout) (h : Head) (i n : ℕ) → i < linkCount l h → traceRequired l h ≤ n → (i < h .trace .count) × (h .trace .end ≤ n)
+unfolding linkCount
+links-there l h i n = go (hasNext l)
+  where
+    go : (b : Bool) → i < pick b (h .trace .count) 0 → pick b (h .trace .end) (headEnd l) ≤ n → (i < h .trace .count) × (h .trace .end ≤ n)
+    go true a c = (a, c)
+    go false a c = absurd (omega arith)
+
+-- 21 is refused only where the form has to be told, and then the 88 bytes are there
+form-told : (v : Version) (p b : List ℕ) → formRequired (layoutOf v) ≤ length p → formIn (layoutOf v) b ≡ none → 88 ≤ length p
+unfolding formIn
+form-told v p b h = go (form-required v)
+  where
+    go : (formRequired (layoutOf v) ≡ 0) ⊎ (formRequired (layoutOf v) ≡ 88) → formIn (layoutOf v) b ≡ none → 88 ≤ length p
+    go (inl z) e =
+        let s : formIn (layoutOf v) b ≡ some (layoutOf v) = rw (eq-eqb _ _ z) in
+        let y : _≡_ {A = ℕ} 0 1 = cc in
+        absurd (omega arith)
+    go (inr z) e = omega arith
 
 module _ (p : List ℕ) (m : ℕ) where
   -- the row of a number, with the constants and the sections that the file has
@@ -166,15 +189,18 @@ module _ (p : List ℕ) (m : ℕ) where
     unfolding unsoundFault
     unsound-row e s k = name-row 10 (λ i. not (soundText s (nameAt l e i) (nameUnits l e i))) (λ i. refl) k
 
-    link-row : (n count : ℕ) (test : ℕ → Bool) → count ≡ h .trace .count → ((i : ℕ) → entryOffset (h .trace .at) (traceEntry l) i ≡ offsetOf l h n i)
-        → h .trace .end ≤ length p → (i at : ℕ) → faultOf (entryOffset (h .trace .at) (traceEntry l)) (firstFrom test count 0) ≡ At i at
+    -- an entry that has a next index is there, and so is the trace section
+    link-row : (n count : ℕ) (test : ℕ → Bool) → count ≡ linkCount l h → ((i : ℕ) → entryOffset (h .trace .at) (traceEntry l) i ≡ offsetOf l h n i)
+        → traceRequired l h ≤ length p → (i at : ℕ) → faultOf (entryOffset (h .trace .at) (traceEntry l)) (firstFrom test count 0) ≡ At i at
         → Placed p (refusal n i at)
     link-row n count test s e k i at q =
+        let b : i < linkCount l h = omega (arith, found-index (entryOffset (h .trace .at) (traceEntry l)) test count 0 i at q .1) in
+        let r = links-there l h i (length p) b k in
         let a = found-index (entryOffset (h .trace .at) (traceEntry l)) test count 0 i at q in
         let c : entryOffset (h .trace .at) (traceEntry l) i + 4 ≤ h .trace .end =
         entry-inside (h .trace) (headEnd l) (traceEntry l) 4 i (shape .trace-end) (omega (arith, shape .trace-len)) (sound .next) (omega arith)
-        (omega (arith, a .1)) in
-        row l h n i at laid same (a .0 ∙ e i) (omega (arith, a .0, c))
+        (r .0) in
+        row l h n i at laid same (a .0 ∙ e i) (omega (arith, a .0, c, r .1))
 
     volume-row : (n : ℕ) → ((i : ℕ) → entryOffset (h .volumes .at) (volumeEntry l) i ≡ offsetOf l h n i) → h .volumes .count * volumeEntry l ≤ h .volumes .len
         → volumesRequired l h ≤ length p → (i : ℕ) → i < h .volumes .count → Placed p (refusal n i (entryOffset (h .volumes .at) (volumeEntry l) i))
@@ -192,17 +218,21 @@ module _ (p : List ℕ) (m : ℕ) where
       wait 8 _ λ h8.
       line 2 _ _ (signature-row _ h8) λ _.
       wait 16 _ λ h16.
-      line 3 _ _ (size-row (layoutOf v) _ h16) λ _.
+      line 3 _ _ (size-row (layoutOf v) _ h16) λ e3.
+      let least = size-law (layoutOf v) p .0 (sym (size-take (layoutOf v) p) ∙ e3) .0 in
       wait 76 _ λ h76.
       each-given Any (Placed p) 4 _ _ _ p (refl, omega arith) λ n _.
-      let l = layoutOf v in
-      let sound : SoundLayout l = layout-sound v in
-      let laid : layoutIn p ≡ l = ap constants (ap versionOf (sym (le-take 4 4 p 0 (omega arith))) ∙ version-some _ v known) in
+      let first : constants (versionOf (le 4 p 0)) ≡ layoutOf v = ap constants (ap versionOf (sym (le-take 4 4 p 0 (omega arith))) ∙ version-some _ v known) in
+      wait _ _ λ told.
+      each-found Any (Placed p) 21 _ _ _ p (λ e. (refl, omega (arith, form-told v p _ told e))) λ l found.
+      let formed : formIn (layoutOf v) p ≡ some l = sym (form-take (layoutOf v) p (form-required v)) ∙ found in
+      let sound : SoundLayout l = form-facts (layoutOf v) l p formed (layout-sound v) least .0 in
+      let laid : layoutIn p ≡ l = ap (λ (k : Layout). orElse k (formIn k p)) first ∙ ap (orElse (layoutOf v)) formed in
       wait (headEnd l) _ λ top.
       let h = headOf l (take (headEnd l) p) in
       let same : headOf l p ≡ h = sym (head-take l p sound) in
       let shape : Shapes l h = head-shapes l (take (headEnd l) p) in
-      let o = opening v n h in
+      let o = opening v l n h in
       line 5 _ _ (outside-row l h laid same shape sound top) λ _.
       line 6 _ _ (shared-row l h laid same shape sound top) λ _.
       line 7 _ _ (places-row l h laid same shape sound top _) λ _.
@@ -212,8 +242,8 @@ module _ (p : List ℕ) (m : ℕ) where
       wait _ _ λ h10.
       line 10 _ _ (unsound-row l h laid same shape sound top _ _ h9) λ _.
       wait _ _ λ h11.
-      let s = nextsIn o (take (h .trace .end) p) in
-      let count = length-nexts (part (h .trace) (take (h .trace .end) p)) (traceEntry l) (h .trace .count) in
+      let s = nextsIn o (take (traceRequired l h) p) in
+      let count = length-nexts (part (h .trace) (take (traceRequired l h) p)) (traceEntry l) (linkCount l h) in
       line 11 _ _ (link-row l h laid same shape sound top 11 (length s) (astray s) count (λ i. refl) h11) λ _.
       line 12 _ _ (link-row l h laid same shape sound top 12 (length s) (shared s) count (λ i. refl) h11) λ _.
       line 13 _ _ (link-row l h laid same shape sound top 13 (length s) (cyclic s) count (λ i. refl) h11) λ _.

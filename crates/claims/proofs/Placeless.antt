@@ -31,7 +31,7 @@ use Rattle.volumes.specs.declared.Step.the-variants.{Next, Past, Unended}
 use Rattle.volumes.specs.Volumes.{entryAt, stepAt, onStep, directoryCount, directoriesAt, directoryChecks, entryChecks, volumeChecks, volumesFrom}
 use Rattle.volumes.specs.Volumes.{pathFits, referencesFit}
 use Rattle.reader.specs.Verdict.{Acceptable}
-use Rattle.reader.specs.Checks.{opening, nextsIn, linkAt, readPlan, prefixAnswer}
+use Rattle.reader.specs.Checks.{opening, traceRequired, nextsIn, linkAt, readPlan, prefixAnswer}
 use Rattle.claims.specs.Offsets.{withoutOffset, decisionWithout, answerWithout, atZero, atIndex, indexPlan}
 
 -- a fault without its offset
@@ -164,15 +164,16 @@ without-offset p m =
     wait p 8 _ _ (line p 2 _ _ _ _ (bare-signature _)
     (wait p 16 _ _ (line p 3 _ _ _ _ (bare-size (layoutOf v) _)
     (wait p 76 _ _ (gives p 4 _ _ _ _ λ n.
-    wait p _ _ _ (line p 5 _ _ _ _ (bare-outside (layoutOf v) _)
+    wait p _ _ _ (gives p 21 _ _ _ _ λ l.
+    wait p _ _ _ (line p 5 _ _ _ _ (bare-outside l _)
     (line p 6 _ _ _ _ (bare-shared _)
     (line p 7 _ _ _ _ (bare-places _ _)
     (line p 8 _ _ _ _ (bare-entries _ _ _)
-    (wait p _ _ _ (line p 9 _ _ _ _ (bare-misfit (layoutOf v) _ _ _ _)
-    (wait p _ _ _ (line p 10 _ _ _ _ (bare-unsound (layoutOf v) _ _ _ _)
-    (let o = opening v n (headOf (layoutOf v) (take (headEnd (layoutOf v)) p)) in
-    let s = nextsIn o (take (o .head .trace .end) p) in
+    (wait p _ _ _ (line p 9 _ _ _ _ (bare-misfit l _ _ _ _)
+    (wait p _ _ _ (line p 10 _ _ _ _ (bare-unsound l _ _ _ _)
+    (let o = opening v l n (headOf l (take (headEnd l) p)) in
+    let s = nextsIn o (take (traceRequired l (o .head)) p) in
     wait p _ _ _ (line p 11 _ _ _ _ (bare-of (linkAt o) (first (astray s) (length s)))
     (line p 12 _ _ _ _ (bare-of (linkAt o) (first (shared s) (length s)))
     (line p 13 _ _ _ _ (bare-of (linkAt o) (first (cyclic s) (length s)))
-    (wait p _ _ _ (decides p _ _ _ _ (volumes-same _ (layoutOf v) _ 0 _ 0) (ends p _)))))))))))))))))))))
+    (wait p _ _ _ (decides p _ _ _ _ (volumes-same _ l _ 0 _ 0) (ends p _))))))))))))))))))))))

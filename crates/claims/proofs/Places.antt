@@ -13,6 +13,7 @@ use Rattle.incremental.proofs.Plan.{onward, run-then, reach-here, check-fault, 
 use Rattle.incremental.proofs.Each.{Each, each-refuse, each-wants, each-done, each-reach, each-check, each-given, each-decide, each-then}
 use Rattle.incremental.specs.declared.Refusal.{Refusal}
 use Rattle.incremental.specs.declared.Fault.{Fault}
+use Rattle.sections.specs.Fields.{linkCount}
 use Rattle.sections.proofs.Cases.{places-few, places-enough}
 use Rattle.head.specs.Checks.{startPlan, openPlan}
 use Rattle.head.proofs.Facts.{open-facts}
@@ -73,6 +74,8 @@ unfolding openPlan
 open-checks p =
     next p startPlan _ (start-checks p) λ s.
     wait p _ _ λ b.
+    gives p 21 _ _ _ (λ z. omega arith) λ l.
+    wait p _ _ λ b.
     line p 5 _ _ (λ z. omega arith) (line p 6 _ _ (λ z. omega arith) (ends p _))
 
 -- ---- checks 9 to 15
@@ -107,19 +110,19 @@ module _ (o : Opening) (p : List ℕ) where
       ends p _
 
 -- no check refuses with 7 where there is a place for each entry
-room-enough : (m : ℕ) (o : Opening) (p : List ℕ) → o .head .trace .count ≤ m → Refuses (run (restPlan m o) p)
+room-enough : (m : ℕ) (o : Opening) (p : List ℕ) → linkCount (o .layout) (o .head) ≤ m → Refuses (run (restPlan m o) p)
 unfolding restPlan
 room-enough m o p h =
     wait p _ _ λ top.
-    rw (check-passed 7 _ _ p (sym (places-enough m (o .head .trace .count) h)))
+    rw (check-passed 7 _ _ p (sym (places-enough m (linkCount (o .layout) (o .head)) h)))
     (line p 8 _ _ (λ z. omega arith) (tables-checks o p m top))
 
 -- and check 7 does, where there are fewer
-room-short : (m : ℕ) (o : Opening) (p : List ℕ) → headEnd (o .layout) ≤ length p → m < o .head .trace .count
+room-short : (m : ℕ) (o : Opening) (p : List ℕ) → headEnd (o .layout) ≤ length p → m < linkCount (o .layout) (o .head)
     → run (restPlan m o) p ≡ decided (refuse (refusal 7 0 traceCountAt))
 unfolding restPlan
 room-short m o p w h =
-    reach-here (headEnd (o .layout)) _ p w ∙ check-fault 7 _ _ p 0 _ (sym (places-few m (o .head .trace .count) h))
+    reach-here (headEnd (o .layout)) _ p w ∙ check-fault 7 _ _ p 0 _ (sym (places-few m (linkCount (o .layout) (o .head)) h))
 
 pub places-say : PlacesSay
 places-say p buffer n v after q r = go (run openPlan p) refl
@@ -136,7 +139,7 @@ places-say p buffer n v after q r = go (run openPlan p) refl
         let y : prefixAnswer p m ≡ decided (refuse (refusal 7 i at)) = refused-answer (prefixAnswer p m) (refusal 7 i at) (ap valuesOf (sym z) ∙ r .verdict) in
         h .refuses (refusal 7 i at) (sym e ∙ y) refl
 
-    needed : {o : Opening} → run openPlan p ≡ decided (accept o) → n ≡ placesAnswer.Needed (o .head .trace .count)
+    needed : {o : Opening} → run openPlan p ≡ decided (accept o) → n ≡ placesAnswer.Needed (linkCount (o .layout) (o .head))
     needed e = q .answer ∙ rw e
 
     -- the number is not known where checks 1 to 6 do not pass
@@ -153,9 +156,9 @@ places-say p buffer n v after q r = go (run openPlan p) refl
     go (decided (accept o)) e =
         let s : prefixAnswer p m ≡ run (restPlan m o) p = reads ∙ rw e in
         record {
-          enough = λ k a l i at z. let j : o .head .trace .count ≡ k = same (sym (needed e) ∙ a) in refused _ i at s (room-enough m o p (omega arith)) z;
+          enough = λ k a l i at z. let j : linkCount (o .layout) (o .head) ≡ k = same (sym (needed e) ∙ a) in refused _ i at s (room-enough m o p (omega arith)) z;
           short = λ k a l.
-              let j : o .head .trace .count ≡ k = same (sym (needed e) ∙ a) in
+              let j : linkCount (o .layout) (o .head) ≡ k = same (sym (needed e) ∙ a) in
               same-values v (Refused (refusal 7 0 traceCountAt)) (r .verdict ∙ ap answerValues (s ∙ room-short m o p (open-facts p .holds o e .whole) (omega arith)));
           unknown = λ a i at z. let y : _≡_ {A = ℕ} 0 1 = cc (needed e) in omega arith;
         }

@@ -35,5 +35,6 @@ times =
       count-17 = refl;
       count-23 = refl;
       count-26 = refl;
+      count-30 = refl;
       inside = λ v. layout-sound v .run-times;
     }

@@ -34,6 +34,7 @@ use Rattle.claims.specs.Numbers.{Numbers}
 use Rattle.claims.specs.OneHash.{OneHash}
 use Rattle.claims.specs.Powers.{Powers}
 use Rattle.claims.specs.Times.{Times}
+use Rattle.claims.specs.WithoutNext.{WithoutNext}
 use Rattle.claims.specs.Places.{PlacesSay}
 use Rattle.claims.specs.EmptyPrograms.{EmptyPrograms}
 use Rattle.claims.specs.Examples.{Examples}
@@ -59,7 +60,7 @@ pub record Claims : Type 1 where
   -- Demand 1: whatever isn't an acceptance leaves the working buffer filled with 4,294,967,295.
   pub filled-prefix : (p buffer : List ℕ) (v : Verdict) (after : List ℕ) → ReadsPrefix p buffer v after → NotAccepted v → after ≡ filled (length buffer)
   pub filled-file : (p buffer : List ℕ) (v : Verdict) (after : List ℕ) → ReadsFile p buffer v after → NotAccepted v → after ≡ filled (length buffer)
-  -- Demand 2: with a working place for each trace entry, a file is accepted exactly when the layout allows it, and every field is
+  -- Demand 2: with a working place for each trace entry that has a next index, a file is accepted exactly when the layout allows it, and every field is
   -- the one that the layout gives.
   pub demand-2 : (p buffer : List ℕ) (v : Verdict) (after : List ℕ) → ReadsFile p buffer v after → AcceptedExactly p buffer v after
   -- Demand 3: take any bytes, any two prefixes of them, the second at least as long as the first, and two working buffers of equal
@@ -91,6 +92,8 @@ pub record Claims : Type 1 where
   pub times : Times
   -- Request 104: the search for the program name's end stops at the first zero unit, and check 4's answers are the same.
   pub name-stops : NameStops
+  -- Request 107: without next indexes nothing is asked of the trace section and of the working buffer, and neither matters.
+  pub without-next : WithoutNext
   -- ---- the working buffer and the trace links
   -- Refusal 7: with as many working places as `places` says it is never given, with fewer it is.
   pub places : PlacesSay

@@ -5,6 +5,7 @@ use Prim.Native.Nat.{ℕ, _≤_}
 use lib.ListN.{length}
 use Rattle.layout.specs.declared.Version.{Version}
 use Rattle.incremental.specs.declared.Refusal.{Refusal}
+use Rattle.sections.specs.Fields.{linkCount}
 use Rattle.head.specs.declared.checks.Opening.{Opening}
 use Rattle.trace.specs.Links.{chains}
 use Rattle.reader.specs.declared.verdict.Acceptance.{Acceptance}
@@ -12,7 +13,7 @@ use Rattle.reader.specs.declared.verdict.Verdict.{Verdict}
 use Rattle.reader.specs.declared.verdict.Verdict.the-variants.{Accepted, Refused, Wanted}
 use Rattle.reader.specs.Checks.{nextsIn, ReadsPrefix, ReadsFile}
 use Rattle.reader.specs.Allowed.{Allowed}
-use Rattle.claims.specs.Examples.{full}
+use Rattle.claims.specs.Examples.{full, fullChains}
 
 -- a program, by what it gives for any bytes and any working buffer: its verdict, and the buffer as it leaves it
 pub record Program : Type 0 where
@@ -39,7 +40,7 @@ pub record EmptyPrograms : Type 0 where
   pub refuses-always : (k : Reader) (f : Program) → Meets k f
       → ((p buffer : List ℕ) → (r : Refusal) × (f .verdict p buffer ≡ Refused r)) → ⊥
   pub refuses-allowed : (f : Program) → Meets whole f
-      → (p buffer : List ℕ) (o : Opening) → Allowed p o → o .head .trace .count ≤ length buffer
+      → (p buffer : List ℕ) (o : Opening) → Allowed p o → linkCount (o .layout) (o .head) ≤ length buffer
       → (r : Refusal) → f .verdict p buffer ≡ Refused r → ⊥
   -- one that asks for 4 bytes always
   pub asks-for-four : (k : Reader) (f : Program) → Meets k f
@@ -64,11 +65,11 @@ pub record EmptyPrograms : Type 0 where
   pub repeats-request : (f : Program) → Meets part f
       → (p q buffer : List ℕ) (n : ℕ) → f .verdict p buffer ≡ Wanted n → n ≤ length (p ++ q) → f .verdict (p ++ q) buffer ≡ Wanted n → ⊥
   -- one that invents a chain count. The count is the defined one; it is that of any program that meets the promise; for two trace
-  -- entries in one chain it is 1, whatever the buffer holds.
+  -- entries in one chain it is 1, and 0 where they have no next index, whatever the buffer holds.
   pub chain-count : (f : Program) → Meets whole f
       → (p buffer : List ℕ) (a : Acceptance) → f .verdict p buffer ≡ Accepted a → (o : Opening) × Allowed p o × (a .«chain_count» ≡ chains (nextsIn o p))
   pub invented-count : (k : Reader) (f honest : Program) → Meets k f → Meets k honest
       → (p buffer : List ℕ) (a b : Acceptance) → f .verdict p buffer ≡ Accepted a → honest .verdict p buffer ≡ Accepted b
       → (a .«chain_count» ≡ b .«chain_count» → ⊥) → ⊥
   pub one-chain : (k : Reader) (f : Program) → Meets k f
-      → (v : Version) (x y : ℕ) (a : Acceptance) → f .verdict (full v) (x ∷ y ∷ []) ≡ Accepted a → a .«chain_count» ≡ 1
+      → (v : Version) (x y : ℕ) (a : Acceptance) → f .verdict (full v) (x ∷ y ∷ []) ≡ Accepted a → a .«chain_count» ≡ fullChains v

@@ -2,11 +2,12 @@
 -- and for each version one file with every section.
 use mathlib.Core.Path.{_≡_}
 use mathlib.Core.List.{List, [], _∷_, _++_}
-use Prim.Native.Nat.{ℕ, _+_, _-_, _/_, _%_, _≤_}
+use Prim.Native.Nat.{ℕ, _+_, _-_, _*_, _/_, _%_, _≤_}
 use lib.ListN.{length, replicate}
-use Rattle.layout.specs.Versions.{layoutOf, versionNumber, timeCount, runCountAt, headEnd, metricsEntry, nameOffsetAt, volumeEntry}
+use Rattle.lists.specs.Count.{pick}
+use Rattle.layout.specs.Versions.{layoutOf, versionNumber, timeCount, runCountAt, headEnd, metricsEntry, nameOffsetAt, volumeEntry, traceEntry, hasNext, firstSection}
 use Rattle.layout.specs.declared.Version.{Version}
-use Rattle.layout.specs.declared.Version.the-variants.{V17, V23, V26}
+use Rattle.layout.specs.declared.Version.the-variants.{V17, V23, V26, V30}
 use Rattle.incremental.specs.Decision.{accept}
 use Rattle.incremental.specs.Plan.{decided}
 use Rattle.head.specs.declared.checks.Opening.{Opening}
@@ -73,9 +74,9 @@ smallestRecord runs =
 abbrev metricsBytes : Version → List ℕ
 metricsBytes v = zeroBytes (nameOffsetAt (layoutOf v)) ++ u32 0 ++ u32 1 ++ zeroBytes (metricsEntry (layoutOf v) - (nameOffsetAt (layoutOf v) + 8))
 
--- two trace entries: entry 0 names entry 1 as next, and entry 1 ends the chain
-abbrev traceBytes : List ℕ
-traceBytes = u32 1 ++ zeroBytes 8 ++ u32 end ++ zeroBytes 8
+-- two trace entries: entry 0 names entry 1 as next, and entry 1 ends the chain; in version 30 these are block counts
+abbrev traceBytes : Version → List ℕ
+traceBytes v = let rest = zeroBytes (traceEntry (layoutOf v) - 4) in u32 1 ++ rest ++ u32 end ++ rest
 
 -- the name B and its zero unit
 abbrev stringsBytes : List ℕ
@@ -95,30 +96,39 @@ volumesBytes v =
     -- the directory D: its length, its unit, a zero unit
     ++ u16 1 ++ u16 68 ++ u16 0
 
--- where the sections start, one after another from H, and where the last ends
+-- where the sections start, one after another from where Windows puts the first, and where the last ends
 abbrev traceAt : Version → ℕ
-traceAt v = headEnd (layoutOf v) + metricsEntry (layoutOf v)
+traceAt v = firstSection (layoutOf v) + metricsEntry (layoutOf v)
 
 abbrev stringsAt : Version → ℕ
-stringsAt v = traceAt v + 24
+stringsAt v = traceAt v + 2 * traceEntry (layoutOf v)
 
 abbrev volumesAt : Version → ℕ
 volumesAt v = stringsAt v + 4
 
 abbrev pub fullSize : Version → ℕ
-fullSize V17 = 260
-fullSize V23 = 344
-fullSize V26 = 400
+fullSize V17 = 264
+fullSize V23 = 428
+fullSize V26 = 492
+fullSize V30 = 476
 
--- one metrics entry with its name, two trace entries in a chain, one volume with a path, one reference and one directory
+-- one metrics entry with its name, two trace entries, in a chain where they have a next index, one volume with a path, one reference and one directory
 abbrev pub full : Version → List ℕ
 full v =
     headBytes v (fullSize v) 1
-    (u32 (headEnd (layoutOf v)) ++ u32 1
+    (u32 (firstSection (layoutOf v)) ++ u32 1
     ++ u32 (traceAt v) ++ u32 2
     ++ u32 (stringsAt v) ++ u32 4
     ++ u32 (volumesAt v) ++ u32 1 ++ u32 (volumeEntry (layoutOf v) + 24))
-    ++ metricsBytes v ++ traceBytes ++ stringsBytes ++ volumesBytes v
+    ++ zeroBytes (firstSection (layoutOf v) - headEnd (layoutOf v))
+    ++ metricsBytes v ++ traceBytes v ++ stringsBytes ++ volumesBytes v
+
+-- one chain, and the table of predecessors: entry 0 names entry 1. Without next indexes no chain, and the buffer stays filled
+abbrev pub fullChains : Version → ℕ
+fullChains v = pick (hasNext (layoutOf v)) 1 0
+
+abbrev pub fullTable : Version → List ℕ
+fullTable v = end ∷ pick (hasNext (layoutOf v)) 0 end ∷ []
 
 abbrev pub fullRecord : Version → Acceptance
 fullRecord v =
@@ -132,7 +142,7 @@ fullRecord v =
       «metrics_count» = 1;
       «trace_count» = 2;
       «volume_count» = 1;
-      «chain_count» = 1;
+      «chain_count» = fullChains v;
     }
 
 -- ---- what holds of them
@@ -151,8 +161,7 @@ pub record SmallestFile : Type 0 where
 
 pub record FullFile (v : Version) : Type 0 where
   pub long : length (full v) ≡ fullSize v
-  -- entry 0 names entry 1 as next
-  pub answer : fileAnswer (full v) 2 ≡ decided (accept (record { fields = fullRecord v; table = end ∷ 0 ∷ [] }))
+  pub answer : fileAnswer (full v) 2 ≡ decided (accept (record { fields = fullRecord v; table = fullTable v }))
   -- the metrics entry's name, the volume with its counts and its path, and its reference can be shown
   pub name : entryPlace (full v) 0 ≡ place.Shown (record { at = stringsAt v; len = 2 })
   pub volume : volumeAsked (full v) 0

@@ -3,6 +3,7 @@ pub mod Offsets
 pub mod Numbers
 pub mod OneHash
 pub mod Times
+pub mod WithoutNext
 pub mod Claims
 pub mod EmptyPrograms
 pub mod EveryName

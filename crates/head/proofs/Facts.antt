@@ -1,20 +1,23 @@
 -- What checks 1 to 4, and 1 to 6, accept, in both directions; and that a prefix of 16 and of S bytes gets no request from them.
 use mathlib.Core.Path.{_≡_, refl, sym, ap, _∙_}
 use mathlib.Core.List.{List}
+use mathlib.Core.Bool.{Bool, true, false}
+use mathlib.Core.Logic.{_⊎_, inl, inr}
 use mathlib.Core.Option.{Option, some, none}
 use Prim.Native.Nat.{ℕ, _+_, _*_, _≤_}
 use native.Mathlib.Nat.{le-trans}
 use native.Mathlib.Omega.{arith}
-use lib.Dec.{eqb}
+use borrow.Author.Tests.{eq-eqb, ltb-false}
+use lib.Dec.{eqb, ltb}
 use lib.ListN.{length, take}
 use Rattle.lists.specs.Count.{pick}
 use Rattle.lists.specs.declared.Found.{Found}
 use Rattle.lists.specs.declared.Found.the-variants as found
 use Rattle.little_endian.specs.Number.{le}
 use Rattle.little_endian.proofs.Number.{le-take}
-use Rattle.layout.specs.Versions.{versionOf, layoutOf, headEnd, metricsEntry, traceEntry}
+use Rattle.layout.specs.Versions.{versionOf, layoutOf, headEnd, metricsEntry, traceEntry, formRequired, forms, formAt}
 use Rattle.layout.specs.Private.{SoundLayout}
-use Rattle.layout.proofs.Laws.{layout-sound}
+use Rattle.layout.proofs.Laws.{layout-sound, form-sound, form-required}
 use Rattle.layout.specs.declared.Version.{Version}
 use Rattle.layout.specs.declared.Layout.{Layout}
 use Rattle.layout.specs.declared.KnownVersion.{KnownVersion}
@@ -25,7 +28,7 @@ use Rattle.incremental.specs.Plan.{Plan, decided, andThen, done, run}
 use Rattle.incremental.proofs.Plan.{run-then, reach-here, check-passed, given-some, Holds, holds-accept, holds-reach, holds-check}
 use Rattle.incremental.proofs.Plan.{holds-given, holds-then, Decided, decided-decide, decided-reach, decided-check, decided-given, decided-then}
 use Rattle.sections.specs.declared.Head.{Head}
-use Rattle.sections.specs.Fields.{signatureFault, declaredSize, sizeFault, nameEnd, headOf, outsideFault, sharedFault}
+use Rattle.sections.specs.Fields.{signatureFault, declaredSize, sizeFault, nameEnd, roomFor, formIn, headOf, outsideFault, sharedFault}
 use Rattle.head.specs.declared.checks.Start.{Start}
 use Rattle.head.specs.declared.checks.StartAnswer.{StartAnswer}
 use Rattle.head.specs.declared.checks.StartAnswer.the-variants as startAnswer
@@ -42,9 +45,37 @@ signature-take : (p : List ℕ) → signatureFault (take 8 p) ≡ signatureFault
 unfolding signatureFault
 signature-take p = rw (le-take 4 8 p 4 (omega arith))
 
-size-take : (l : Layout) (p : List ℕ) → sizeFault l (take 16 p) ≡ sizeFault l p
+pub size-take : (l : Layout) (p : List ℕ) → sizeFault l (take 16 p) ≡ sizeFault l p
 unfolding sizeFault
 size-take l p = rw (le-take 4 16 p 12 (omega arith))
+
+-- the form by the bytes that tell it, at least 88 where a version has several
+pub form-take : (l : Layout) (p : List ℕ) → (formRequired l ≡ 0) ⊎ (formRequired l ≡ 88) → formIn l (take (formRequired l) p) ≡ formIn l p
+unfolding formIn
+form-take l p (inl z) = rw (eq-eqb _ _ z)
+form-take l p (inr z) = rw (z, le-take 4 88 p 84 (omega arith), le-take 4 88 p 12 (omega arith))
+
+-- a form that is found is sound, and S is not below its H
+pub form-facts : (l k : Layout) (p : List ℕ) → formIn l p ≡ some k → SoundLayout l → headEnd l ≤ declaredSize p
+    → SoundLayout k × (headEnd k ≤ declaredSize p)
+unfolding formIn
+form-facts l k p e s h = go (eqb (formRequired l) 0) e
+  where
+    none-some : none ≡ some k → ⊥
+    none-some e = let z : _≡_ {A = ℕ} 0 1 = cc in omega arith
+
+    room : (f : Layout) (b : Bool) → ltb (declaredSize p) (headEnd f) ≡ b → SoundLayout f → pick b none (some f) ≡ some k
+        → SoundLayout k × (headEnd k ≤ declaredSize p)
+    room f true q w e = absurd (none-some e)
+    room f false q w e = let i : f ≡ k = cc in rw (← i) (w, ltb-false _ _ q)
+
+    known : (f : Option Layout) → formAt (le 4 p 84) forms ≡ f → roomFor (declaredSize p) f ≡ some k → SoundLayout k × (headEnd k ≤ declaredSize p)
+    known (some f) q e = room f _ refl (form-sound (le 4 p 84) f q) e
+    known none q e = absurd (none-some e)
+
+    go : (b : Bool) → pick b (some l) (roomFor (declaredSize p) (formAt (le 4 p 84) forms)) ≡ some k → SoundLayout k × (headEnd k ≤ declaredSize p)
+    go true e = let i : l ≡ k = cc in rw (← i) (s, h)
+    go false e = known _ refl e
 
 version-take : (p : List ℕ) → versionOf (le 4 (take 4 p) 0) ≡ versionOf (le 4 p 0)
 version-take p = rw (le-take 4 4 p 0 (omega arith))
@@ -101,26 +132,49 @@ start-complete p s f =
 pub start-met : (p : List ℕ) (r : StartAnswer) (s : Start) → startOf r ≡ run startPlan p → r ≡ startAnswer.Started s → StartFacts p s
 start-met p r s e q = start-facts p .holds s (sym e ∙ ap startOf q)
 
--- the constants of an opening are those of its version, and so sound
-pub start-sound : (p : List ℕ) (s : Start) → StartFacts p s → SoundLayout (s .layout)
-start-sound p s f = rw (f .laid) (layout-sound (s .version))
-
 -- ---- checks 1 to 6
 
-open-inside : (p : List ℕ) (s : Start) → StartFacts p s → headEnd (s .layout) ≤ length p
-    → outsideFault (s .layout) (headOf (s .layout) (take (headEnd (s .layout)) p)) ≡ Nowhere
-    → sharedFault (headOf (s .layout) (take (headEnd (s .layout)) p)) ≡ Nowhere
-    → OpenFacts p
-    (record { version = s .version; layout = s .layout; «name_units» = s .«name_units»; head = headOf (s .layout) (take (headEnd (s .layout)) p) })
+-- what is known once 21 has passed too
+record FormFacts (p : List ℕ) (s : Start) (l : Layout) : Type 0 where
+  started : StartFacts p s
+  told : formRequired (s .layout) ≤ length p
+  formed : formIn (s .layout) p ≡ some l
+  sound : SoundLayout l
+  least : headEnd l ≤ declaredSize p
+
+form-met : (p : List ℕ) (s : Start) (l : Layout) → StartFacts p s → formRequired (s .layout) ≤ length p
+    → formIn (s .layout) (take (formRequired (s .layout)) p) ≡ some l → FormFacts p s l
+form-met p s l f t e =
+    let q : formIn (s .layout) p ≡ some l = sym (form-take (s .layout) p (rw (f .laid) (form-required (s .version)))) ∙ e in
+    let k = form-facts (s .layout) l p q (rw (f .laid) (layout-sound (s .version))) (f .least) in
+    record { started = f; told = t; formed = q; sound = k .0; least = k .1 }
+
+open-inside : (p : List ℕ) (s : Start) (l : Layout) → FormFacts p s l → headEnd l ≤ length p
+    → outsideFault l (headOf l (take (headEnd l) p)) ≡ Nowhere
+    → sharedFault (headOf l (take (headEnd l) p)) ≡ Nowhere
+    → OpenFacts p (record { version = s .version; layout = l; «name_units» = s .«name_units»; head = headOf l (take (headEnd l) p) })
 unfolding headOf
-open-inside p s f w g a =
-    let h = headEnd (s .layout) in
+open-inside p s y f w g a =
+    let h = headEnd y in
     let b = take h p in
-    let k : le 4 b 12 ≡ le 4 p 12 = le-take 4 h p 12 (omega (arith, start-sound p s f .fixed)) in
-    let u = none-outside (s .layout) (headOf (s .layout) b) g in
+    let k : le 4 b 12 ≡ le 4 p 12 = le-take 4 h p 12 (omega (arith, f .sound .fixed)) in
+    let u = none-outside y (headOf y b) g in
     let l : h ≤ le 4 b 12 = rw k (f .least) in
+    let laid = f .started .laid in
     record {
-      start = f;
+      start =
+          record {
+            laid = refl;
+            least = rw (← laid) (f .started .least);
+            most = f .started .most;
+            known = f .started .known;
+            ended = f .started .ended;
+            named = f .started .named;
+            signed = f .started .signed;
+          };
+      told = rw (← laid) (f .told);
+      formed = rw (← laid) (f .formed);
+      least = f .least;
       whole = w;
       fields = refl;
       inside = g;
@@ -135,17 +189,22 @@ pub open-facts : (p : List ℕ) → Holds (OpenFacts p) (run openPlan p)
 unfolding openPlan
 open-facts p =
     holds-then _ startPlan _ p λ s e.
-    let h = headOf (s .layout) (take (headEnd (s .layout)) p) in
-    holds-reach (headEnd (s .layout)) _ p _ λ w.
-    holds-check _ 5 (outsideFault (s .layout) h) _ p λ g.
+    holds-reach (formRequired (s .layout)) _ p _ λ t.
+    holds-given _ 21 84 (formIn (s .layout) (take (formRequired (s .layout)) p)) _ p λ l q.
+    let h = headOf l (take (headEnd l) p) in
+    holds-reach (headEnd l) _ p _ λ w.
+    holds-check _ 5 (outsideFault l h) _ p λ g.
     holds-check _ 6 (sharedFault h) _ p λ a.
-    holds-accept _ _ p (open-inside p s (start-facts p .holds s e) w g a)
+    holds-accept _ _ p (open-inside p s l (form-met p s l (start-facts p .holds s e) t q) w g a)
 
 pub open-complete : (p : List ℕ) (o : Opening) → OpenFacts p o → run openPlan p ≡ decided (accept o)
 unfolding openPlan run
 open-complete p o f =
+    let l = layoutOf (o .version) in
     rw (run-then startPlan _ p, start-complete p (startIn o) (f .start))
-    (reach-here (headEnd (o .layout)) _ p (f .whole)
+    (reach-here (formRequired l) _ p (f .told)
+    ∙ given-some 21 _ _ _ p (o .layout) (form-take l p (form-required (o .version)) ∙ f .formed)
+    ∙ reach-here (headEnd (o .layout)) _ p (f .whole)
     ∙ rw (← f .fields)
     (check-passed 5 (outsideFault (o .layout) (o .head)) _ p (f .inside) ∙ check-passed 6 (sharedFault (o .head)) _ p (f .apart)))
 
@@ -153,7 +212,8 @@ pub open-met : (p : List ℕ) (r : OpenAnswer) (o : Opening) → openOf r ≡ ru
 open-met p r o e q = open-facts p .holds o (sym e ∙ ap openOf q)
 
 pub open-sound : (p : List ℕ) (o : Opening) → OpenFacts p o → SoundLayout (o .layout)
-open-sound p o f = start-sound p (startIn o) (f .start)
+open-sound p o f =
+    form-facts (layoutOf (o .version)) (o .layout) p (f .formed) (layout-sound (o .version)) (f .start .least) .0
 
 -- how the sections' ends and lengths go back to the head's fields
 pub record Shapes (l : Layout) (h : Head) : Type 0 where
@@ -200,8 +260,13 @@ pub decided-open : (p : List ℕ) → 16 ≤ length p → declaredSize p ≤ len
 unfolding openPlan
 decided-open p h d =
     decided-then startPlan _ p (decided-start p h d) λ s e.
-    let b = headOf (s .layout) (take (headEnd (s .layout)) p) in
-    decided-reach (headEnd (s .layout)) _ p (le-trans (start-facts p .holds s e .least) d)
-    (decided-check 5 (outsideFault (s .layout) b) _ p λ _.
+    let f = start-facts p .holds s e in
+    let sound : SoundLayout (s .layout) = rw (f .laid) (layout-sound (s .version)) in
+    let t : formRequired (s .layout) ≤ length p = omega (arith, f .least, sound .fixed, sound .form) in
+    decided-reach (formRequired (s .layout)) _ p t
+    (decided-given 21 84 (formIn (s .layout) (take (formRequired (s .layout)) p)) _ p λ l q.
+    let b = headOf l (take (headEnd l) p) in
+    decided-reach (headEnd l) _ p (le-trans (form-met p s l f t q .least) d)
+    (decided-check 5 (outsideFault l b) _ p λ _.
     decided-check 6 (sharedFault b) _ p λ _.
-    decided-decide _ p)
+    decided-decide _ p))

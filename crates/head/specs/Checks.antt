@@ -1,17 +1,18 @@
--- Checks 1 to 6 of document 01's table in their order: required length (document 01: reach), number, fault with its file offset.
+-- Checks 1 to 6 of document 01's table in their order, and 21 of request 107 directly after 4: required length (document 01: reach),
+-- number, fault with its file offset.
 use mathlib.Core.Option.{Option, some, none}
 use Prim.Native.Nat.{ℕ}
 use Rattle.lists.specs.declared.Found.{Found}
 use Rattle.lists.specs.declared.Found.the-variants.{At, Nothing}
 use Rattle.little_endian.specs.Number.{le}
-use Rattle.layout.specs.Head.{versionAt, programNameAt}
-use Rattle.layout.specs.Versions.{versionOf, layoutOf, headEnd}
+use Rattle.layout.specs.Head.{versionAt, programNameAt, metricsOffsetAt}
+use Rattle.layout.specs.Versions.{versionOf, layoutOf, headEnd, formRequired}
 use Rattle.layout.specs.declared.Version.{Version}
 use Rattle.layout.specs.declared.KnownVersion.{KnownVersion}
 use Rattle.layout.specs.declared.KnownVersion.the-variants.{Known, Unknown}
 use Rattle.incremental.specs.Decision.{accept, refuse}
 use Rattle.incremental.specs.Plan.{Plan, Answer, decided, wants, reach, check, given, done, _>>=_, _>>_}
-use Rattle.sections.specs.Fields.{signatureFault, sizeFault, nameEnd, headOf, outsideFault, sharedFault}
+use Rattle.sections.specs.Fields.{signatureFault, sizeFault, nameEnd, formIn, headOf, outsideFault, sharedFault}
 use Rattle.head.specs.declared.checks.Start.{Start}
 use Rattle.head.specs.declared.checks.StartAnswer.{StartAnswer}
 use Rattle.head.specs.declared.checks.StartAnswer.the-variants as startAnswer
@@ -41,15 +42,17 @@ startPlan = do
   n ← given 4 programNameAt (units (nameEnd b))
   done (record { version = v; layout = layoutOf v; «name_units» = n })
 
--- CHECKS 1 TO 6; they give the sections too
+-- CHECKS 1 TO 6, with 21 among them; they give the layout of the head form and the sections too
 unfoldable pub openPlan : Plan Opening
 openPlan = do
   s ← startPlan
-  b ← reach (headEnd (s .layout))
-  let h = headOf (s .layout) b
-  check 5 (outsideFault (s .layout) h)
+  b ← reach (formRequired (s .layout))
+  l ← given 21 metricsOffsetAt (formIn (s .layout) b)
+  b ← reach (headEnd l)
+  let h = headOf l b
+  check 5 (outsideFault l h)
   check 6 (sharedFault h)
-  done (record { version = s .version; layout = s .layout; «name_units» = s .«name_units»; head = h })
+  done (record { version = s .version; layout = l; «name_units» = s .«name_units»; head = h })
 
 -- what each case of the answers says
 abbrev pub startOf : StartAnswer → Answer Start

@@ -1,19 +1,28 @@
--- What only private contracts need: checks 5 and 6 after the others, and what is known of bytes that checks 1 to 4, and 1 to 6, accept.
+-- What only private contracts need: checks 21, 5 and 6 after the others, and what is known of bytes that checks 1 to 4, and 1 to 6, accept.
 use mathlib.Core.Path.{_≡_}
 use mathlib.Core.List.{List}
+use mathlib.Core.Option.{some}
 use Prim.Native.Nat.{ℕ, _≤_}
 use lib.ListN.{length, take}
 use Rattle.lists.specs.declared.Found.the-variants.{At}
 use Rattle.little_endian.specs.Number.{le}
-use Rattle.layout.specs.Versions.{versionOf, layoutOf, headEnd, sizeLimit}
+use Rattle.layout.specs.Head.{metricsOffsetAt}
+use Rattle.layout.specs.Versions.{versionOf, layoutOf, headEnd, formRequired, sizeLimit}
 use Rattle.layout.specs.declared.KnownVersion.the-variants.{Known}
-use Rattle.incremental.specs.Plan.{Plan, reach, check, done, _>>=_, _>>_}
+use Rattle.incremental.specs.Plan.{Plan, reach, check, given, done, _>>=_, _>>_}
 use Rattle.incremental.specs.declared.Fault.the-variants.{Nowhere}
 use Rattle.head.specs.declared.checks.Start.{Start}
 use Rattle.head.specs.declared.checks.Opening.{Opening}
-use Rattle.sections.specs.Fields.{signatureFault, declaredSize, nameEnd, headOf, outsideFault, sharedFault}
+use Rattle.sections.specs.Fields.{signatureFault, declaredSize, nameEnd, formIn, headOf, outsideFault, sharedFault}
 
--- checks 5 and 6, where 1 to 4 gave `s`
+-- check 21, where 1 to 4 gave `s`: the layout becomes that of the head form
+unfoldable pub formPlan : Start → Plan Start
+formPlan s = do
+  b ← reach (formRequired (s .layout))
+  l ← given 21 metricsOffsetAt (formIn (s .layout) b)
+  done (record { version = s .version; layout = l; «name_units» = s .«name_units» })
+
+-- checks 5 and 6, where the others gave `s`
 unfoldable pub sectionPlan : Start → Plan Opening
 sectionPlan s = do
   b ← reach (headEnd (s .layout))
@@ -22,9 +31,13 @@ sectionPlan s = do
   check 6 (sharedFault h)
   done (record { version = s .version; layout = s .layout; «name_units» = s .«name_units»; head = h })
 
+-- all three
+unfoldable pub openingPlan : Start → Plan Opening
+openingPlan s = formPlan s >>= sectionPlan
+
 -- what checks 1 to 4 gave, of what 1 to 6 gave
 abbrev pub startIn : Opening → Start
-startIn o = record { version = o .version; layout = o .layout; «name_units» = o .«name_units» }
+startIn o = record { version = o .version; layout = layoutOf (o .version); «name_units» = o .«name_units» }
 
 -- WHAT CHECKS 1 TO 4 ACCEPT
 pub record StartFacts (p : List ℕ) (s : Start) : Type 0 where
@@ -39,6 +52,9 @@ pub record StartFacts (p : List ℕ) (s : Start) : Type 0 where
 -- WHAT CHECKS 1 TO 6 ACCEPT
 pub record OpenFacts (p : List ℕ) (o : Opening) : Type 0 where
   pub start : StartFacts p (startIn o)
+  pub told : formRequired (layoutOf (o .version)) ≤ length p
+  pub formed : formIn (layoutOf (o .version)) p ≡ some (o .layout)
+  pub least : headEnd (o .layout) ≤ declaredSize p
   pub whole : headEnd (o .layout) ≤ length p
   pub fields : o .head ≡ headOf (o .layout) (take (headEnd (o .layout)) p)
   pub inside : outsideFault (o .layout) (o .head) ≡ Nowhere

@@ -2,9 +2,10 @@ ghost use mathlib.Core.Path.{_≡_};
 ghost use Rattle.incremental.specs.Decision.{refusal};
 ghost use Rattle.incremental.specs.Plan.{run};
 ghost use Rattle.head.specs.Checks.{startOf, openOf, startPlan, openPlan};
-ghost use Rattle.head.specs.Private.{sectionPlan};
+ghost use Rattle.head.specs.Private.{formPlan, sectionPlan, openingPlan};
 use incremental::Fault;
 use incremental::Refusal;
+use layout::KnownForm;
 use layout::KnownVersion;
 use layout::Layout;
 use layout::Version;
@@ -81,6 +82,26 @@ pub fn read_start(file: &[u8]) -> StartAnswer
     })
 }
 
+// Check 21: the start with the layout of its head form.
+fn check_form(file: &[u8], s: Start) -> StartAnswer
+    ensures { λ r. ⌜ startOf r ≡ run (formPlan s) (now (file .entry)) ⌝ }
+{
+    let version = s.version;
+    let least = s.layout;
+    let required = least.form_required as usize;
+    if file.len() < required {
+        return StartAnswer::Wanted(required);
+    }
+    let KnownForm::Known(l) = sections::find_form(&file[..required], least) else {
+        return start_refused(21, 0, layout::METRICS_OFFSET_AT);
+    };
+    StartAnswer::Started(Start {
+        version: version,
+        layout: l,
+        name_units: s.name_units,
+    })
+}
+
 // Checks 5 and 6.
 fn check_sections(file: &[u8], s: Start) -> OpenAnswer
     ensures { λ r. ⌜ openOf r ≡ run (sectionPlan s) (now (file .entry)) ⌝ }
@@ -106,12 +127,23 @@ fn check_sections(file: &[u8], s: Start) -> OpenAnswer
     })
 }
 
-// Checks 1 to 6.
+// Checks 21, 5 and 6.
+fn check_opening(file: &[u8], s: Start) -> OpenAnswer
+    ensures { λ r. ⌜ openOf r ≡ run (openingPlan s) (now (file .entry)) ⌝ }
+{
+    match check_form(file, s) {
+        StartAnswer::Started(formed) => check_sections(file, formed),
+        StartAnswer::Refused(r) => OpenAnswer::Refused(r),
+        StartAnswer::Wanted(required) => OpenAnswer::Wanted(required),
+    }
+}
+
+// Checks 1 to 6, with 21 among them.
 pub fn read_open(file: &[u8]) -> OpenAnswer
     ensures { λ r. ⌜ openOf r ≡ run openPlan (now (file .entry)) ⌝ }
 {
     match read_start(file) {
-        StartAnswer::Started(s) => check_sections(file, s),
+        StartAnswer::Started(s) => check_opening(file, s),
         StartAnswer::Refused(r) => OpenAnswer::Refused(r),
         StartAnswer::Wanted(k) => OpenAnswer::Wanted(k),
     }

@@ -80,11 +80,15 @@ module _ {B : Type 0} (P : B → Type 0) (Q : Refusal → Type 0) where
   each-check n (At i at) g p h k = each-refuse P Q (refusal n i at) (h i at refl)
   each-check n Nowhere g p h k = k refl
 
-  pub each-given : {A : Type 0} (n at : ℕ) (o : Option A) (g : A → Plan B) (p : List ℕ) → Q (refusal n 0 at)
+  pub each-found : {A : Type 0} (n at : ℕ) (o : Option A) (g : A → Plan B) (p : List ℕ) → (o ≡ none → Q (refusal n 0 at))
       → ((a : A) → o ≡ some a → Each P Q (run (g a) p)) → Each P Q (run (andThen (given n at o) g) p)
   unfolding given andThen run
-  each-given n at (some a) g p h k = k a refl
-  each-given n at none g p h k = each-refuse P Q (refusal n 0 at) h
+  each-found n at (some a) g p h k = k a refl
+  each-found n at none g p h k = each-refuse P Q (refusal n 0 at) (h refl)
+
+  pub each-given : {A : Type 0} (n at : ℕ) (o : Option A) (g : A → Plan B) (p : List ℕ) → Q (refusal n 0 at)
+      → ((a : A) → o ≡ some a → Each P Q (run (g a) p)) → Each P Q (run (andThen (given n at o) g) p)
+  each-given n at o g p h k = each-found n at o g p (λ _. h) k
 
   pub each-decide : (d : Decision Unit) (g : Unit → Plan B) (p : List ℕ) → Fair Q d → Each P Q (run (g tt) p) → Each P Q (run (andThen (decide d) g) p)
   unfolding andThen run

@@ -16,7 +16,7 @@ use Rattle.incremental.specs.Decision.{Decision, accept, refuse, refusal
 use Rattle.incremental.specs.declared.Refusal.{Refusal}
 use Rattle.incremental.specs.declared.Fault.{Fault}
 use Rattle.incremental.specs.declared.Fault.the-variants.{At, Nowhere}
-use Rattle.incremental.specs.Plan.{Plan, decide, await, Answer, decided, wants, run, andThen, reach, check, given, Stands}
+use Rattle.incremental.specs.Plan.{Plan, decide, await, Answer, decided, wants, run, andThen, reach, check, given, done, Stands}
 
 -- the same of answers
 abbrev pub onward : {A B : Type 0} → Answer A → (A → Answer B) → Answer B
@@ -163,6 +163,15 @@ unfolding run andThen
 run-same (decide (accept a)) f g p h = h a
 run-same (decide (refuse r)) f g p h = refl
 run-same (await k next) f g p h = ap (λ x. pick (leb k (length p)) x (wants k)) (run-same (next (take k p)) f g p h)
+
+-- a line of a plan whose later lines are themselves bracketed, and the last line
+pub line : {A B C : Type 0} (t : Plan A) (f : A → Plan B) (g : B → Plan C) (h : A → Plan C) (p : List ℕ)
+    → ((a : A) → run (andThen (f a) g) p ≡ run (h a) p) → run (andThen (andThen t f) g) p ≡ run (andThen t h) p
+line t f g h p e = run-assoc t f g p ∙ run-same t _ _ p e
+
+pub last : {A B : Type 0} (a : A) (g : A → Plan B) (p : List ℕ) → run (andThen (done a) g) p ≡ run (g a) p
+unfolding andThen
+last a g p = refl
 
 -- ---- the lines of a plan: what is reached, and what is checked there
 

@@ -1,7 +1,7 @@
 -- What only private contracts need: facts that hold of every version's constants.
 use Prim.Native.Nat.{_+_, _*_, _≤_}
 use Rattle.layout.specs.declared.Layout.{Layout}
-use Rattle.layout.specs.Versions.{runTimeAt, timeCount, runCountAt, headEnd, metricsEntry, nameOffsetAt, nameLengthAt, volumeEntry, traceEntry}
+use Rattle.layout.specs.Versions.{runTimeAt, timeCount, runCountAt, headEnd, metricsEntry, nameOffsetAt, nameLengthAt, volumeEntry, traceEntry, formRequired}
 
 pub record SoundLayout (l : Layout) : Type 0 where
   -- the head's fields that every version has end by H
@@ -19,3 +19,5 @@ pub record SoundLayout (l : Layout) : Type 0 where
   pub volume-fields : 36 ≤ volumeEntry l
   pub trace-entry : traceEntry l ≤ 12
   pub next : 4 ≤ traceEntry l
+  -- what tells the head form lies before the smallest H
+  pub form : formRequired l ≤ 88

@@ -3,7 +3,7 @@ ghost use mathlib.Core.Path.{_≡_};
 ghost use Prim.Native.Nat.{_<_, _^_};
 ghost use Rattle.lists.specs.Answer.{Answers};
 ghost use Rattle.layout.specs.Head.{entryOffset};
-ghost use Rattle.layout.specs.Versions.{layoutOf, versionNumber, versionOf, knownSaid};
+ghost use Rattle.layout.specs.Versions.{layoutOf, forms, formAt, formSaid, versionNumber, versionOf, knownSaid};
 
 // Offsets in the head.
 pub const VERSION_AT: usize = 0;
@@ -47,6 +47,7 @@ pub enum Version {
     V17,
     V23,
     V26,
+    V30,
 }
 
 // The version that a number names, if any.
@@ -69,7 +70,19 @@ pub struct Layout {
     pub name_offset_at: u16,
     pub name_length_at: u16,
     pub volume_entry: u16,
+    // The size of a trace entry, and whether its first field is a next index.
     pub trace_entry: u16,
+    pub has_next: bool,
+    // Where Windows starts the first section.
+    pub first_section: u16,
+    // How many bytes tell the head form; 0 where the version has one form.
+    pub form_required: u16,
+}
+
+// The layout of a head form, if it is known.
+pub enum KnownForm {
+    Known(Layout),
+    Unknown,
 }
 
 impl Layout {
@@ -83,6 +96,9 @@ impl Layout {
         name_length_at: 12,
         volume_entry: 40,
         trace_entry: 12,
+        has_next: true,
+        first_section: 152,
+        form_required: 0,
     };
 
     pub const V23: Layout = Layout {
@@ -95,6 +111,9 @@ impl Layout {
         name_length_at: 16,
         volume_entry: 104,
         trace_entry: 12,
+        has_next: true,
+        first_section: 240,
+        form_required: 0,
     };
 
     pub const V26: Layout = Layout {
@@ -107,8 +126,28 @@ impl Layout {
         name_length_at: 16,
         volume_entry: 104,
         trace_entry: 12,
+        has_next: true,
+        first_section: 304,
+        form_required: 0,
     };
 
+    // The one head form of version 30 that is known: that of version 26, with entries of its own.
+    pub const V30: Layout = Layout {
+        run_time_at: Layout::V26.run_time_at,
+        time_count: Layout::V26.time_count,
+        run_count_at: Layout::V26.run_count_at,
+        head_end: Layout::V26.head_end,
+        metrics_entry: Layout::V26.metrics_entry,
+        name_offset_at: Layout::V26.name_offset_at,
+        name_length_at: Layout::V26.name_length_at,
+        volume_entry: 96,
+        trace_entry: 8,
+        has_next: false,
+        first_section: Layout::V26.first_section,
+        form_required: 88,
+    };
+
+    // Of a version with several head forms, the one with the smallest H.
     pub fn of(version: Version) -> Layout
         ensures { λ r. ⌜ r ≡ layoutOf version ⌝ }
     {
@@ -116,7 +155,18 @@ impl Layout {
             Version::V17 => Layout::V17,
             Version::V23 => Layout::V23,
             Version::V26 => Layout::V26,
+            Version::V30 => Layout::V30,
         }
+    }
+
+    // The head form of version 30 whose metrics array starts there.
+    pub fn of_form(start: u32) -> KnownForm
+        ensures { λ r. ⌜ formSaid r ≡ formAt start forms ⌝ }
+    {
+        if start == Layout::V30.first_section as u32 {
+            return KnownForm::Known(Layout::V30);
+        }
+        KnownForm::Unknown
     }
 }
 
@@ -128,6 +178,7 @@ impl Version {
             Version::V17 => 17,
             Version::V23 => 23,
             Version::V26 => 26,
+            Version::V30 => 30,
         }
     }
 
@@ -138,6 +189,7 @@ impl Version {
             17 => KnownVersion::Known(Version::V17),
             23 => KnownVersion::Known(Version::V23),
             26 => KnownVersion::Known(Version::V26),
+            30 => KnownVersion::Known(Version::V30),
             _ => KnownVersion::Unknown,
         }
     }

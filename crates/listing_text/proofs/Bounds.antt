@@ -19,7 +19,7 @@ use Rattle.little_endian.specs.Number.{le}
 use Rattle.layout.specs.Head.{signatureAt}
 use Rattle.layout.specs.Versions.{layoutOf, headEnd, sizeLimit, versionNumber}
 use Rattle.layout.specs.declared.Version.{Version}
-use Rattle.layout.specs.declared.Version.the-variants.{V17, V23, V26}
+use Rattle.layout.specs.declared.Version.the-variants.{V17, V23, V26, V30}
 use Rattle.layout.specs.declared.Layout.{Layout}
 use Rattle.incremental.specs.Decision.{accept, refuse, refusal, faultAt, faultOf}
 use Rattle.incremental.specs.Plan.{Plan, andThen, reach, check, Answer, decided, wants, run}
@@ -29,7 +29,8 @@ use Rattle.incremental.specs.declared.Fault.the-variants.{At}
 use Rattle.incremental.proofs.Each.{Each, each-refuse, each-accept, each-done, each-reach, each-check, each-given, each-decide}
 use Rattle.volumes.proofs.Fair.{fair-volumes}
 use Rattle.sections.proofs.Name.{ends-at}
-use Rattle.sections.specs.Fields.{declaredSize, signatureFault, sizeFault, nameEnd, headOf, outsideFault, sharedFault, placesFault, entriesFault}
+use Rattle.sections.proofs.Cases.{links-low}
+use Rattle.sections.specs.Fields.{declaredSize, signatureFault, sizeFault, nameEnd, linkCount, headOf, outsideFault, sharedFault, placesFault, entriesFault}
 use Rattle.sections.specs.declared.Head.{Head}
 use Rattle.head.specs.Checks.{units}
 use Rattle.head.specs.Private.{OpenFacts}
@@ -38,7 +39,7 @@ use Rattle.names.specs.Names.{misfitFault, unsoundFault}
 use Rattle.trace.specs.Links as links
 use Rattle.trace.proofs.Steps.{length-nexts}
 use Rattle.reader.specs.Verdict.{Acceptable, Values, Reads, valuesOf, answerValues, acceptedValues}
-use Rattle.reader.specs.Checks.{opening, nextsIn, recordOf, readPlan, prefixAnswer, sized, sizeOf, whole, fileAnswer}
+use Rattle.reader.specs.Checks.{opening, traceRequired, nextsIn, recordOf, readPlan, prefixAnswer, sized, sizeOf, whole, fileAnswer}
 use Rattle.reader.specs.declared.verdict.Acceptance.{Acceptance}
 use Rattle.reader.specs.declared.verdict.Verdict.{Verdict}
 use Rattle.reader.specs.declared.verdict.Verdict.the-variants.{Accepted}
@@ -141,6 +142,7 @@ version-low : (v : Version) → versionNumber v < 100
 version-low V17 = omega arith
 version-low V23 = omega arith
 version-low V26 = omega arith
+version-low V30 = omega arith
 
 name-low : (b : List ℕ) (n : ℕ) → units (nameEnd b) ≡ some n → n < 30
 name-low b n e = go (nameEnd b) refl e
@@ -182,7 +184,7 @@ module _ (p : List ℕ) (m : ℕ) (h : Bytes p) where
       → Each SmallRecord SmallRefusal (run (andThen (reach k) f) p)
   wait k f h = each-reach SmallRecord SmallRefusal k f p (λ _. h)
 
-  -- the fifteen rows
+  -- all rows
   each-read : Each SmallRecord SmallRefusal (prefixAnswer p m)
   unfolding readPlan
   each-read =
@@ -190,8 +192,8 @@ module _ (p : List ℕ) (m : ℕ) (h : Bytes p) where
       wait 8 _ (line 2 _ _ (omega arith) (low-signature _)
       (wait 16 _ (line 3 _ _ (omega arith) (low-size _ _)
       (wait 76 _ (each-given SmallRecord SmallRefusal 4 _ _ _ p (small-at 4 0 _ (omega arith) (omega arith)) λ n e.
-      let l = layoutOf v in
-      let o = opening v n (headOf l (take (headEnd l) p)) in
+      wait _ _ (each-given SmallRecord SmallRefusal 21 _ _ _ p (small-at 21 0 _ (omega arith) (omega arith)) λ l _.
+      let o = opening v l n (headOf l (take (headEnd l) p)) in
       let c = low-head p l (headEnd l) h in
       wait (headEnd l) _ (line 5 _ _ (omega arith) (low-outside _ _)
       (line 6 _ _ (omega arith) (low-shared _)
@@ -200,9 +202,10 @@ module _ (p : List ℕ) (m : ℕ) (h : Bytes p) where
       (wait _ _ (line 9 _ _ (omega arith) (low-misfit _ _ _ _ _ (c .metrics))
       (wait _ _ (line 10 _ _ (omega arith) (low-unsound _ _ _ _ _ (c .metrics))
       (wait _ _
-      (let s = nextsIn o (take (o .head .trace .end) p) in
-      let k : length s ≡ o .head .trace .count = length-nexts _ _ _ in
-      let low : 0 + length s < 2 ^ 32 = omega (arith, c .trace) in
+      (let s = nextsIn o (take (traceRequired l (o .head)) p) in
+      let k : length s ≡ linkCount l (o .head) = length-nexts _ _ _ in
+      let few : linkCount l (o .head) < 2 ^ 32 = omega (arith, c .trace, links-low l (o .head)) in
+      let low : 0 + length s < 2 ^ 32 = omega arith in
       line 11 _ _ (omega arith) (low-from _ _ (length s) 0 low)
       (line 12 _ _ (omega arith) (low-from _ _ (length s) 0 low)
       (line 13 _ _ (omega arith) (low-from _ _ (length s) 0 low)
@@ -211,7 +214,7 @@ module _ (p : List ℕ) (m : ℕ) (h : Bytes p) where
       (fair-volumes SmallRefusal _ l _ _ 0
       (λ j _ b. (small-at 14 j _ (omega arith) (omega (arith, c .volumes)), small-at 15 j _ (omega arith) (omega (arith, c .volumes)))))
       (each-done SmallRecord SmallRefusal _ p
-      (record-small o (headEnd l) (links.chains s) c (name-low _ n e) (chains-low s _ k (c .trace))))))))))))))))))))))))
+      (record-small o (headEnd l) (links.chains s) c (name-low _ n e) (chains-low s _ k few))))))))))))))))))))))))
 
   -- the whole-file reader
   each-sized : (shorter longer : Bool) (x : Acceptable) → SmallFields (x .fields) → Each SmallRecord SmallRefusal (decided (sized shorter longer x))

@@ -14,7 +14,7 @@ use Rattle.lists.specs.Count.{pick}
 use Rattle.layout.specs.Versions.{metricsEntry, sizeLimit}
 use Rattle.layout.specs.Private.{SoundLayout}
 use Rattle.layout.specs.declared.Version.{Version}
-use Rattle.layout.specs.declared.Version.the-variants.{V17, V23, V26}
+use Rattle.layout.specs.declared.Version.the-variants.{V17, V23, V26, V30}
 use Rattle.layout.specs.declared.Layout.{Layout}
 use Rattle.path_hash.specs.Hash.{xp, vista, hash2008, wrapSub}
 use Rattle.path_search.proofs.Least.{least-same, pairs-same, least-at, least-is, least-not, by-number, hash-low}
@@ -49,7 +49,10 @@ module _ {v : Version} (numbers : List ℕ) {h : ℕ} where
   pub hash-26 : v ≡ V26 → h ≡ hash2008 numbers → h ≡ hashOf v numbers
   hash-26 ev e = rw ev e
 
-pub ruleset by-version = (hash-17, hash-23, hash-26)
+  pub hash-30 : v ≡ V30 → h ≡ hash2008 numbers → h ≡ hashOf v numbers
+  hash-30 ev e = rw ev e
+
+pub ruleset by-version = (hash-17, hash-23, hash-26, hash-30)
 
 -- ---- the difference to the stored hash
 pub difference : (stored hash n : ℕ) → stored < 2 ^ 32 → hash < 2 ^ 32 → n < 2 ^ 32 → (n + hash) % 2 ^ 32 ≡ stored → n ≡ wrapSub stored hash

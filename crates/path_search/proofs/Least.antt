@@ -17,7 +17,7 @@ use Rattle.lists.proofs.First.{first-at, first-is-at, first-is-nothing, first-n
 use Rattle.lists.specs.declared.Found.{Found}
 use Rattle.lists.specs.declared.Found.the-variants.{At, Nothing}
 use Rattle.layout.specs.declared.Version.{Version}
-use Rattle.layout.specs.declared.Version.the-variants.{V17, V23, V26}
+use Rattle.layout.specs.declared.Version.the-variants.{V17, V23, V26, V30}
 use Rattle.path_hash.specs.Hash.{step, plain, vista, xpEnd, magnitude, hash2008, wrapSub}
 use Rattle.path_hash.proofs.Laws.{vista-2008}
 use Rattle.path_search.specs.Search.{numberCount, hashOf, entryBy, pairBy, leastPair, pairsBelow}
@@ -217,3 +217,4 @@ hash-low V17 s =
     omega arith
 hash-low V23 s = plain-low s 314159 (lit< tt)
 hash-low V26 s = rw (← vista-2008 s) (plain-low s 314159 (lit< tt))
+hash-low V30 s = rw (← vista-2008 s) (plain-low s 314159 (lit< tt))

@@ -11,7 +11,7 @@ use Rattle.lists.specs.Those.{those}
 use Rattle.lists.specs.declared.Found.{Found}
 use Rattle.lists.specs.declared.Found.the-variants.{At, Nothing}
 use Rattle.layout.specs.declared.Version.{Version}
-use Rattle.layout.specs.declared.Version.the-variants.{V17, V23, V26}
+use Rattle.layout.specs.declared.Version.the-variants.{V17, V23, V26, V30}
 use Rattle.sections.specs.Fields.{storedHash}
 use Rattle.incremental.specs.Plan.{run}
 use Rattle.path_hash.specs.Hash.{xp, vista, hash2008}
@@ -27,11 +27,12 @@ use mathlib.Core.Path.{_≡_}
 abbrev pub numbersOf : List ℕ → List ℕ
 numbersOf name = name
 
--- the hash of a version: 17 uses XP, 23 Vista, 26 2008. The last two are equal on every list (request 108)
+-- the hash of a version: 17 uses XP, 23 Vista, 26 2008, and 30 what 26 uses. Vista and 2008 are equal on every list (request 108)
 abbrev pub hashOf : Version → List ℕ → ℕ
 hashOf V17 numbers = xp numbers
 hashOf V23 numbers = vista numbers
 hashOf V26 numbers = hash2008 numbers
+hashOf V30 numbers = hash2008 numbers
 
 -- a number from 0 to 8 (request 105; source document 001's /prefetch switch)
 abbrev pub numberCount : ℕ

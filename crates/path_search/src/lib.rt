@@ -32,6 +32,7 @@ fn name_hash(name: &[u8], version: Version) -> u32
         Version::V17 => path_hash::hash_xp_bytes(name),
         Version::V23 => path_hash::hash_vista_bytes(name),
         Version::V26 => path_hash::hash_2008_bytes(name),
+        Version::V30 => path_hash::hash_2008_bytes(name),
     }
 }
 

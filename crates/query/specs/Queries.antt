@@ -14,7 +14,7 @@ use Rattle.incremental.specs.declared.Fault.{Fault}
 use Rattle.incremental.specs.declared.Fault.the-variants.{At, Nowhere}
 use Rattle.incremental.specs.Decision.{Decision, accept, refuse}
 use Rattle.incremental.specs.Plan.{Answer, decided, wants, run}
-use Rattle.sections.specs.Fields.{part, entriesFault}
+use Rattle.sections.specs.Fields.{part, linkCount, entriesFault}
 use Rattle.head.specs.Checks.{startPlan, openPlan}
 use Rattle.head.specs.declared.checks.Opening.{Opening}
 use Rattle.names.specs.Names.{sound, nameAt, nameUnits}
@@ -44,9 +44,9 @@ bytesAt w p = take (w .len) (drop (w .at) p)
 abbrev pub ShownAt : RefT (List ℕ) → Place → RefT (List ℕ) → Type 0
 ShownAt file w r = IsPart file (w .at) (w .len) r
 
--- ---- the number of working places: checks 1 to 6 pass; a place for each trace entry
+-- ---- the number of working places: checks 1 to 6 pass; a place for each trace entry that has a next index
 abbrev pub placesNeeded : List ℕ → PlacesAnswer
-placesNeeded p = asked (run openPlan p) placesAnswer.Unknown (λ o. placesAnswer.Needed (o .head .trace .count))
+placesNeeded p = asked (run openPlan p) placesAnswer.Unknown (λ o. placesAnswer.Needed (linkCount (o .layout) (o .head)))
 
 -- what each case says: 1 for yes and 0 for no; the number, zero where the answer is no
 abbrev pub placesSaid : PlacesAnswer → Said

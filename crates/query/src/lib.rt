@@ -43,7 +43,7 @@ pub enum ReferenceAnswer {
     NotShown,
 }
 
-// Document 01: the working places that a file needs, one for each trace entry.
+// Document 01: the working places that a file needs, one for each trace entry that has a next index.
 pub enum PlacesAnswer {
     Needed(u32),
     Unknown,
@@ -54,7 +54,7 @@ pub fn places(file: &[u8]) -> PlacesAnswer
     ensures { λ r. ⌜ Answers placesSaid (placesNeeded (now (file .entry))) r ⌝ }
 {
     match head::read_open(file) {
-        OpenAnswer::Opened(o) => PlacesAnswer::Needed(o.head.trace.count),
+        OpenAnswer::Opened(o) => PlacesAnswer::Needed(sections::link_count(o.layout, o.head)),
         OpenAnswer::Refused(_) => PlacesAnswer::Unknown,
         OpenAnswer::Wanted(_) => PlacesAnswer::Unknown,
     }

@@ -8,15 +8,14 @@ use borrow.Author.Tests.{eq-eqb}
 use lib.Dec.{eqb}
 use lib.ListN.{length}
 use Rattle.lists.specs.Count.{pick}
-use Rattle.layout.specs.Versions.{headEnd}
-use Rattle.layout.specs.Private.{SoundLayout}
+use Rattle.layout.specs.Versions.{layoutOf, headEnd}
 use Rattle.layout.proofs.Laws.{layout-sound}
 use Rattle.incremental.specs.Plan.{Answer}
-use Rattle.sections.specs.Fields.{declaredSize, headOf, sizeIn}
+use Rattle.sections.specs.Fields.{declaredSize, linkCount, headOf, sizeIn}
 use Rattle.head.specs.Rules.{Within}
 use Rattle.head.specs.Private.{OpenFacts}
 use Rattle.head.proofs.Rules.{signature-law, outside-law, shares-law}
-use Rattle.head.proofs.Facts.{Shapes, head-shapes, open-sound}
+use Rattle.head.proofs.Facts.{Shapes, head-shapes, open-sound, form-facts}
 use Rattle.sections.specs.declared.Section.{Section}
 use Rattle.sections.specs.declared.Head.{Head}
 use Rattle.head.specs.declared.checks.Opening.{Opening}
@@ -42,23 +41,29 @@ pub opens : (p : List ℕ) (o : Opening) → Allowed p o → OpenFacts p o
 unfolding headOf
 opens p o a =
     let h = headEnd (o .layout) in
-    let sound : SoundLayout (o .layout) = rw (a .layout) (layout-sound (o .version)) in
+    let found = form-facts (layoutOf (o .version)) (o .layout) p (a .form) (layout-sound (o .version)) (a .least) in
+    let sound = found .0 in
+    let low = found .1 in
+    let first = layout-sound (o .version) in
     let b = sound .fixed in
     let g : Shapes (o .layout) (o .head) = rw (a .sections) (head-shapes (o .layout) p) in
     let size : sizeIn (o .head) ≡ declaredSize p = ap (λ (x : Head). sizeIn x) (a .sections) in
-    let l : h ≤ sizeIn (o .head) = rw size (a .least) in
+    let l : h ≤ sizeIn (o .head) = rw size low in
     record {
       start =
           record {
-            laid = a .layout;
+            laid = refl;
             least = a .least;
             most = a .most;
             known = a .version;
-            ended = name-ends p (o .«name_units») (omega (arith, b, a .least, a .complete)) .1 (a .name);
-            named = omega (arith, b, a .least, a .complete);
+            ended = name-ends p (o .«name_units») (omega (arith, b, low, a .complete)) .1 (a .name);
+            named = omega (arith, b, low, a .complete);
             signed = signature-law p .1 (a .signature);
           };
-      whole = omega (arith, a .least, a .complete);
+      told = omega (arith, first .form, first .fixed, a .least, a .complete);
+      formed = a .form;
+      least = low;
+      whole = omega (arith, low, a .complete);
       fields = a .sections ∙ sym (head-take (o .layout) p sound);
       inside = outside-law (o .layout) (o .head) .1 (a .inside);
       apart = shares-law (o .head) .1 (a .apart);
@@ -69,7 +74,7 @@ opens p o a =
     }
 
 -- and so do checks 7 to 15
-passes : (m : ℕ) (p : List ℕ) (o : Opening) → Allowed p o → o .head .trace .count ≤ m
+passes : (m : ℕ) (p : List ℕ) (o : Opening) → Allowed p o → linkCount (o .layout) (o .head) ≤ m
     → RestFacts m p o (record { fields = givenRecord o p; table = givenTable o p m })
 passes m p o a l =
     record {
@@ -87,11 +92,11 @@ allowed : (m : ℕ) (p : List ℕ) (o : Opening) (x : Acceptable) → length p �
 allowed m p o x c f r =
     record {
       version = f .start .known;
-      layout = f .start .laid;
       signature = signature-law p .0 (f .start .signed);
       least = f .start .least;
       most = f .start .most;
       complete = c;
+      form = f .formed;
       name = name-ends p (o .«name_units») (f .start .named) .0 (f .start .ended);
       sections = f .fields ∙ head-take (o .layout) p (open-sound p o f);
       inside = outside-law (o .layout) (o .head) .0 (f .inside);
@@ -114,7 +119,7 @@ pub demand-2 : (p buffer : List ℕ) (v : Verdict) (after : List ℕ) → ReadsF
 demand-2 p buffer v after r = record { sound = is-allowed; complete = is-accepted }
   where
     is-allowed : (a : Acceptance) → v ≡ Accepted a
-        → (o : Opening) × Allowed p o × (o .head .trace .count ≤ length buffer) × (a ≡ givenRecord o p) × (after ≡ givenTable o p (length buffer))
+        → (o : Opening) × Allowed p o × (linkCount (o .layout) (o .head) ≤ length buffer) × (a ≡ givenRecord o p) × (after ≡ givenTable o p (length buffer))
     is-allowed a e =
         let m = length buffer in
         let y = accepted-answer (fileAnswer p m) a (ap valuesOf (sym e) ∙ r .verdict) in
@@ -131,7 +136,7 @@ demand-2 p buffer v after r = record { sound = is-allowed; complete = is-accepte
           r .buffer ∙ ap (λ (z : Answer Acceptable). bufferAfter z m) (y .1) ∙ g .table,
         )
 
-    is-accepted : (o : Opening) → Allowed p o → o .head .trace .count ≤ length buffer
+    is-accepted : (o : Opening) → Allowed p o → linkCount (o .layout) (o .head) ≤ length buffer
         → (v ≡ Accepted (givenRecord o p)) × (after ≡ givenTable o p (length buffer))
     is-accepted o a l =
         let m = length buffer in

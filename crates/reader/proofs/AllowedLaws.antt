@@ -12,13 +12,14 @@ use lib.Dec.{eqb, ltb}
 use lib.ListN.{length, take}
 use lib.Seq.{length-take-le}
 use Rattle.lists.specs.First.{firstFrom}
+use Rattle.lists.specs.Table.{tabulate}
 use Rattle.lists.proofs.First.{first-nothing, first-is-nothing}
 use Rattle.lists.specs.Count.{pick, count}
 use Rattle.lists.proofs.Count.{count-yes, count-no, count-zero, true-false}
 use Rattle.lists.specs.declared.Found.the-variants as found
 use Rattle.little_endian.specs.Number.{le}
 use Rattle.little_endian.proofs.Number.{le-take}
-use Rattle.layout.specs.Versions.{headEnd, runTimeAt, timeCount, runCountAt, volumeEntry}
+use Rattle.layout.specs.Versions.{headEnd, runTimeAt, timeCount, runCountAt, volumeEntry, traceEntry, hasNext}
 use Rattle.layout.specs.Private.{SoundLayout}
 use Rattle.layout.specs.declared.Layout.{Layout}
 use Rattle.incremental.specs.Decision.{Decision, accept, refuse, faultOf}
@@ -27,9 +28,9 @@ use Rattle.incremental.proofs.Plan.{run-then, reach-here, check-passed, Holds, 
 use Rattle.incremental.proofs.Decision.{fault-nothing}
 use Rattle.incremental.specs.declared.Fault.{Fault}
 use Rattle.incremental.specs.declared.Fault.the-variants.{Nowhere}
-use Rattle.sections.specs.Fields.{declaredSize, headOf, part, nameEnd, placesFault, entriesFault}
+use Rattle.sections.specs.Fields.{declaredSize, headOf, part, nameEnd, linkCount, placesFault, entriesFault}
 use Rattle.sections.proofs.Name.{ends-at}
-use Rattle.sections.proofs.Cases.{places-met, entries-met, places-enough, entries-fit}
+use Rattle.sections.proofs.Cases.{links-low, places-met, entries-met, places-enough, entries-fit}
 use Rattle.head.specs.Checks.{openPlan}
 use Rattle.head.specs.Private.{OpenFacts}
 use Rattle.head.specs.Rules.{NameEnds}
@@ -38,7 +39,7 @@ use Rattle.head.proofs.Facts.{open-facts, open-complete, open-sound, open-shape
 use Rattle.head.specs.declared.checks.Opening.{Opening}
 use Rattle.names.specs.Names.{nameAt, nameUnits, misfitFault, unsoundFault, SoundName}
 use Rattle.names.proofs.Laws.{sound-name, le-fits}
-use Rattle.trace.specs.Links.{end, after, Cyclic, cyclic, namers, shared, astray, astrayFault, sharedFault, cyclicFault, chains, predecessors, linkChecks}
+use Rattle.trace.specs.Links.{end, nexts, after, Cyclic, cyclic, namers, shared, astray, astrayFault, sharedFault, cyclicFault, chains, predecessors, linkChecks}
 use Rattle.trace.proofs.Steps.{length-nexts}
 use Rattle.trace.proofs.Accepted.{accepted, astray-end, astray-below}
 use Rattle.trace.proofs.Cycles.{cycle-law}
@@ -47,11 +48,11 @@ use Rattle.volumes.specs.SoundVolume.{SoundVolume}
 use Rattle.volumes.proofs.SoundVolume.{volumes-sound}
 use Rattle.reader.specs.declared.verdict.Acceptance.{Acceptance}
 use Rattle.reader.specs.Verdict.{Acceptable}
-use Rattle.reader.specs.Checks.{nextsIn, linkAt, timeAt, recordOf, volumesRequired, namesRequired, readPlan, prefixAnswer, sizeOf, sized, whole}
+use Rattle.reader.specs.Checks.{nextsIn, linkAt, timeAt, recordOf, traceRequired, volumesRequired, namesRequired, readPlan, prefixAnswer, sizeOf, sized, whole}
 use Rattle.reader.specs.Private.{fitsPlan, textsPlan, tracePlan, volumesPlan, EntriesFit, tablesPlan, restPlan}
 use Rattle.reader.proofs.Opens.{read-opens}
 use Rattle.reader.proofs.Stages.{answer-then}
-use Rattle.reader.proofs.Early.{names-required-low, volumes-required-low}
+use Rattle.reader.proofs.Early.{names-required-low, trace-required-low, volumes-required-low}
 
 -- ---- the head's fields lie before H
 
@@ -197,11 +198,11 @@ module _ (p : List ℕ) (o : Opening) (f : OpenFacts p o) where
   metrics-take : (k : ℕ) → o .head .metrics .end ≤ k → part (o .head .metrics) (take k p) ≡ part (o .head .metrics) p
   metrics-take k l = part-take (o .head .metrics) (headEnd (o .layout)) k p (open-shapes p o f .metrics-end) l
 
-  misfit-take : misfitIn (take (o .head .metrics .end) p) ≡ misfitIn p
+  pub misfit-take : misfitIn (take (o .head .metrics .end) p) ≡ misfitIn p
   misfit-take = rw (metrics-take (o .head .metrics .end) (le-refl _))
 
   -- with no metrics entry nothing is looked at
-  unsound-take : unsoundIn (take (namesRequired (o .layout) (o .head)) p) ≡ unsoundIn p
+  pub unsound-take : unsoundIn (take (namesRequired (o .layout) (o .head)) p) ≡ unsoundIn p
   unfolding unsoundFault firstFrom
   unsound-take = go (ℕ-discrete (o .head .metrics .count) 0)
     where
@@ -215,10 +216,18 @@ module _ (p : List ℕ) (o : Opening) (f : OpenFacts p o) where
             part-take (o .head .strings) (headEnd (o .layout)) k p (open-shapes p o f .strings-end) (omega (arith, r)),
           )
 
-  trace-take : part (o .head .trace) (take (o .head .trace .end) p) ≡ part (o .head .trace) p
-  trace-take = part-take (o .head .trace) (headEnd (o .layout)) (o .head .trace .end) p (open-shapes p o f .trace-end) (le-refl _)
+  -- with no next index nothing is looked at
+  pub nexts-take : nextsIn o (take (traceRequired (o .layout) (o .head)) p) ≡ nextsIn o p
+  unfolding linkCount nexts tabulate
+  nexts-take = go (hasNext (o .layout))
+    where
+      go : (b : Bool)
+          → nexts (part (o .head .trace) (take (pick b (o .head .trace .end) (headEnd (o .layout))) p)) (traceEntry (o .layout)) (pick b (o .head .trace .count) 0)
+          ≡ nexts (part (o .head .trace) p) (traceEntry (o .layout)) (pick b (o .head .trace .count) 0)
+      go true = rw (part-take (o .head .trace) (headEnd (o .layout)) (o .head .trace .end) p (open-shapes p o f .trace-end) (le-refl _))
+      go false = refl
 
-  volumes-take : volumesIn (take (volumesRequired (o .layout) (o .head)) p) ≡ volumesIn p
+  pub volumes-take : volumesIn (take (volumesRequired (o .layout) (o .head)) p) ≡ volumesIn p
   unfolding volumesFrom
   volumes-take = go (ℕ-discrete (o .head .volumes .count) 0)
     where
@@ -241,13 +250,16 @@ module _ (p : List ℕ) (o : Opening) (f : OpenFacts p o) where
       go false q e =
           omega (arith, open-shapes p o f .trace-len, mul-le-mul-left (o .head .trace .count) (open-sound p o f .next), f .trace, f .start .most)
 
+  pub links-few : linkCount (o .layout) (o .head) ≤ end
+  links-few = le-trans (links-low (o .layout) (o .head)) trace-few
+
 -- ---- what checks 7 to 15 accept
 pub record RestFacts (m : ℕ) (p : List ℕ) (o : Opening) (x : Acceptable) : Type 0 where
-  pub places : o .head .trace .count ≤ m
+  pub places : linkCount (o .layout) (o .head) ≤ m
   pub entries : EntriesFit o
   pub names : (i : ℕ) → i < o .head .metrics .count
       → SoundName (part (o .head .strings) p) (nameAt (o .layout) (part (o .head .metrics) p) i) (nameUnits (o .layout) (part (o .head .metrics) p) i)
-  pub free : Free (nextsIn o p) (o .head .trace .count)
+  pub free : Free (nextsIn o p) (linkCount (o .layout) (o .head))
   pub volumes : (i : ℕ) → i < o .head .volumes .count → SoundVolume (part (o .head .volumes) p) (entryAt (o .layout) i)
   -- what they give
   pub fields : x .fields ≡ recordOf o p (chains (nextsIn o p))
@@ -279,9 +291,9 @@ module _ (m : ℕ) (p : List ℕ) (o : Opening) (f : OpenFacts p o) where
   trace-hold : Holds (λ t. (t ≡ nextsIn o p) × (linkChecks (linkAt o) (nextsIn o p) ≡ accept (chains (nextsIn o p)))) (run (tracePlan o) p)
   unfolding tracePlan
   trace-hold =
-      let s = nextsIn o (take (o .head .trace .end) p) in
-      let same : s ≡ nextsIn o p = rw (trace-take p o f) in
-      holds-reach (o .head .trace .end) _ p _ λ _.
+      let s = nextsIn o (take (traceRequired (o .layout) (o .head)) p) in
+      let same : s ≡ nextsIn o p = nexts-take p o f in
+      holds-reach (traceRequired (o .layout) (o .head)) _ p _ λ _.
       holds-check _ 11 (astrayFault (linkAt o) s) _ p λ a.
       holds-check _ 12 (sharedFault (linkAt o) s) _ p λ b.
       holds-check _ 13 (cyclicFault (linkAt o) s) _ p λ c.
@@ -298,7 +310,7 @@ module _ (m : ℕ) (p : List ℕ) (o : Opening) (f : OpenFacts p o) where
   unfolding restPlan tablesPlan
   rest-facts =
       holds-reach (headEnd (o .layout)) _ p _ λ _.
-      holds-check _ 7 (placesFault m (o .head .trace .count)) _ p λ e7.
+      holds-check _ 7 (placesFault m (linkCount (o .layout) (o .head))) _ p λ e7.
       holds-check _ 8 (entriesFault (o .head .volumes .count) (volumeEntry (o .layout)) (o .head .volumes .len)) _ p λ e8.
       holds-then _ (fitsPlan o) _ p λ _ _.
       holds-then _ (textsPlan o) _ p λ u e10.
@@ -308,7 +320,7 @@ module _ (m : ℕ) (p : List ℕ) (o : Opening) (f : OpenFacts p o) where
       (accepts t (places-met _ _ _ refl e7) (entries-met _ _ _ _ refl e8) (texts-hold .holds u e10) (trace-hold .holds t e11) (volumes-hold .holds w e14))
     where
       accepts : (t : List ℕ)
-          → o .head .trace .count ≤ m
+          → linkCount (o .layout) (o .head) ≤ m
           → EntriesFit o
           → unsoundIn p o f p ≡ Nowhere
           → (t ≡ nextsIn o p) × (linkChecks (linkAt o) (nextsIn o p) ≡ accept (chains (nextsIn o p)))
@@ -320,7 +332,7 @@ module _ (m : ℕ) (p : List ℕ) (o : Opening) (f : OpenFacts p o) where
             places = places;
             entries = entries;
             names = names-found names;
-            free = free s _ (length-nexts _ _ _) (trace-few p o f) (linkAt o) (chains s) (links .1);
+            free = free s _ (length-nexts _ _ _) (links-few p o f) (linkAt o) (chains s) (links .1);
             volumes = volumes-sound _ _ _ _ .0 volumes;
             fields = record-take o p (chains t) (open-sound p o f) ∙ ap (λ (x : List ℕ). recordOf o p (chains x)) (links .0);
             table = ap (λ (x : List ℕ). predecessors x m) (links .0);
@@ -352,9 +364,9 @@ module _ (m : ℕ) (p : List ℕ) (o : Opening) (f : OpenFacts p o) where
     trace-complete : run (tracePlan o) p ≡ decided (accept (nextsIn o p))
     unfolding tracePlan run
     trace-complete =
-        let c = free-clear (nextsIn o p) _ (length-nexts _ _ _) (trace-few p o f) (linkAt o) (r .free) in
-        reach-here (o .head .trace .end) _ p (le-trans (f .trace) d)
-        ∙ rw (trace-take p o f) (check-passed 11 _ _ p (c .0) ∙ check-passed 12 _ _ p (c .1) ∙ check-passed 13 _ _ p (c .2))
+        let c = free-clear (nextsIn o p) _ (length-nexts _ _ _) (links-few p o f) (linkAt o) (r .free) in
+        reach-here (traceRequired (o .layout) (o .head)) _ p (le-trans (trace-required-low p o f) d)
+        ∙ rw (nexts-take p o f) (check-passed 11 _ _ p (c .0) ∙ check-passed 12 _ _ p (c .1) ∙ check-passed 13 _ _ p (c .2))
 
     volumes-complete : run (volumesPlan o) p ≡ decided (accept tt)
     unfolding volumesPlan run andThen
@@ -378,7 +390,7 @@ module _ (m : ℕ) (p : List ℕ) (o : Opening) (f : OpenFacts p o) where
     unfolding restPlan
     rest-complete =
         reach-here (headEnd (o .layout)) _ p (f .whole)
-        ∙ check-passed 7 _ _ p (sym (places-enough m (o .head .trace .count) (r .places)))
+        ∙ check-passed 7 _ _ p (sym (places-enough m (linkCount (o .layout) (o .head)) (r .places)))
         ∙ check-passed 8 _ _ p (sym (entries-fit (o .head .volumes .count) (volumeEntry (o .layout)) (o .head .volumes .len) (r .entries)))
         ∙ tables-complete
 

@@ -1,6 +1,7 @@
 -- DEMAND 3, the proof: what the prefix reader accepts or refuses early stands, since a plan sees no byte beyond what it has reached; and no
 -- required length exceeds the greater of sixteen and S.
 use mathlib.Core.Path.{_≡_, refl, sym, _∙_, ap, subst⁻¹}
+use mathlib.Core.Bool.{Bool, true, false}
 use mathlib.Core.List.{List}
 use Prim.Native.Nat.{ℕ, _≤_}
 use native.Mathlib.Nat.{le-trans}
@@ -10,12 +11,13 @@ use borrow.Author.Tests.{eq-eqb, ne-eqb}
 use lib.ListN.{length, take}
 use lib.Seq.{length-take-le, take-length}
 use Rattle.little_endian.proofs.Number.{le-take}
-use Rattle.layout.specs.Versions.{headEnd, volumeEntry}
+use Rattle.lists.specs.Count.{pick}
+use Rattle.layout.specs.Versions.{headEnd, volumeEntry, hasNext}
 use Rattle.incremental.specs.Decision.{Decision}
 use Rattle.incremental.specs.Plan.{decide, Answer, decided, wants, run}
 use Rattle.incremental.proofs.Plan.{stands, begins-take, Decided, decided-decide, decided-reach, decided-check, decided-then}
 use Rattle.incremental.specs.declared.Refusal.{Refusal}
-use Rattle.sections.specs.Fields.{declaredSize, part, placesFault, entriesFault}
+use Rattle.sections.specs.Fields.{declaredSize, part, linkCount, placesFault, entriesFault}
 use Rattle.head.specs.Checks.{openPlan}
 use Rattle.head.specs.Private.{OpenFacts}
 use Rattle.head.proofs.Facts.{open-facts, decided-open}
@@ -28,7 +30,7 @@ use Rattle.reader.specs.declared.verdict.Verdict.{Verdict}
 use Rattle.reader.specs.declared.verdict.Verdict.the-variants.{Accepted, Refused, Wanted}
 use Rattle.reader.specs.Verdict.{Acceptable, Reads, valuesOf, answerValues, wantedValues, bufferAfter}
 use Rattle.reader.proofs.Values.{same-values, wanted-answer}
-use Rattle.reader.specs.Checks.{nextsIn, linkAt, volumesRequired, namesRequired, readPlan, prefixAnswer, ReadsPrefix}
+use Rattle.reader.specs.Checks.{nextsIn, linkAt, traceRequired, volumesRequired, namesRequired, readPlan, prefixAnswer, ReadsPrefix}
 use Rattle.reader.specs.Private.{fitsPlan, textsPlan, tracePlan, volumesPlan, tablesPlan, restPlan}
 use Rattle.reader.proofs.Opens.{read-opens}
 use Rattle.reader.specs.Early.{EarlyStands}
@@ -39,14 +41,21 @@ pub names-required-low : (p : List ℕ) (o : Opening) → OpenFacts p o → name
 names-required-low p o f = go (ℕ-discrete (o .head .metrics .count) 0)
   where
     go : Dec (o .head .metrics .count ≡ 0) → namesRequired (o .layout) (o .head) ≤ declaredSize p
-    go (yes z) = rw (eq-eqb _ _ z) (f .start .least)
+    go (yes z) = rw (eq-eqb _ _ z) (f .least)
     go (no z) = rw (ne-eqb _ _ z) (omega (arith, f .metrics, f .strings))
+
+pub trace-required-low : (p : List ℕ) (o : Opening) → OpenFacts p o → traceRequired (o .layout) (o .head) ≤ declaredSize p
+trace-required-low p o f = go (hasNext (o .layout))
+  where
+    go : (b : Bool) → pick b (o .head .trace .end) (headEnd (o .layout)) ≤ declaredSize p
+    go true = f .trace
+    go false = f .least
 
 pub volumes-required-low : (p : List ℕ) (o : Opening) → OpenFacts p o → volumesRequired (o .layout) (o .head) ≤ declaredSize p
 volumes-required-low p o f = go (ℕ-discrete (o .head .volumes .count) 0)
   where
     go : Dec (o .head .volumes .count ≡ 0) → volumesRequired (o .layout) (o .head) ≤ declaredSize p
-    go (yes z) = rw (eq-eqb _ _ z) (f .start .least)
+    go (yes z) = rw (eq-eqb _ _ z) (f .least)
     go (no z) = rw (ne-eqb _ _ z) (f .volumes)
 
 module _ (p : List ℕ) (o : Opening) (f : OpenFacts p o) (d : declaredSize p ≤ length p) where
@@ -68,8 +77,8 @@ module _ (p : List ℕ) (o : Opening) (f : OpenFacts p o) (d : declaredSize p �
   decided-trace : Decided (run (tracePlan o) p)
   unfolding tracePlan
   decided-trace =
-      let s = nextsIn o (take (o .head .trace .end) p) in
-      decided-reach (o .head .trace .end) _ p (le-trans (f .trace) d)
+      let s = nextsIn o (take (traceRequired (o .layout) (o .head)) p) in
+      decided-reach (traceRequired (o .layout) (o .head)) _ p (le-trans (trace-required-low p o f) d)
       (decided-check 11 (astrayFault (linkAt o) s) _ p λ _.
       decided-check 12 (sharedFault (linkAt o) s) _ p λ _.
       decided-check 13 (cyclicFault (linkAt o) s) _ p λ _.
@@ -87,7 +96,7 @@ module _ (p : List ℕ) (o : Opening) (f : OpenFacts p o) (d : declaredSize p �
   unfolding restPlan tablesPlan
   decided-rest m =
       decided-reach (headEnd (o .layout)) _ p (f .whole)
-      (decided-check 7 (placesFault m (o .head .trace .count)) _ p λ _.
+      (decided-check 7 (placesFault m (linkCount (o .layout) (o .head))) _ p λ _.
       decided-check 8 (entriesFault (o .head .volumes .count) (volumeEntry (o .layout)) (o .head .volumes .len)) _ p λ _.
       decided-then (fitsPlan o) _ p decided-fits λ _ _.
       decided-then (textsPlan o) _ p decided-texts λ _ _.

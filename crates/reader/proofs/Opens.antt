@@ -7,10 +7,11 @@ use Prim.Native.Nat.{ℕ, _≤_}
 use lib.Dec.{leb}
 use lib.ListN.{length, take}
 use borrow.Author.Tests.{leb-true, leb-false}
-use Rattle.layout.specs.Versions.{headEnd, volumeEntry}
+use Rattle.layout.specs.Head.{metricsOffsetAt}
+use Rattle.layout.specs.Versions.{headEnd, volumeEntry, formRequired}
 use Rattle.incremental.specs.Plan.{Plan, decide, run, andThen, reach, check, given, done, _>>=_, _>>_}
-use Rattle.incremental.proofs.Plan.{run-assoc, run-same, reach-here, reach-short}
-use Rattle.sections.specs.Fields.{headOf, part, outsideFault, sharedFault, placesFault, entriesFault}
+use Rattle.incremental.proofs.Plan.{run-same, line, last, reach-here, reach-short}
+use Rattle.sections.specs.Fields.{headOf, part, formIn, linkCount, outsideFault, sharedFault, placesFault, entriesFault}
 use Rattle.names.specs.Names.{misfitFault, unsoundFault}
 use Rattle.trace.specs.Links as links
 use Rattle.trace.specs.Links.{astrayFault, cyclicFault, chains, predecessors}
@@ -20,18 +21,8 @@ use Rattle.head.specs.Private.{sectionPlan}
 use Rattle.head.specs.declared.checks.Start.{Start}
 use Rattle.head.specs.declared.checks.Opening.{Opening}
 use Rattle.reader.specs.Verdict.{Acceptable}
-use Rattle.reader.specs.Checks.{namesRequired, volumesRequired, nextsIn, linkAt, recordOf, readPlan}
+use Rattle.reader.specs.Checks.{namesRequired, traceRequired, volumesRequired, nextsIn, linkAt, recordOf, readPlan}
 use Rattle.reader.specs.Private.{fitsPlan, textsPlan, tracePlan, volumesPlan, tablesPlan, restPlan}
-
--- a line of a plan whose later lines are themselves bracketed
-line : {A B C : Type 0} (t : Plan A) (f : A → Plan B) (g : B → Plan C) (h : A → Plan C) (p : List ℕ) → ((a : A) → run (andThen (f a) g) p ≡ run (h a) p)
-    → run (andThen (andThen t f) g) p ≡ run (andThen t h) p
-line t f g h p e = run-assoc t f g p ∙ run-same t _ _ p e
-
--- the last line
-last : {A B : Type 0} (a : A) (g : A → Plan B) (p : List ℕ) → run (andThen (done a) g) p ≡ run (g a) p
-unfolding andThen
-last a g p = refl
 
 -- bytes that were reached may be reached again, after two checks on them
 again : {B : Type 0} (k : ℕ) (c d : List ℕ → Plan Unit) (g : List ℕ → List ℕ → Plan B) (p : List ℕ)
@@ -65,12 +56,12 @@ in-line-10 o g p = line (reach (namesRequired (o .layout) (o .head))) _ g _ p (�
 
 in-line-11 : {B : Type 0} (o : Opening) (g : List ℕ → Plan B) (p : List ℕ)
     → run (tracePlan o >>= g) p
-    ≡ run (reach (o .head .trace .end) >>= λ b.
+    ≡ run (reach (traceRequired (o .layout) (o .head)) >>= λ b.
     check 11 (astrayFault (linkAt o) (nextsIn o b))
     >> (check 12 (links.sharedFault (linkAt o) (nextsIn o b)) >> (check 13 (cyclicFault (linkAt o) (nextsIn o b)) >> g (nextsIn o b)))) p
 unfolding tracePlan
 in-line-11 o g p =
-    line (reach (o .head .trace .end)) _ g _ p λ b.
+    line (reach (traceRequired (o .layout) (o .head))) _ g _ p λ b.
     line (check 11 _) _ g _ p λ _.
     line (check 12 _) _ g _ p λ _.
     line (check 13 _) _ g _ p λ _.
@@ -92,7 +83,7 @@ fromNine m o top = do
   check 9 (misfitFault (o .layout) (o .head .metrics .at) (part (o .head .metrics) b) (o .head .metrics .count) (o .head .strings .len))
   b ← reach (namesRequired (o .layout) (o .head))
   check 10 (unsoundFault (o .layout) (o .head .metrics .at) (part (o .head .metrics) b) (o .head .metrics .count) (part (o .head .strings) b))
-  b ← reach (o .head .trace .end)
+  b ← reach (traceRequired (o .layout) (o .head))
   check 11 (astrayFault (linkAt o) (nextsIn o b))
   check 12 (links.sharedFault (linkAt o) (nextsIn o b))
   check 13 (cyclicFault (linkAt o) (nextsIn o b))
@@ -111,7 +102,7 @@ tables-in-line m o top p =
     ∙ run-same (reach (namesRequired (o .layout) (o .head))) _ _ p λ b.
     run-same (check 10 _) _ _ p λ _.
     in-line-11 o _ p
-    ∙ run-same (reach (o .head .trace .end)) _ _ p λ b.
+    ∙ run-same (reach (traceRequired (o .layout) (o .head))) _ _ p λ b.
     run-same (check 11 _) _ _ p λ _.
     run-same (check 12 _) _ _ p λ _.
     run-same (check 13 _) _ _ p λ _.
@@ -125,7 +116,7 @@ fromFive m s = do
   top ← reach (headEnd (s .layout))
   check 5 (outsideFault (s .layout) (headOf (s .layout) top))
   check 6 (sharedFault (headOf (s .layout) top))
-  check 7 (placesFault m (openingOf s top .head .trace .count))
+  check 7 (placesFault m (linkCount (s .layout) (headOf (s .layout) top)))
   check 8 (entriesFault (openingOf s top .head .volumes .count) (volumeEntry (s .layout)) (openingOf s top .head .volumes .len))
   fromNine m (openingOf s top) top
 
@@ -144,21 +135,38 @@ sections-in-line m s p =
     run-same (check 8 _) _ _ p λ _.
     tables-in-line m (openingOf s top) top p
 
--- ---- all fifteen
+-- ---- all of them
 
-start-in-line : (m : ℕ) (p : List ℕ) → run (startPlan >>= fromFive m) p ≡ run (readPlan m) p
+-- 21, and 5 to 15 with the layout of the head form
+abbrev fromForm : ℕ → Start → Plan Acceptable
+fromForm m s = do
+  b ← reach (formRequired (s .layout))
+  l ← given 21 metricsOffsetAt (formIn (s .layout) b)
+  fromFive m (record { version = s .version; layout = l; «name_units» = s .«name_units» })
+
+start-in-line : (m : ℕ) (p : List ℕ) → run (startPlan >>= fromForm m) p ≡ run (readPlan m) p
 unfolding startPlan readPlan
 start-in-line m p =
-    line (reach 4) _ (fromFive m) _ p λ _.
-    line (given 1 _ _) _ (fromFive m) _ p λ v.
-    line (reach 8) _ (fromFive m) _ p λ _.
-    line (check 2 _) _ (fromFive m) _ p λ _.
-    line (reach 16) _ (fromFive m) _ p λ _.
-    line (check 3 _) _ (fromFive m) _ p λ _.
-    line (reach 76) _ (fromFive m) _ p λ _.
-    line (given 4 _ _) _ (fromFive m) _ p λ n.
-    last _ (fromFive m) p
+    line (reach 4) _ (fromForm m) _ p λ _.
+    line (given 1 _ _) _ (fromForm m) _ p λ v.
+    line (reach 8) _ (fromForm m) _ p λ _.
+    line (check 2 _) _ (fromForm m) _ p λ _.
+    line (reach 16) _ (fromForm m) _ p λ _.
+    line (check 3 _) _ (fromForm m) _ p λ _.
+    line (reach 76) _ (fromForm m) _ p λ _.
+    line (given 4 _ _) _ (fromForm m) _ p λ n.
+    last _ (fromForm m) p
+
+-- what follows checks 1 to 4, with the last line of checks 1 to 6 bracketed first
+opening-in-line : (m : ℕ) (s : Start) (p : List ℕ)
+    → run ((reach (formRequired (s .layout)) >>= λ b. given 21 metricsOffsetAt (formIn (s .layout) b) >>= λ l.
+    sectionPlan (record { version = s .version; layout = l; «name_units» = s .«name_units» })) >>= restPlan m) p
+    ≡ run (fromForm m s) p
+opening-in-line m s p =
+    line (reach (formRequired (s .layout))) _ (restPlan m) _ p λ b.
+    line (given 21 metricsOffsetAt (formIn (s .layout) b)) _ (restPlan m) _ p λ l.
+    sections-in-line m (record { version = s .version; layout = l; «name_units» = s .«name_units» }) p
 
 pub read-opens : (m : ℕ) (p : List ℕ) → run (openPlan >>= restPlan m) p ≡ run (readPlan m) p
 unfolding openPlan sectionPlan
-read-opens m p = line startPlan sectionPlan (restPlan m) (fromFive m) p (λ s. sections-in-line m s p) ∙ start-in-line m p
+read-opens m p = line startPlan _ (restPlan m) (fromForm m) p (λ s. opening-in-line m s p) ∙ start-in-line m p

@@ -20,7 +20,7 @@ use Rattle.incremental.specs.declared.Checked.{Checked}
 use Rattle.incremental.specs.declared.Checked.the-variants as checked
 use Rattle.incremental.specs.declared.Outcome.{Outcome}
 use Rattle.incremental.specs.declared.Outcome.the-variants as out
-use Rattle.sections.specs.Fields.{part, entriesFault, placesFault}
+use Rattle.sections.specs.Fields.{part, linkCount, entriesFault, placesFault}
 use Rattle.sections.proofs.Cases.{entries-fit}
 use Rattle.head.specs.Private.{OpenFacts}
 use Rattle.head.proofs.Rules.{part-length}
@@ -37,7 +37,7 @@ use Rattle.volumes.proofs.Laws.{volumes-room}
 use Rattle.reader.specs.declared.checks.TraceOutcome.the-variants as outcome
 use Rattle.reader.specs.declared.verdict.Acceptance.{Acceptance}
 use Rattle.reader.specs.Verdict.{Acceptable}
-use Rattle.reader.specs.Checks.{namesRequired, volumesRequired, nextsIn, linkAt, recordOf}
+use Rattle.reader.specs.Checks.{traceRequired, namesRequired, volumesRequired, nextsIn, linkAt, recordOf}
 use Rattle.reader.specs.Private.{fitsPlan, textsPlan, tracePlan, TraceAnswer, volumesPlan, EntriesFit, tablesPlan, restPlan}
 
 -- ---- 9
@@ -108,27 +108,29 @@ lines-accept Nowhere (At i at) c n k s p e = let z : _≡_ {A = ℕ} 0 1 = cc in
 lines-accept Nowhere Nowhere (At i at) n k s p e = let z : _≡_ {A = ℕ} 0 1 = cc in absurd (omega arith)
 lines-accept Nowhere Nowhere Nowhere n k s p e = (refl, cc)
 
-module _ (o : Opening) (p : List ℕ) (m : ℕ) where
-  pub trace-short : (buffer : List ℕ) → length p < o .head .trace .end → TraceAnswer (run (tracePlan o) p) m (outcome.Wanted (o .head .trace .end)) buffer
+-- `k` is the required length and `n` the number of next indexes that calls gave
+module _ (o : Opening) (p : List ℕ) (m k : ℕ) (required : k ≡ traceRequired (o .layout) (o .head)) where
+  pub trace-short : (buffer : List ℕ) → length p < k → TraceAnswer (run (tracePlan o) p) m (outcome.Wanted k) buffer
   unfolding tracePlan
   trace-short buffer h =
       record {
         passed = λ n e. let z : _≡_ {A = ℕ} 0 1 = cc in absurd (omega arith);
         refused = λ f e. let z : _≡_ {A = ℕ} 0 1 = cc in absurd (omega arith);
-        wanted = λ k e. let q : o .head .trace .end ≡ k = cc in reach-short _ _ p h ∙ ap (λ (j : ℕ). wants j) q;
+        wanted = λ j e. let q : k ≡ j = cc in reach-short _ _ p (rw (← required) h) ∙ ap (λ (i : ℕ). wants i) (sym required ∙ q);
       }
 
-  module _ (a : List ℕ) (h : o .head .trace .end ≤ length p) (e : a ≡ part (o .head .trace) (take (o .head .trace .end) p))
-      (room : o .head .trace .count ≤ m) (r : Links) (buffer : List ℕ) (w : LinkAnswer a (o .head .trace .at) (traceEntry (o .layout)) (o .head .trace .count) m r buffer) where
+  module _ (a : List ℕ) (h : k ≤ length p) (e : a ≡ part (o .head .trace) (take k p)) (n : ℕ) (count : n ≡ linkCount (o .layout) (o .head))
+      (room : linkCount (o .layout) (o .head) ≤ m) (r : Links) (buffer : List ℕ)
+      (w : LinkAnswer a (o .head .trace .at) (traceEntry (o .layout)) n m r buffer) where
     abbrev s : List ℕ
-    s = nexts a (traceEntry (o .layout)) (o .head .trace .count)
+    s = nexts a (traceEntry (o .layout)) n
 
     links-decide : linkChecks (linkAt o) s ≡ linksOf r
-    links-decide = sym (w .answer ∙ trace-room (linkAt o) s m (rw (length-nexts a (traceEntry (o .layout)) (o .head .trace .count)) room))
+    links-decide = sym (w .answer ∙ trace-room (linkAt o) s m (rw (length-nexts a (traceEntry (o .layout)) n, count) room))
 
     lines-run : run (tracePlan o) p ≡ run (linesOf (astrayFault (linkAt o) s) (sharedFault (linkAt o) s) (cyclicFault (linkAt o) s) s) p
     unfolding tracePlan
-    lines-run = reach-here (o .head .trace .end) _ p h ∙ rw (← e)
+    lines-run = reach-here (traceRequired (o .layout) (o .head)) _ p (rw (← required) h) ∙ rw (← required, ← e, ← count)
 
     pub trace-refused : (f : Refusal) → r ≡ links.Refused f → TraceAnswer (run (tracePlan o) p) m (outcome.Refused f) buffer
     unfolding linkChecks
@@ -141,13 +143,13 @@ module _ (o : Opening) (p : List ℕ) (m : ℕ) where
           wanted = λ k z. let y : _≡_ {A = ℕ} 0 1 = cc in absurd (omega arith);
         }
 
-    pub trace-passed : (n : ℕ) → r ≡ links.Chains n → TraceAnswer (run (tracePlan o) p) m (outcome.Chains n) buffer
+    pub trace-passed : (c : ℕ) → r ≡ links.Chains c → TraceAnswer (run (tracePlan o) p) m (outcome.Chains c) buffer
     unfolding linkChecks
-    trace-passed n q =
-        let l = lines-accept (astrayFault (linkAt o) s) (sharedFault (linkAt o) s) (cyclicFault (linkAt o) s) (chains s) n s p (links-decide ∙ ap linksOf q) in
+    trace-passed c q =
+        let l = lines-accept (astrayFault (linkAt o) s) (sharedFault (linkAt o) s) (cyclicFault (linkAt o) s) (chains s) c s p (links-decide ∙ ap linksOf q) in
         let t : buffer ≡ predecessors s m = w .holds ∙ ap (λ (d : Decision ℕ). held d s m) (sym (w .answer) ∙ ap linksOf q) in
         record {
-          passed = λ k z. let i : n ≡ k = cc in (s, lines-run ∙ l .0, sym i ∙ l .1, t);
+          passed = λ j z. let i : c ≡ j = cc in (s, lines-run ∙ l .0, sym i ∙ l .1, t);
           refused = λ f z. let y : _≡_ {A = ℕ} 0 1 = cc in absurd (omega arith);
           wanted = λ k z. let y : _≡_ {A = ℕ} 0 1 = cc in absurd (omega arith);
         }

@@ -12,7 +12,8 @@ use Rattle.incremental.specs.declared.Fault.{Fault}
 use Rattle.incremental.specs.declared.Fault.the-variants.{At, Nowhere}
 use Rattle.incremental.specs.declared.Outcome.{Outcome}
 use Rattle.incremental.specs.declared.Outcome.the-variants.{Passed, Refused, Wanted}
-use Rattle.sections.specs.Fields.{placesFault, entriesFault}
+use Rattle.sections.proofs.Cases.{places-met}
+use Rattle.sections.specs.Fields.{linkCount, placesFault, entriesFault}
 use Rattle.head.specs.declared.checks.Opening.{Opening}
 use Rattle.trace.specs.Links.{chains, predecessors}
 use Rattle.reader.specs.declared.verdict.Acceptance.{Acceptance}
@@ -81,8 +82,16 @@ module _ (m : ℕ) (o : Opening) (top p : List ℕ) (r : Outcome) (e : outcomeOf
             ∙ stage-passed (textsPlan o) _ p s g q10
             ∙ stage-passed (fitsPlan o) _ p r e q9
 
--- ---- 7 and 8
-module _ (m : ℕ) (o : Opening) (p : List ℕ) (w : headEnd (o .layout) ≤ length p) (r : Fault) (e : r ≡ placesFault m (o .head .trace .count)) where
+-- 7 passed: there is a place for each of the `n` next indexes that a call counted
+pub places-room : (m n c : ℕ) (r : Fault) → n ≡ c → r ≡ placesFault m n → r ≡ Nowhere → c ≤ m
+places-room m n c r count e q = rw (← count) (places-met m n r e q)
+
+-- ---- 7 and 8: `n` is the number of next indexes that a call gave
+module _ (m : ℕ) (o : Opening) (p : List ℕ) (w : headEnd (o .layout) ≤ length p) (n : ℕ) (count : n ≡ linkCount (o .layout) (o .head))
+    (r : Fault) (placed : r ≡ placesFault m n) where
+  e : r ≡ placesFault m (linkCount (o .layout) (o .head))
+  e = placed ∙ ap (placesFault m) count
+
   pub refused-7 : (i at : ℕ) (x : Refusal) → r ≡ At i at → x ≡ refusal 7 i at → decided (refuse x) ≡ run (restPlan m o) p
   unfolding restPlan
   refused-7 i at x q z = reach-on _ _ p _ w (check-refused 7 _ _ p i at r x e q z)

@@ -1,4 +1,4 @@
--- ALL FIFTEEN CHECKS of document 01's table, from 1 to 15: required length (document 01: reach), number, fault with its index and file
+-- ALL FIFTEEN CHECKS of document 01's table, from 1 to 15, and 21 of request 107 directly after 4: required length (document 01: reach), number, fault with its index and file
 -- offset. Then the whole-file reader's 16 and 17, and the promises of both readers.
 use mathlib.Core.Bool.{Bool, true, false}
 use mathlib.Core.List.{List}
@@ -7,14 +7,15 @@ use lib.Dec.{eqb, ltb}
 use lib.ListN.{length}
 use Rattle.lists.specs.Count.{pick}
 use Rattle.little_endian.specs.Number.{le}
-use Rattle.layout.specs.Head.{versionAt, declaredSizeAt, programNameAt, entryOffset}
+use Rattle.layout.specs.Head.{versionAt, declaredSizeAt, programNameAt, metricsOffsetAt, entryOffset}
 use Rattle.layout.specs.Versions.{versionOf, versionNumber, layoutOf, headEnd, runTimeAt, timeCount, runCountAt, volumeEntry, traceEntry}
+use Rattle.layout.specs.Versions.{hasNext, formRequired}
 use Rattle.layout.specs.declared.Version.{Version}
 use Rattle.layout.specs.declared.Layout.{Layout}
 use Rattle.incremental.specs.Decision.{Decision, accept, refuse, refusal}
 use Rattle.incremental.specs.Plan.{Plan, decide, Answer, decided, wants, run, reach, check, given, done, _>>=_, _>>_}
 use Rattle.sections.specs.Fields.{declaredSize, storedHash, signatureFault, sizeFault, nameEnd, headOf, part, outsideFault, sharedFault}
-use Rattle.sections.specs.Fields.{placesFault, entriesFault}
+use Rattle.sections.specs.Fields.{formIn, linkCount, placesFault, entriesFault}
 use Rattle.sections.specs.declared.Head.{Head}
 use Rattle.head.specs.Checks.{version, units}
 use Rattle.head.specs.declared.checks.Opening.{Opening}
@@ -30,21 +31,25 @@ use Rattle.reader.specs.Verdict.{Acceptable, Reads}
 abbrev pub namesRequired : Layout → Head → ℕ
 namesRequired l h = pick (eqb (h .metrics .count) 0) (headEnd l) (max (h .metrics .end) (h .strings .end))
 
+-- the reach of 11 to 13: the trace end; where trace entries have no next index H
+abbrev pub traceRequired : Layout → Head → ℕ
+traceRequired l h = pick (hasNext l) (h .trace .end) (headEnd l)
+
 -- the reach of 14 and 15: the volumes end; with no volume H
 abbrev pub volumesRequired : Layout → Head → ℕ
 volumesRequired l h = pick (eqb (h .volumes .count) 0) (headEnd l) (h .volumes .end)
 
--- the next indexes of the trace section
+-- the next indexes of the trace section, of the entries that have one
 abbrev pub nextsIn : Opening → List ℕ → List ℕ
-nextsIn o b = links.nexts (part (o .head .trace) b) (traceEntry (o .layout)) (o .head .trace .count)
+nextsIn o b = links.nexts (part (o .head .trace) b) (traceEntry (o .layout)) (linkCount (o .layout) (o .head))
 
 -- where in the file each trace entry starts
 abbrev pub linkAt : Opening → ℕ → ℕ
 linkAt o = entryOffset (o .head .trace .at) (traceEntry (o .layout))
 
--- what checks 1 to 6 give: the version with its layout, the name's length and the sections
-abbrev pub opening : Version → ℕ → Head → Opening
-opening v n h = record { version = v; layout = layoutOf v; «name_units» = n; head = h }
+-- what checks 1 to 6 give: the version, the layout of its head form, the name's length and the sections
+abbrev pub opening : Version → Layout → ℕ → Head → Opening
+opening v l n h = record { version = v; layout = l; «name_units» = n; head = h }
 
 -- run time j, the latest at 0: the 8 bytes there where the version has so many, else 0 (request 106)
 abbrev pub timeAt : Layout → List ℕ → ℕ → ℕ
@@ -86,25 +91,26 @@ unfoldable pub readPlan : ℕ → Plan Acceptable
 readPlan m = do
   b ← reach 4
   v ← given 1 versionAt (version (versionOf (le 4 b versionAt)))
-  let l = layoutOf v
   b ← reach 8
   check 2 (signatureFault b)
   b ← reach 16
-  check 3 (sizeFault l b)
+  check 3 (sizeFault (layoutOf v) b)
   b ← reach 76
   n ← given 4 programNameAt (units (nameEnd b))
+  b ← reach (formRequired (layoutOf v))
+  l ← given 21 metricsOffsetAt (formIn (layoutOf v) b)
   top ← reach (headEnd l)
   let h = headOf l top
-  let o = opening v n h
+  let o = opening v l n h
   check 5 (outsideFault l h)
   check 6 (sharedFault h)
-  check 7 (placesFault m (h .trace .count))
+  check 7 (placesFault m (linkCount l h))
   check 8 (entriesFault (h .volumes .count) (volumeEntry l) (h .volumes .len))
   b ← reach (h .metrics .end)
   check 9 (misfitFault l (h .metrics .at) (part (h .metrics) b) (h .metrics .count) (h .strings .len))
   b ← reach (namesRequired l h)
   check 10 (unsoundFault l (h .metrics .at) (part (h .metrics) b) (h .metrics .count) (part (h .strings) b))
-  b ← reach (h .trace .end)
+  b ← reach (traceRequired l h)
   let s = nextsIn o b
   check 11 (links.astrayFault (linkAt o) s)
   check 12 (links.sharedFault (linkAt o) s)

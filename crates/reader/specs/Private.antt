@@ -8,7 +8,7 @@ use Rattle.layout.specs.Versions.{headEnd, volumeEntry}
 use Rattle.incremental.specs.Decision.{accept, refuse, refusal}
 use Rattle.incremental.specs.Plan.{Plan, decide, Answer, decided, wants, run, reach, check, done, _>>=_, _>>_}
 use Rattle.incremental.specs.declared.Refusal.{Refusal}
-use Rattle.sections.specs.Fields.{part, placesFault, entriesFault}
+use Rattle.sections.specs.Fields.{part, linkCount, placesFault, entriesFault}
 use Rattle.head.specs.declared.checks.Opening.{Opening}
 use Rattle.names.specs.Names.{misfitFault, unsoundFault}
 use Rattle.trace.specs.Links.{astrayFault, sharedFault, cyclicFault, chains, predecessors}
@@ -18,7 +18,7 @@ use Rattle.reader.specs.declared.checks.TraceOutcome.the-variants as out
 use Rattle.reader.specs.declared.verdict.Verdict.{Verdict}
 use Rattle.reader.specs.declared.verdict.Verdict.the-variants.{Accepted, Refused, Wanted}
 use Rattle.reader.specs.Verdict.{Acceptable}
-use Rattle.reader.specs.Checks.{namesRequired, volumesRequired, nextsIn, linkAt, recordOf}
+use Rattle.reader.specs.Checks.{namesRequired, traceRequired, volumesRequired, nextsIn, linkAt, recordOf}
 
 -- 9
 unfoldable pub fitsPlan : Opening → Plan Unit
@@ -37,7 +37,7 @@ textsPlan o = do
 -- 11 to 13; they give the next indexes
 unfoldable pub tracePlan : Opening → Plan (List ℕ)
 tracePlan o = do
-  b ← reach (o .head .trace .end)
+  b ← reach (traceRequired (o .layout) (o .head))
   let s = nextsIn o b
   check 11 (astrayFault (linkAt o) s)
   check 12 (sharedFault (linkAt o) s)
@@ -78,7 +78,7 @@ tablesAnswer m o p = run (tablesPlan m o (take (headEnd (o .layout)) p)) p
 unfoldable pub restPlan : ℕ → Opening → Plan Acceptable
 restPlan m o = do
   top ← reach (headEnd (o .layout))
-  check 7 (placesFault m (o .head .trace .count))
+  check 7 (placesFault m (linkCount (o .layout) (o .head)))
   check 8 (entriesFault (o .head .volumes .count) (volumeEntry (o .layout)) (o .head .volumes .len))
   tablesPlan m o top
 

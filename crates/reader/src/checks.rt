@@ -2,9 +2,10 @@ ghost use mathlib.Core.Path.{_≡_};
 ghost use Prim.Native.Nat.{_≤_};
 ghost use lib.ListN.{length};
 ghost use Rattle.incremental.specs.Plan.{run, outcomeOf};
+ghost use Rattle.sections.specs.Fields.{linkCount};
 ghost use Rattle.head.specs.Private.{OpenFacts};
 ghost use Rattle.reader.specs.Verdict.{Reads};
-ghost use Rattle.reader.specs.Checks.{namesRequired, volumesRequired, prefixAnswer, ReadsPrefix, ReadsFile};
+ghost use Rattle.reader.specs.Checks.{namesRequired, traceRequired, volumesRequired, prefixAnswer, ReadsPrefix, ReadsFile};
 ghost use Rattle.reader.specs.Private.{fitsPlan, textsPlan, tracePlan, TraceAnswer, volumesPlan, EntriesFit, tablesAnswer, restPlan};
 ghost use Rattle.reader.specs.Private.{verdictOf, wrongLength};
 use crate::verdict::Verdict;
@@ -74,14 +75,25 @@ fn check_texts(file: &[u8], o: Opening) -> Outcome
     Outcome::Passed
 }
 
+// Document 01: the reach of checks 11 to 13.
+fn trace_required(o: Opening) -> usize
+    ensures { λ r. ⌜ r ≡ traceRequired (o .layout) (o .head) ⌝ }
+{
+    if o.layout.has_next {
+        return o.head.trace.end;
+    }
+    o.layout.head_end as usize
+}
+
 // Checks 11 to 13. Where they pass, the buffer is the table of predecessors.
 fn check_trace(file: &[u8], o: Opening, predecessors: &mut [u32]) -> TraceOutcome
-    requires { ⌜ o .head .trace .count ≤ length (now predecessors) ⌝ }
+    requires { ⌜ linkCount (o .layout) (o .head) ≤ length (now predecessors) ⌝ }
     ensures { λ r. ⌜ TraceAnswer (run (tracePlan o) (now (file .entry))) (length (now (predecessors .entry))) r (now (predecessors .exit)) ⌝ }
 {
     let l = o.layout;
-    let section = o.head.trace;
-    let required = section.end;
+    let head = o.head;
+    let section = head.trace;
+    let required = trace_required(o);
     if file.len() < required {
         return TraceOutcome::Wanted(required);
     }
@@ -90,7 +102,7 @@ fn check_trace(file: &[u8], o: Opening, predecessors: &mut [u32]) -> TraceOutcom
         links,
         section.at,
         l.trace_entry,
-        section.count,
+        sections::link_count(l, head),
         predecessors,
     ) {
         Links::Chains(n) => TraceOutcome::Chains(n),
@@ -132,7 +144,7 @@ fn check_volumes(file: &[u8], o: Opening) -> Outcome
 
 // Checks 9 to 15 and the record, where 7 and 8 have passed.
 fn check_tables(file: &[u8], o: Opening, predecessors: &mut [u32]) -> Verdict
-    requires { ⌜ OpenFacts (now file) o × EntriesFit o × (o .head .trace .count ≤ length (now predecessors)) ⌝ }
+    requires { ⌜ OpenFacts (now file) o × EntriesFit o × (linkCount (o .layout) (o .head) ≤ length (now predecessors)) ⌝ }
     ensures { λ r. ⌜ verdictOf r (now (predecessors .exit)) ≡ tablesAnswer (length (now (predecessors .entry))) o (now (file .entry)) ⌝ }
 {
     let h = o.layout.head_end as usize;
@@ -164,7 +176,7 @@ fn check_rest(file: &[u8], o: Opening, predecessors: &mut [u32]) -> Verdict
     ensures { λ r. ⌜ verdictOf r (now (predecessors .exit)) ≡ run (restPlan (length (now (predecessors .entry))) o) (now (file .entry)) ⌝ }
 {
     let volumes = o.head.volumes;
-    let links = o.head.trace.count;
+    let links = sections::link_count(o.layout, o.head);
     let entry = o.layout.volume_entry;
     if let Fault::At(i, at) = sections::places_fault(predecessors.len(), links) {
         return Verdict::Refused(incremental::refuse(7, i, at));

@@ -4,7 +4,7 @@ use mathlib.Core.Bool.{Bool, true, false, _||_}
 use mathlib.Core.List.{List}
 use Prim.Native.Nat.{ℕ, _+_, _*_, _≤_, _<_}
 use native.Mathlib.Omega.{arith}
-use native.Mathlib.Nat.{mul-le-mul-left}
+use native.Mathlib.Nat.{le-refl, mul-le-mul-left}
 use mir.Syntax.{w64}
 use mir.Val.{Fits}
 use borrow.Author.Tests.{eq-eqb, ne-eqb, lt-ltb, le-ltb, ltb-false}
@@ -15,14 +15,16 @@ use Rattle.lists.specs.First.{firstFrom}
 use Rattle.lists.specs.declared.Found.{Found}
 use Rattle.lists.specs.declared.Found.the-variants as found
 use Rattle.little_endian.specs.Number.{le}
-use Rattle.layout.specs.Versions.{sizeLimit, headEnd, metricsEntry, traceEntry}
+use Rattle.layout.specs.Versions.{sizeLimit, headEnd, metricsEntry, traceEntry, hasNext, formRequired, forms, formAt, formSaid}
 use Rattle.layout.specs.declared.Layout.{Layout}
+use Rattle.layout.specs.declared.KnownForm.{KnownForm}
+use Rattle.layout.specs.declared.KnownForm.the-variants as known
 use Rattle.incremental.specs.Decision.{faultOf}
 use Rattle.incremental.specs.declared.Fault.{Fault}
 use Rattle.incremental.specs.declared.Fault.the-variants.{At, Nowhere}
 use Rattle.sections.specs.declared.Section.{Section}
 use Rattle.sections.specs.declared.Head.{Head}
-use Rattle.sections.specs.Fields.{signatureFault, sizeFault, sectionOf, headOf, sizeIn, outside}
+use Rattle.sections.specs.Fields.{signatureFault, sizeFault, roomFor, formIn, linkCount, sectionOf, headOf, sizeIn, outside}
 use Rattle.sections.specs.Fields.{offsetFieldAt, shares, numbered, outsideFault, sharedFault, placesFault, entriesFault}
 
 -- the first section that fails a test
@@ -119,6 +121,47 @@ size-high l b r e h k = rw (← e, le-ltb _ _ h, lt-ltb _ _ k)
 pub size-right : (l : Layout) (b : List ℕ) (r : ℕ) → r ≡ le 4 b 12 → headEnd l ≤ r → r ≤ sizeLimit → Nowhere ≡ sizeFault l b
 unfolding sizeFault
 size-right l b r e h k = rw (← e, le-ltb _ _ h, le-ltb _ _ k)
+
+-- 21: `k` is the form that a call found for the start that another read
+pub form-one : (l : Layout) (b : List ℕ) → formRequired l ≡ 0 → formSaid (known.Known l) ≡ formIn l b
+unfolding formIn
+form-one l b h = rw (eq-eqb _ _ h)
+
+module _ (l : Layout) (b : List ℕ) (start : ℕ) (k : KnownForm) (several : formRequired l ≡ 0 → ⊥) (e : start ≡ le 4 b 84)
+    (said : formSaid k ≡ formAt start forms) where
+  form-known : (x : KnownForm) → k ≡ x → formIn l b ≡ roomFor (le 4 b 12) (formSaid x)
+  unfolding formIn
+  form-known x q = rw (ne-eqb _ _ several, ← e, ← said, q)
+
+  pub form-unknown : k ≡ known.Unknown → formSaid known.Unknown ≡ formIn l b
+  form-unknown q = sym (form-known _ q)
+
+  module _ (f : Layout) (q : k ≡ known.Known f) (r : ℕ) (size : r ≡ le 4 b 12) where
+    pub form-short : r < headEnd f → formSaid known.Unknown ≡ formIn l b
+    form-short h = sym (form-known _ q ∙ rw (← size, lt-ltb _ _ h))
+
+    pub form-found : headEnd f ≤ r → formSaid (known.Known f) ≡ formIn l b
+    form-found h = sym (form-known _ q ∙ rw (← size, le-ltb _ _ h))
+
+-- how many next indexes there are
+pub links-all : (l : Layout) (h : Head) → hasNext l ≡ true → h .trace .count ≡ linkCount l h
+unfolding linkCount
+links-all l h e = rw e
+
+pub links-none : (l : Layout) (h : Head) → hasNext l ≡ false → 0 ≡ linkCount l h
+unfolding linkCount
+links-none l h e = rw e
+
+-- and no more than trace entries
+pub links-low : (l : Layout) (h : Head) → linkCount l h ≤ h .trace .count
+unfolding linkCount
+links-low l h = go (hasNext l)
+  where
+    go : (b : Bool) → pick b (h .trace .count) 0 ≤ h .trace .count
+    go true = le-refl _
+    go false = omega arith
+
+pub ruleset looked = (form-one, form-unknown, form-short, form-found, links-all, links-none)
 
 -- 7 and 8
 pub places-few : (m n : ℕ) → m < n → At 0 96 ≡ placesFault m n

@@ -1,7 +1,8 @@
--- The head's fields and sections, and what each of checks 2 to 8 finds wrong in them (document 01, "Head" and rows 2 to 8), with the
--- file offset of the field at fault (request 103).
+-- The head's fields and sections, and what each of checks 2 to 8 finds wrong in them (document 01, "Head" and rows 2 to 8; request 107,
+-- 21), with the file offset of the field at fault (request 103).
 use mathlib.Core.List.{List}
 use mathlib.Core.Bool.{Bool, _&&_, _||_, not}
+use mathlib.Core.Option.{Option, some as form, none}
 use Prim.Native.Nat.{ℕ, _+_, _-_, _*_, _/_}
 use lib.Dec.{eqb, ltb}
 use lib.ListN.{length, take, drop}
@@ -11,7 +12,7 @@ use Rattle.lists.specs.declared.Found.{Found}
 use Rattle.little_endian.specs.Number.{le, zeroUnit}
 use Rattle.layout.specs.Head.{signatureAt, declaredSizeAt, programNameAt, programNameUnits, storedHashAt, metricsOffsetAt, metricsCountAt}
 use Rattle.layout.specs.Head.{traceOffsetAt, traceCountAt, stringsOffsetAt, stringsSizeAt, volumesOffsetAt, volumesCountAt, volumesSizeAt}
-use Rattle.layout.specs.Versions.{sizeLimit, headEnd, metricsEntry, traceEntry}
+use Rattle.layout.specs.Versions.{sizeLimit, headEnd, metricsEntry, traceEntry, hasNext, formRequired, forms, formAt}
 use Rattle.layout.specs.declared.Layout.{Layout}
 use Rattle.incremental.specs.Decision.{faultAt, faultOf}
 use Rattle.incremental.specs.declared.Fault.{Fault}
@@ -41,6 +42,16 @@ nameUnitsIn n = pick (ltb n (programNameAt + 2 * programNameUnits)) ((n - progra
 -- 4: the first zero unit of those of the program name's 30 that lie whole in the bytes
 unfoldable pub nameEnd : List ℕ → Found
 nameEnd b = first (λ i. zeroUnit b (programNameAt + 2 * i)) (nameUnitsIn (length b))
+
+-- a head form, unless the size is below its H
+abbrev pub roomFor : ℕ → Option Layout → Option Layout
+roomFor size (form l) = pick (ltb size (headEnd l)) none (form l)
+roomFor size none = none
+
+-- 21: a version with one form has that one; of version 30, the form that is known by where the metrics array starts, unless S is below
+-- its H
+unfoldable pub formIn : Layout → List ℕ → Option Layout
+formIn l b = pick (eqb (formRequired l) 0) (form l) (roomFor (declaredSize b) (formAt (le 4 b metricsOffsetAt) forms))
 
 -- a section: its offset, length, count of entries, and its end, which is H where it is empty
 abbrev pub sectionOf : ℕ → ℕ → ℕ → ℕ → Section
@@ -93,7 +104,11 @@ sharesLower h n = some (λ k. shares (numbered h (k + 1)) (numbered h n)) (n - 1
 unfoldable pub sharedFault : Head → Fault
 sharedFault h = faultOf offsetFieldAt (firstFrom (sharesLower h) 4 1)
 
--- 7: the working buffer has fewer places than trace entries
+-- how many trace entries have a next index: all of them, or none where the version's entries have no such field (request 107)
+unfoldable pub linkCount : Layout → Head → ℕ
+linkCount l h = pick (hasNext l) (h .trace .count) 0
+
+-- 7: the working buffer has fewer places than trace entries that have a next index
 unfoldable pub placesFault : ℕ → ℕ → Fault
 placesFault places count = faultAt 0 traceCountAt (ltb places count)
 

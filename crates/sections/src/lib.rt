@@ -3,8 +3,10 @@ ghost use mathlib.Core.Path.{_≡_};
 ghost use Prim.Native.Nat.{_≤_};
 ghost use Rattle.lists.specs.Part.{IsPart};
 ghost use Rattle.sections.specs.Fields.{offsetFieldAt, signatureFault, sizeFault, nameUnitsIn, nameEnd, sectionOf, headOf, outside, outsideFault, shares};
-ghost use Rattle.sections.specs.Fields.{sharedFault, placesFault, entriesFault};
+ghost use Rattle.layout.specs.Versions.{formSaid};
+ghost use Rattle.sections.specs.Fields.{sharedFault, placesFault, entriesFault, formIn, linkCount};
 use incremental::Fault;
+use layout::KnownForm;
 use layout::Layout;
 use layout::SIZE_LIMIT;
 use lists::Found;
@@ -77,6 +79,26 @@ pub fn name_end(b: &[u8]) -> Found
 {
     let units = name_units_in(b.len());
     little_endian::first_zero_unit(b, layout::PROGRAM_NAME_AT as u32, units)
+}
+
+// Check 21: the layout of the head form, where the version's is `l`.
+pub fn find_form(b: &[u8], l: Layout) -> KnownForm
+    ensures { λ r. ⌜ formSaid r ≡ formIn l (now (b .entry)) ⌝ }
+{
+    if l.form_required == 0 {
+        return KnownForm::Known(l);
+    }
+    let size = little_endian::u32_at(b, layout::DECLARED_SIZE_AT);
+    let KnownForm::Known(form) = Layout::of_form(little_endian::u32_at(
+        b,
+        layout::METRICS_OFFSET_AT,
+    )) else {
+        return KnownForm::Unknown;
+    };
+    if size < form.head_end as u32 {
+        return KnownForm::Unknown;
+    }
+    KnownForm::Known(form)
 }
 
 fn section_of(h: usize, at: u32, len: usize, count: u32) -> Section
@@ -232,6 +254,16 @@ pub fn shared_fault(h: Head) -> Fault
         return section_fault(4);
     }
     Fault::Nowhere
+}
+
+// How many trace entries have a next index.
+pub fn link_count(l: Layout, h: Head) -> u32
+    ensures { λ r. ⌜ r ≡ linkCount l h ⌝ }
+{
+    if l.has_next {
+        return h.trace.count;
+    }
+    0
 }
 
 // Check 7.

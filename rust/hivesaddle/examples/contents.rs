@@ -30,9 +30,13 @@ fn show(file: &[u8], contents: &FileContents) {
     for found in list_paths_alloc(file) {
         println!("path {} {}", found.entry, found.number);
     }
+    // The trace entries of version 30 have no links, so there is no table.
     let links = contents.predecessors.iter().enumerate();
     let starts: Vec<usize> = links.filter(|link| *link.1 == NONE).map(|link| link.0).collect();
-    println!("{} trace entries, chains start at {starts:?}", record.trace_count);
+    match starts.is_empty() {
+        true => println!("{} trace entries, no chains", record.trace_count),
+        false => println!("{} trace entries, chains start at {starts:?}", record.trace_count),
+    }
 }
 
 /// UTF-16, low byte first. What is no text is shown as U+FFFD.

@@ -18,7 +18,7 @@ pub struct CatalogueFields {
 }
 
 /// Reads one line, its line feed included, a new one or an old one. Anything
-/// else gives refusal 18.
+/// else gives refusal 18. The version is one that the readers take.
 ///
 /// ```
 /// let fields = hivesaddle::catalogue_read(b"00000094000000410000000111\n").unwrap();
@@ -28,6 +28,9 @@ pub struct CatalogueFields {
 /// assert_eq!(fields.version, 17);
 /// // The old line of the same fields.
 /// assert_eq!(hivesaddle::catalogue_read(b"000094000000410000000111\n"), Ok(fields));
+/// // Version 30, from its smallest head on.
+/// assert_eq!(hivesaddle::catalogue_read(b"000000D400000041000000011E\n").unwrap().version, 30);
+/// assert_eq!(hivesaddle::catalogue_read(b"000000D300000041000000011E\n").unwrap_err().number, 18);
 /// let refusal = hivesaddle::catalogue_read(b"no line").unwrap_err();
 /// assert_eq!((refusal.number, refusal.index, refusal.offset), (18, 0, 0));
 /// ```

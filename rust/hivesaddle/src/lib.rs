@@ -1,4 +1,5 @@
-//! Safe calls into the proved reader of Windows Prefetch (SCCA) files.
+//! Safe calls into the proved reader of Windows Prefetch (SCCA) files, versions
+//! 17, 23, 26 and 30, uncompressed.
 //!
 //! Every function takes any bytes, any index and any buffer length and comes
 //! to an end. Nothing is allocated, but by [`read_file_alloc`] and

@@ -33,8 +33,9 @@ pub struct FoundPath {
 }
 
 /// How many slots of `predecessors` [`crate::read_prefix`] and
-/// [`crate::read_file`] need for this file: its trace count. None where checks 1 to 6 do not pass on these
-/// bytes; both then answer the same with any number of slots.
+/// [`crate::read_file`] need for this file: its trace count, and 0 for version
+/// 30. None where checks 1 to 6, 21 among them, do not pass on these bytes;
+/// both then answer the same with any number of slots.
 ///
 /// Only the head is looked at, so a prefix that has all of it is enough. The
 /// number is at most 5,592,393: check 5 keeps the trace entries, 12 bytes each,
@@ -52,6 +53,17 @@ pub struct FoundPath {
 /// assert_eq!(hivesaddle::places(&file[..147]), None);
 /// // A fourth would end behind the declared size.
 /// file[96] = 4;
+/// assert_eq!(hivesaddle::places(&file), None);
+///
+/// // Version 30 has no links to keep. Its metrics offset tells the head form.
+/// let mut file = [0; 236];
+/// file[0] = 30;
+/// file[4..8].copy_from_slice(b"SCCA");
+/// file[12] = 236;
+/// (file[84], file[85]) = (48, 1);
+/// (file[92], file[96]) = (212, 3);
+/// assert_eq!(hivesaddle::places(&file), Some(0));
+/// file[84] = 40;
 /// assert_eq!(hivesaddle::places(&file), None);
 /// ```
 pub fn places(file: &[u8]) -> Option<usize> {
@@ -157,7 +169,8 @@ pub fn reference(file: &[u8], i: u64, k: u64) -> Option<Reference> {
 /// The least number from 0 to 8 with which a metrics entry matches, and the
 /// first entry that matches with it. An entry matches where it can be shown
 /// and the hash of its name's bytes plus the number, mod 2 to the 32, is the
-/// stored hash.
+/// stored hash. Version 17 uses XP; 23, 26 and 30 use Vista or 2008, which are
+/// equal.
 ///
 /// ```
 /// // Version 17, one name "A" after the head, and the XP hash of "A" plus 6.

@@ -16,13 +16,14 @@ pub struct Record {
     /// The latest run time and the seven behind it, as they stand, sorted or
     /// not; 0 where the version has none. [`Record::times`] leaves those out.
     pub run_times: [u64; 8],
-    /// How many run times the version has: 1 for 17 and 23, 8 for 26.
+    /// How many run times the version has: 1 for 17 and 23, 8 for 26 and 30.
     pub time_count: u32,
     pub run_count: u32,
     pub metrics_count: u32,
     pub trace_count: u32,
     pub volume_count: u32,
-    /// Trace entries that no entry names as next.
+    /// Trace entries that no entry names as next; 0 for version 30, whose trace
+    /// entries have no next index.
     pub chain_count: u32,
 }
 
@@ -65,7 +66,8 @@ pub enum Verdict {
 pub struct FileContents {
     pub record: Record,
     /// One slot for each trace entry: slot j holds its predecessor, the entry
-    /// that names j as next, and [`crate::NONE`] where it has none.
+    /// that names j as next, and [`crate::NONE`] where it has none. Empty for
+    /// version 30, whose trace entries have no next index.
     pub predecessors: Vec<u32>,
 }
 
@@ -75,7 +77,8 @@ pub struct FileContents {
 /// `predecessors` needs one slot for each trace entry. After an acceptance
 /// slot j holds the predecessor of entry j, the one that names j as next, and
 /// [`crate::NONE`] where it has none; after anything else every slot holds
-/// [`crate::NONE`].
+/// [`crate::NONE`]. Version 30 has no next indexes: it needs no slots, leaves
+/// [`crate::NONE`] in all of them, and its trace section is not waited for.
 ///
 /// ```
 /// use hivesaddle::{read_prefix, Verdict};
@@ -121,6 +124,26 @@ pub fn read_prefix(prefix: &[u8], predecessors: &mut [u32]) -> Verdict {
 ///
 /// // A file that has not come to its end is refused with 16.
 /// assert_eq!(hivesaddle::read_file(&file[..147], &mut []).unwrap_err().number, 16);
+/// ```
+///
+/// The head of version 30 has several forms, told by where the metrics array
+/// starts. One is known, with the start 304; any other is refused with 21.
+///
+/// ```
+/// // Version 30: no metrics entry, and three trace entries at 212.
+/// let mut file = [0; 236];
+/// file[0] = 30;
+/// file[4..8].copy_from_slice(b"SCCA");
+/// file[12] = 236;
+/// (file[84], file[85]) = (48, 1);
+/// (file[92], file[96]) = (212, 3);
+/// let record = hivesaddle::read_file(&file, &mut []).unwrap();
+/// assert_eq!((record.version, record.trace_count, record.chain_count), (30, 3, 0));
+///
+/// // The same with the start 296.
+/// file[84] = 40;
+/// let refusal = hivesaddle::read_file(&file, &mut []).unwrap_err();
+/// assert_eq!((refusal.number, refusal.index, refusal.offset), (21, 0, 84));
 /// ```
 pub fn read_file(file: &[u8], predecessors: &mut [u32]) -> Result<Record, Refusal> {
     let mut out = [0; HS_READER_OUT];

@@ -2,15 +2,15 @@
 //!
 //! Writes files for the comparison with other readers, the same bytes every
 //! time: sound/ has each version in three sizes, in the order and at the
-//! offsets that Windows uses; damaged/ has copies of a small sound file, each
-//! aimed at the refusal that its name starts with.
+//! offsets that Windows uses; damaged/ has copies of small sound files of
+//! versions 23 and 30, each aimed at the refusal that its name starts with.
 
 use compare::generate::damage::{directory_ends, volume_start};
 use compare::generate::{set_16, set_32};
 use compare::reference::checks::{entry_start, name_of_entry};
 use compare::reference::head::*;
-use compare::reference::layout::{END, TRACE_ENTRY};
-use compare::typical::{self, Amounts};
+use compare::reference::layout::END;
+use compare::typical::{self, another_form, Amounts};
 use std::io;
 use std::path::Path;
 use std::process::ExitCode;
@@ -36,7 +36,7 @@ fn main() -> ExitCode {
 fn write_sound(folder: &Path) -> io::Result<()> {
     std::fs::create_dir_all(folder)?;
     for (name, bytes) in [("a", 150_000), ("b", 1_600_000), ("c", 16_000_000)] {
-        for version in [17, 23, 26] {
+        for version in [17, 23, 26, 30] {
             let file = typical::file(version, &Amounts::for_bytes(bytes));
             std::fs::write(folder.join(format!("{name}-{version}.pf")), file)?;
         }
@@ -53,6 +53,7 @@ struct Places {
     size: u32,
     metrics: u32,
     trace: usize,
+    trace_entry: usize,
     strings: u32,
     strings_size: u32,
     volumes_size: u32,
@@ -75,6 +76,7 @@ impl Places {
             size: file.len() as u32,
             metrics: section(file, METRICS).start as u32,
             trace: section(file, TRACE).start as usize,
+            trace_entry: known_layout(file).trace_entry as usize,
             strings: strings.start as u32,
             strings_size: strings.length as u32,
             volumes_size: volumes.length as u32,
@@ -87,15 +89,15 @@ impl Places {
         }
     }
 
-    /// The next index of a trace entry.
+    /// A trace entry, which begins with its next index if it has one.
     fn next(&self, entry: usize) -> usize {
-        self.trace + entry * TRACE_ENTRY as usize
+        self.trace + entry * self.trace_entry
     }
 }
 
 type Damage = (&'static str, fn(&mut Vec<u8>, &Places));
 
-const DAMAGE: [Damage; 36] = [
+const DAMAGE: [Damage; 37] = [
     ("00-none", |_, _| ()),
     // Sound, but not as Windows lays a file out.
     ("00-gap-behind-head", |file, at| {
@@ -113,7 +115,7 @@ const DAMAGE: [Damage; 36] = [
         set_32(file, 84, (metrics + trace_end - trace) as u32);
     }),
     ("01-version-24", |file, _| set_32(file, 0, 24)),
-    ("01-version-30", |file, _| set_32(file, 0, 30)),
+    ("01-version-31", |file, _| set_32(file, 0, 31)),
     ("02-signature", |file, _| file[5] ^= 1),
     ("03-size-147", |file, _| set_32(file, 12, 147)),
     ("03-size-67108865", |file, _| set_32(file, 12, 67_108_865)),
@@ -148,16 +150,33 @@ const DAMAGE: [Damage; 36] = [
     ("16-one-byte-short", |file, _| file.truncate(file.len() - 1)),
     ("16-size-16777216", |file, _| set_32(file, 12, 16_777_216)),
     ("17-one-byte-more", |file, _| file.push(0)),
+    ("21-version-30", |file, _| set_32(file, 0, 30)),
+];
+
+/// Damage that is version 30's own, and what is none in it.
+const DAMAGE_30: [Damage; 7] = [
+    ("00-30-none", |_, _| ()),
+    ("00-30-trace-noise", |file, at| {
+        let (first, behind) = (at.next(0), at.next(SMALL.trace));
+        file[first..behind].fill(0xA5);
+    }),
+    ("05-30-trace-past-end", |file, at| set_32(file, 92, at.size)),
+    ("06-30-strings-on-trace", |file, at| set_32(file, 100, at.next(SMALL.trace) as u32 - 1)),
+    ("08-30-volume-count", |file, at| set_32(file, 112, at.volumes_size / 96 + 1)),
+    ("21-30-metrics-at-296", |file, _| *file = another_form(file)),
+    ("21-30-metrics-at-305", |file, at| set_32(file, 84, at.metrics + 1)),
 ];
 
 fn write_damaged(folder: &Path) -> io::Result<()> {
     std::fs::create_dir_all(folder)?;
-    let sound = typical::file(23, &SMALL);
-    let places = Places::of(&sound);
-    for (name, damage) in DAMAGE {
-        let mut file = sound.clone();
-        damage(&mut file, &places);
-        std::fs::write(folder.join(format!("{name}.pf")), file)?;
+    for (version, damages) in [(23, &DAMAGE[..]), (30, &DAMAGE_30[..])] {
+        let sound = typical::file(version, &SMALL);
+        let places = Places::of(&sound);
+        for (name, damage) in damages {
+            let mut file = sound.clone();
+            damage(&mut file, &places);
+            std::fs::write(folder.join(format!("{name}.pf")), file)?;
+        }
     }
     Ok(())
 }

@@ -2,14 +2,15 @@
 //!
 //! Writes the sample files of the examples, the same bytes every time: a small
 //! sound file, one of version 26 that a media program left with a /prefetch
-//! number, one of about 150 KB, and copies of that one, each with a fault.
+//! number, one of version 30 and the same with another head form, one of about
+//! 150 KB, and copies of that one, each with a fault.
 
 use compare::generate::damage::volume_start;
 use compare::generate::{set_16, set_32};
 use compare::reference::checks::{entry_start, name_of_entry};
-use compare::reference::head::{known_layout, section, STRINGS, TRACE};
-use compare::reference::layout::TRACE_ENTRY;
-use compare::typical::{self, Amounts, PLAYER, TYPICAL};
+use compare::reference::head::{known_layout, section, STRINGS};
+use compare::reference::trace;
+use compare::typical::{self, another_form, Amounts, PLAYER, TYPICAL};
 use std::io;
 use std::path::Path;
 use std::process::ExitCode;
@@ -35,6 +36,9 @@ fn write_all(folder: &Path) -> io::Result<()> {
     std::fs::create_dir_all(folder)?;
     std::fs::write(folder.join("small.pf"), typical::file(VERSION, &SMALL))?;
     std::fs::write(folder.join("player.pf"), typical::file_of(&PLAYER, 26, &SMALL))?;
+    let unpacked = typical::file(30, &SMALL);
+    std::fs::write(folder.join("unpacked.pf"), &unpacked)?;
+    std::fs::write(folder.join("form.pf"), another_form(&unpacked))?;
     let good = typical::file(VERSION, &TYPICAL);
     std::fs::write(folder.join("good.pf"), &good)?;
     std::fs::write(folder.join("cut.pf"), &good[..100_000])?;
@@ -78,7 +82,7 @@ fn zero_in_a_name(file: &mut [u8]) {
 
 /// The last trace entry names the first of its chain.
 fn cycle(file: &mut [u8]) {
-    let last = section(file, TRACE).end() - TRACE_ENTRY;
+    let last = trace::entry_start(file, TYPICAL.trace as u64 - 1);
     let first = TYPICAL.trace * (TYPICAL.files - 1) / TYPICAL.files;
     set_32(file, last as usize, first as u32);
 }

@@ -59,7 +59,7 @@ mod points {
     #[test]
     fn the_hash_is_the_chosen_one() {
         let mut random = Random::new(5);
-        for version in [17, 23, 26] {
+        for version in [17, 23, 26, 30] {
             for round in 0..5_000 {
                 let hash = *random.pick(&[0, 1, PRIME - 1, PRIME, u32::MAX, round, u32::MAX / 7]);
                 match text_with_hash(&mut random, version, hash) {

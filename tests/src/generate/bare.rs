@@ -4,17 +4,23 @@
 use super::set_32;
 use crate::reference::readers::Record;
 
-/// H of each version, as the paper has it.
-pub const HEADS: [(u32, u32); 3] = [(17, 148), (23, 156), (26, 212)];
+/// H of each version, as the papers have it.
+pub const HEADS: [(u32, u32); 4] = [(17, 148), (23, 156), (26, 212), (30, 212)];
+
+/// Where the metrics array of version 30 starts, empty or not.
+pub const START_30: u32 = 304;
 
 /// A head without a name or a section, and so many bytes behind it.
 pub fn bare(version: u32, more: u32) -> Vec<u8> {
-    let head_end = HEADS.iter().find(|head| head.0 == version).expect("one of three").1;
+    let head_end = HEADS.iter().find(|head| head.0 == version).expect("one of four").1;
     let size = head_end + more;
     let mut file = vec![0; size as usize];
     set_32(&mut file, 0, version);
     file[4..8].copy_from_slice(b"SCCA");
     set_32(&mut file, 12, size);
+    if version == 30 {
+        set_32(&mut file, 84, START_30);
+    }
     file
 }
 
@@ -26,7 +32,7 @@ pub fn bare_record(file: &[u8]) -> Record {
         name_units: 0,
         stored_hash: 0,
         run_times: [0; 8],
-        time_count: if file[0] == 26 { 8 } else { 1 },
+        time_count: if file[0] < 26 { 1 } else { 8 },
         run_count: 0,
         metrics_count: 0,
         trace_count: 0,
@@ -51,10 +57,27 @@ pub fn one_volume(fields: [u32; 6], data: &[u8]) -> Vec<u8> {
     one_volume_of(17, fields, data)
 }
 
+/// Bytes of a volume entry.
+pub fn volume_entry(version: u32) -> u32 {
+    match version {
+        17 => 40,
+        30 => 96,
+        _ => 104,
+    }
+}
+
+/// Bytes of a trace entry.
+pub fn trace_entry(version: u32) -> u32 {
+    match version {
+        30 => 8,
+        _ => 12,
+    }
+}
+
 /// One volume right behind the head, with data behind its entry. Path offset
 /// and units; references offset and size; directories offset and count.
 pub fn one_volume_of(version: u32, fields: [u32; 6], data: &[u8]) -> Vec<u8> {
-    let entry = if version == 17 { 40 } else { 104 };
+    let entry = volume_entry(version);
     let size = entry + data.len() as u32;
     let mut file = bare(version, size);
     let start = file.len() - size as usize;
@@ -68,33 +91,34 @@ pub fn one_volume_of(version: u32, fields: [u32; 6], data: &[u8]) -> Vec<u8> {
     file
 }
 
-/// H, the metrics entry's size, and where the name's offset stands in it; its
-/// length follows.
+/// Where a metrics array can start, the metrics entry's size, and where the
+/// name's offset stands in it; its length follows.
 fn numbers_of(version: u32) -> (usize, usize, usize) {
     match version {
         17 => (148, 20, 8),
         23 => (156, 32, 12),
-        _ => (212, 32, 12),
+        26 => (212, 32, 12),
+        _ => (START_30 as usize, 32, 12),
     }
 }
 
-/// Metrics entries right after the head and strings right after them. A name
-/// is its offset and its units.
+/// Metrics entries as early as they can be and strings right after them. A
+/// name is its offset and its units.
 pub fn with_names(version: u32, names: &[(u32, u32)], strings: &[u8]) -> Vec<u8> {
-    let (head_end, entry, name) = numbers_of(version);
-    let strings_start = head_end + entry * names.len();
+    let (metrics_start, entry, name) = numbers_of(version);
+    let strings_start = metrics_start + entry * names.len();
     let mut file = vec![0; strings_start + strings.len()];
     let size = file.len() as u32;
     set_32(&mut file, 0, version);
     file[4..8].copy_from_slice(b"SCCA");
     set_32(&mut file, 12, size);
-    set_32(&mut file, 84, head_end as u32);
+    set_32(&mut file, 84, metrics_start as u32);
     set_32(&mut file, 88, names.len() as u32);
     set_32(&mut file, 100, strings_start as u32);
     set_32(&mut file, 104, strings.len() as u32);
     for (i, &(offset, units)) in names.iter().enumerate() {
-        set_32(&mut file, head_end + i * entry + name, offset);
-        set_32(&mut file, head_end + i * entry + name + 4, units);
+        set_32(&mut file, metrics_start + i * entry + name, offset);
+        set_32(&mut file, metrics_start + i * entry + name + 4, units);
     }
     file[strings_start..].copy_from_slice(strings);
     file

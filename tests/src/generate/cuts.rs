@@ -2,8 +2,10 @@
 
 use super::Sample;
 use crate::reference::checks::{entry_start, name_of_entry};
-use crate::reference::head::{known_layout, metrics_count, number_32, section, STRINGS};
-use crate::reference::layout::layout_of;
+use crate::reference::head::{
+    known_layout, layout, metrics_count, number_32, section, version, STRINGS,
+};
+use crate::reference::layout::least_head_end;
 
 /// One before, at and one after every required length, every section's start and end,
 /// and the declared size; and the whole.
@@ -22,15 +24,14 @@ pub fn cuts(sample: &Sample) -> Vec<usize> {
 }
 
 fn middles(file: &[u8]) -> Vec<u64> {
-    let mut middles = vec![4, 8, 16, 76];
+    let mut middles = vec![4, 8, 16, 76, 88];
     if file.len() < 16 {
         return middles;
     }
     middles.push(number_32(file, 12));
     // A damaged version has no layout of its own.
-    let layout = layout_of(number_32(file, 0) as u32);
-    middles.push(layout.map_or(148, |layout| layout.head_end));
-    if layout.is_some() && file.len() >= 120 {
+    middles.push(least_head_end(version(file)).unwrap_or(148));
+    if file.len() >= 120 && layout(file).is_some() {
         for which in 1..=4 {
             let section = section(file, which);
             middles.extend([section.start, section.end()]);

@@ -4,11 +4,23 @@ use super::{set_16, set_32, Sample};
 use crate::random::Random;
 use crate::reference::checks::{entry_start, name_of_entry};
 use crate::reference::head::*;
-use crate::reference::layout::{END, LARGEST_SIZE, TRACE_ENTRY};
-use crate::reference::volumes;
+use crate::reference::layout::{Layout, END, LARGEST_SIZE};
+use crate::reference::{trace, volumes};
 
-/// The checks that can be aimed at, 7 by the number of slots.
-pub const AIMS: std::ops::RangeInclusive<u64> = 1..=15;
+/// The checks that can be aimed at, in their order; 7 by the number of slots.
+pub const AIMS: [u64; 16] = [1, 2, 3, 4, 21, 5, 6, 7, 8, 9, 10, 11, 12, 13, 14, 15];
+/// Those behind the program name, and those behind the head.
+pub const AIMS_BEHIND_NAME: &[u64] = AIMS.split_at(4).1;
+pub const AIMS_BEHIND_HEAD: &[u64] = AIMS.split_at(9).1;
+
+/// The checks of which a file with this layout can have a fault.
+pub fn aims_of(layout: &Layout) -> impl Iterator<Item = u64> + '_ {
+    AIMS.into_iter().filter(|number| match number {
+        21 => layout.metrics_start.is_some(),
+        7 | 11..=13 => layout.has_next,
+        _ => true,
+    })
+}
 
 /// Damages the file so that the check of this number has a fault to find.
 /// Where the file has nothing to damage it is left as it is. Damage to a
@@ -16,10 +28,11 @@ pub const AIMS: std::ops::RangeInclusive<u64> = 1..=15;
 pub fn damage(random: &mut Random, sample: &mut Sample, number: u64) {
     let file = &mut sample.bytes;
     match number {
-        1 => version(random, file),
+        1 => wrong_version(random, file),
         2 => signature(random, file),
         3 => size(random, file),
         4 => program_name(random, file),
+        21 => form(random, file),
         5 => section_outside(random, file),
         6 => section_shared(random, file),
         7 => sample.places = sample.places.saturating_sub(random.between(1, 3)),
@@ -35,10 +48,11 @@ pub fn damage(random: &mut Random, sample: &mut Sample, number: u64) {
     }
 }
 
-fn version(random: &mut Random, file: &mut [u8]) {
-    let good = number_32(file, 0) as u32;
-    let wrong = [0, 16, 18, 22, 24, 25, 27, 30, good + 256, good << 8, good << 24, good | 1 << 31];
-    set_32(file, 0, *random.pick(&wrong));
+fn wrong_version(random: &mut Random, file: &mut [u8]) {
+    let good = version(file);
+    let near = [0, 16, 18, 22, 24, 25, 27, 29, 31];
+    let like = [good + 256, good << 8, good << 24, good | 1 << 31];
+    set_32(file, 0, *random.pick(&[&near[..], &like[..]].concat()));
 }
 
 fn signature(random: &mut Random, file: &mut [u8]) {
@@ -46,7 +60,7 @@ fn signature(random: &mut Random, file: &mut [u8]) {
 }
 
 fn size(random: &mut Random, file: &mut [u8]) {
-    let head_end = head_end(file) as u32;
+    let head_end = smallest_head_end(file) as u32;
     let limit = LARGEST_SIZE as u32;
     let wrong = [0, 1, head_end - 1, limit + 1, limit + head_end, 1 << 31, u32::MAX];
     set_32(file, 12, *random.pick(&wrong));
@@ -59,6 +73,21 @@ fn program_name(random: &mut Random, file: &mut [u8]) {
             set_16(file, 16 + 2 * place, *random.pick(&[1, 0x0100, 0xFFFF]));
         }
     }
+}
+
+/// A metrics offset that no form of the version has. The array stays where it
+/// is, and may be empty.
+fn form(random: &mut Random, file: &mut [u8]) {
+    let Some(good) = layout(file).and_then(|layout| layout.metrics_start) else {
+        return;
+    };
+    let good = good as u32;
+    if random.one_in(4) {
+        set_32(file, 88, 0);
+    }
+    let near = [0, 148, 152, 156, 212, 240, 296, good - 1, good + 1, u32::MAX];
+    let like = [good + 256, good << 8, good >> 8, good ^ 1 << 15, good | 1 << 16, good | 1 << 31];
+    set_32(file, 84, *random.pick(&[&near[..], &like[..]].concat()));
 }
 
 /// Where a section's offset stands in the head, and its count or size.
@@ -84,7 +113,8 @@ fn section_outside(random: &mut Random, file: &mut [u8]) {
         return set_32(file, 104, 1);
     }
     let which = *random.pick(&filled);
-    if random.one_in(3) {
+    // Elsewhere, a metrics array that tells its form would be of another.
+    if random.one_in(3) || (which == METRICS && form_is_told(file)) {
         section_too_long(random, file, which);
     } else {
         section_elsewhere(random, file, which);
@@ -116,7 +146,7 @@ fn section_too_long(random: &mut Random, file: &mut [u8], which: u64) {
     let room = declared_size(file).saturating_sub(section(file, which).start);
     let entry = match which {
         METRICS => known_layout(file).metrics_entry,
-        TRACE => TRACE_ENTRY,
+        TRACE => known_layout(file).trace_entry,
         _ => 1,
     };
     let one_too_many = room / entry + 1;
@@ -134,6 +164,10 @@ fn section_shared(random: &mut Random, file: &mut [u8]) {
         return;
     }
     random.shuffle(&mut filled);
+    // A metrics array that tells its form stays.
+    if filled[0] == METRICS && form_is_told(file) {
+        filled.swap(0, 1);
+    }
     let (moved, other) = (section(file, filled[0]), section(file, filled[1]));
     let starts = [
         other.start,
@@ -215,16 +249,16 @@ fn name_unsound(random: &mut Random, file: &mut [u8]) {
 }
 
 fn set_link(file: &mut [u8], entry: u64, next: u32) {
-    let start = section(file, TRACE).start + entry * TRACE_ENTRY;
-    set_32(file, start as usize, next);
+    set_32(file, trace::entry_start(file, entry) as usize, next);
 }
 
 fn link(file: &[u8], entry: u64) -> u32 {
-    number_32(file, (section(file, TRACE).start + entry * TRACE_ENTRY) as usize) as u32
+    number_32(file, trace::entry_start(file, entry) as usize) as u32
 }
 
+/// Entries without a link need no slot: there is nothing to damage then.
 fn link_wild(random: &mut Random, file: &mut [u8]) {
-    let count = trace_count(file);
+    let count = slots_needed(file);
     if let Some(entry) = some_entry(random, count) {
         let wild = [count as u32, count as u32 + 1, 1 << 31, END - 1, (1 << 31) - 1];
         set_link(file, entry, *random.pick(&wild));
@@ -232,7 +266,7 @@ fn link_wild(random: &mut Random, file: &mut [u8]) {
 }
 
 fn link_shared(random: &mut Random, file: &mut [u8]) {
-    let count = trace_count(file);
+    let count = slots_needed(file);
     if count < 2 {
         return;
     }
@@ -245,7 +279,7 @@ fn link_shared(random: &mut Random, file: &mut [u8]) {
 
 /// A cycle of some entries; nothing else names them any more.
 fn link_ring(random: &mut Random, file: &mut [u8]) {
-    let count = trace_count(file);
+    let count = slots_needed(file);
     if count == 0 {
         return;
     }
@@ -391,10 +425,12 @@ pub fn edits(random: &mut Random, sample: &mut Sample) {
 
 fn edit(random: &mut Random, file: &mut [u8]) {
     const HEAD_FIELDS: [usize; 13] = [0, 4, 12, 76, 84, 88, 92, 96, 100, 104, 108, 112, 116];
-    match random.below(6) {
-        0 => file[random.below(file.len())] ^= 1 << random.below(8),
-        1 => file[random.below(file.len())] = 0,
-        2 | 3 => {
+    match random.below(13) {
+        0 | 1 => file[random.below(file.len())] ^= 1 << random.below(8),
+        2 | 3 => file[random.below(file.len())] = 0,
+        // Another version, in the head of this one.
+        4 => set_32(file, 0, *random.pick(&[17, 23, 26, 30])),
+        5..=8 => {
             let field = *random.pick(&HEAD_FIELDS);
             edit_number(random, file, field);
         }
@@ -436,6 +472,7 @@ fn edit_number(random: &mut Random, file: &mut [u8], field: usize) {
         148,
         156,
         212,
+        304,
         u32::MAX,
         1 << 31,
         random.below(64) as u32,

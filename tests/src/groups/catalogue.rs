@@ -53,7 +53,7 @@ fn named_points(tally: &mut Tally) {
 
 /// Lines on either edge of each number, with the size or a refusal.
 fn named_edges(tally: &mut Tally) {
-    let lines: [(&[u8], Option<u32>); 24] = [
+    let lines: [(&[u8], Option<u32>); 32] = [
         // The size of a new line.
         (b"00000093000000410000000111\n", None),
         (b"00000094000000410000000111\n", Some(148)),
@@ -68,15 +68,23 @@ fn named_edges(tally: &mut Tally) {
         (b"000093000000410000000111\n", None),
         (b"000094000000410000000111\n", Some(148)),
         (b"FFFFFF000000410000000111\n", Some(16_777_215)),
-        // H of versions 23 and 26, and a version that is not known.
+        // H of versions 23, 26 and 30, and versions that are not known.
         (b"0000009B000000410000000117\n", None),
         (b"0000009C000000410000000117\n", Some(156)),
         (b"000000D300000041000000011A\n", None),
         (b"000000D400000041000000011A\n", Some(212)),
-        (b"000000D400000041000000011E\n", None),
+        (b"000000D300000041000000011E\n", None),
+        (b"000000D400000041000000011E\n", Some(212)),
+        (b"0400000000000041000000011E\n", Some(67_108_864)),
+        (b"0400000100000041000000011E\n", None),
+        (b"000000D400000041000000011D\n", None),
+        (b"000000D400000041000000011F\n", None),
         (b"0000D300000041000000011A\n", None),
         (b"0000D400000041000000011A\n", Some(212)),
-        (b"0000D400000041000000011E\n", None),
+        (b"0000D300000041000000011E\n", None),
+        (b"0000D400000041000000011E\n", Some(212)),
+        (b"FFFFFF00000041000000011E\n", Some(16_777_215)),
+        (b"0000D400000041000000011F\n", None),
         // Seven digits for the size, and nine.
         (b"0000094000000410000000111\n", None),
         (b"000000094000000410000000111\n", None),
@@ -114,7 +122,7 @@ fn edge_fields(random: &mut Random) -> Vec<Fields> {
     for size in edge_sizes() {
         for stored_hash in [0, 65, 0x7FFF_FFFF, 0x8000_0000, 0xFFFF_FFFF, random.u32() as u64] {
             for run_count in [0, 1, 0x7FFF_FFFF, 0x8000_0000, 0xFFFF_FFFF, random.u32() as u64] {
-                for version in [17, 23, 26] {
+                for version in [17, 23, 26, 30] {
                     list.push(Fields { size, stored_hash, run_count, version });
                 }
             }
@@ -257,7 +265,7 @@ fn random_lines(random: &mut Random, scale: usize, tally: &mut Tally) {
     for _ in 0..50_000 * scale {
         let digits = *random.pick(&[24, 26, 26]);
         let mut line: Vec<u8> = (0..digits).map(|_| *random.pick(b"0123456789ABCDEF")).collect();
-        let version = *random.pick(&["11", "17", "1A", "1E"]);
+        let version = *random.pick(&["11", "17", "1A", "1E", "1D", "1F"]);
         line[digits - 2..].copy_from_slice(version.as_bytes());
         // Small sizes, and for new lines sizes around the limit.
         if random.one_in(2) {

@@ -14,6 +14,11 @@ use crate::tally::Tally;
 /// Entries of a long list.
 const LONG: usize = 100_000;
 
+/// The layouts whose trace entries have links.
+fn linked_layouts() -> Vec<&'static Layout> {
+    LAYOUTS.iter().filter(|layout| layout.has_next).collect()
+}
+
 pub fn run(run: &Run, tally: &mut Tally) {
     let mut links = Links { random: run.random("links"), tally, seen: Seen::default() };
     links.every_short_list();
@@ -38,10 +43,10 @@ impl Links<'_> {
             choices.extend([END - 1, END]);
             every_list(count as usize, &choices, |links| {
                 if count == 5 {
-                    let layout = self.random.pick(&LAYOUTS);
+                    let layout = *self.random.pick(&linked_layouts());
                     return self.list(layout, links);
                 }
-                for layout in &LAYOUTS {
+                for layout in linked_layouts() {
                     self.list(layout, links);
                 }
             });
@@ -51,7 +56,7 @@ impl Links<'_> {
     fn random_lists(&mut self, rounds: usize) {
         for _ in 0..rounds {
             let links = mixed(&mut self.random, 40);
-            let layout = self.random.pick(&LAYOUTS);
+            let layout = *self.random.pick(&linked_layouts());
             self.list(layout, &links);
         }
     }
@@ -99,7 +104,7 @@ impl Links<'_> {
     }
 
     fn long_list(&mut self, order: &str, long: &Long) {
-        let layout = self.random.pick(&LAYOUTS);
+        let layout = *self.random.pick(&linked_layouts());
         let file = self.file_around(layout, &long.links);
         let failed = self.tally.failed;
         for more in [0, 1, 4_096] {

@@ -4,7 +4,7 @@
 use super::Run;
 use crate::generate::bare::with_path;
 use crate::generate::cuts::cuts;
-use crate::generate::damage::{damage, edits};
+use crate::generate::damage::{damage, edits, AIMS};
 use crate::generate::{any, rich, set_32, sound_of, Counts, Sample};
 use crate::random::Random;
 use crate::reference::layout::LAYOUTS;
@@ -56,10 +56,14 @@ fn example_paths(tally: &mut Tally) {
         (23, 0x3D2AFDB4, "path 0 0"),
         (26, 0x3D2AFDB4, "path 0 0"),
         (26, 0x189578DA, "path none"),
+        (30, 0x3D2AFDB4, "path 0 0"),
+        (30, 0x189578DA, "path none"),
         // With a number of the /prefetch switch, and one too great.
         (17, 0x189578DB, "path 0 1"),
         (23, 0x3D2AFDBC, "path 0 8"),
         (26, 0x3D2AFDBD, "path none"),
+        (30, 0x3D2AFDBC, "path 0 8"),
+        (30, 0x3D2AFDBD, "path none"),
     ];
     for (version, hash, last) in cases {
         let text = format!(
@@ -81,10 +85,11 @@ fn lengths(random: &mut Random, tally: &mut Tally) {
 }
 
 /// As many trace entries as the input can hold; then a head that declares as
-/// many as there are slots, and one more.
+/// many as there are slots, and one more. Version 30 needs no slots: of its
+/// entries more fit the input than there are slots.
 fn places(random: &mut Random, tally: &mut Tally) {
     for layout in &LAYOUTS {
-        let trace = (LONGEST_INPUT - layout.head_end as usize - 100) / 12;
+        let trace = (LONGEST_INPUT - layout.head_end as usize - 100) / layout.trace_entry as usize;
         let counts = Counts { metrics: 0, trace, volumes: 0 };
         let mut file = sound_of(random, layout, counts).bytes;
         written(&file, tally);
@@ -129,7 +134,7 @@ fn cut_or_longer(random: &mut Random) -> Sample {
 
 fn damaged(random: &mut Random) -> Sample {
     let mut sample = rich(random);
-    let number = random.between(1, 15) as u64;
+    let number = *random.pick(&AIMS);
     damage(random, &mut sample, number);
     sample
 }

@@ -13,6 +13,7 @@ mod queries;
 mod query_points;
 mod reader_points;
 mod readers;
+mod version_30;
 mod volumes;
 
 /// What a run is asked for.
@@ -41,5 +42,6 @@ pub const GROUPS: &[Group] = &[
     ("links", links::run),
     ("volumes", volumes::run),
     ("queries", queries::run),
+    ("version_30", version_30::run),
     ("listing", listing::run),
 ];

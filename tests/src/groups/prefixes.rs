@@ -4,7 +4,7 @@
 use super::Run;
 use crate::boundary::{inner_of, Outcome, Outputs};
 use crate::generate::cuts::cuts;
-use crate::generate::damage::{damage, edits};
+use crate::generate::damage::{damage, edits, AIMS_BEHIND_HEAD};
 use crate::generate::{any, rich, Sample};
 use crate::random::Random;
 use crate::reference::head::declared_size;
@@ -27,7 +27,7 @@ fn any_sample(random: &mut Random) -> Sample {
         1 => damage_late(random, &mut sample),
         2 => {
             damage_late(random, &mut sample);
-            let number = random.between(5, 8) as u64;
+            let number = *random.pick(&[21, 5, 6, 7, 8]);
             damage(random, &mut sample, number);
         }
         3 => edits(random, &mut sample),
@@ -45,7 +45,7 @@ fn any_sample(random: &mut Random) -> Sample {
 }
 
 fn damage_late(random: &mut Random, sample: &mut Sample) {
-    let number = random.between(9, 15) as u64;
+    let number = *random.pick(AIMS_BEHIND_HEAD);
     damage(random, sample, number);
 }
 

@@ -4,7 +4,7 @@
 use super::Run;
 use crate::boundary::{guarded_u32, guarded_u64};
 use crate::generate::cuts::{cuts, query_cuts};
-use crate::generate::damage::{damage, edits};
+use crate::generate::damage::{damage, edits, AIMS};
 use crate::generate::{any, rich, Sample};
 use crate::random::Random;
 use crate::reference::head::{metrics_count, volume_count};
@@ -46,10 +46,11 @@ impl Queries<'_> {
     fn damaged_files(&mut self, rounds: usize) {
         for _ in 0..rounds {
             let mut sample = rich(&mut self.random);
-            let mut numbers = [self.random.between(1, 15), self.random.between(5, 15)];
-            numbers.sort();
-            for &number in numbers[self.random.below(2)..].iter().rev() {
-                damage(&mut self.random, &mut sample, number as u64);
+            let last = AIMS.len() - 1;
+            let mut places = [self.random.between(0, last), self.random.between(4, last)];
+            places.sort();
+            for &place in places[self.random.below(2)..].iter().rev() {
+                damage(&mut self.random, &mut sample, AIMS[place]);
             }
             self.prefix(&sample, sample.bytes.len());
             for _ in 0..3 {
@@ -249,7 +250,7 @@ fn count(file: &[u8], field: fn(&[u8]) -> u64) -> u64 {
 fn indexes(count: u64) -> Vec<u64> {
     let mut list: Vec<u64> = (0..count.min(6)).collect();
     list.extend([count.saturating_sub(1), count, count + 1, 1 << 32, u64::MAX]);
-    list.extend([20, 32, 40, 104, 8].map(|entry| u64::MAX / entry + 1));
+    list.extend([20, 32, 40, 96, 104, 8].map(|entry| u64::MAX / entry + 1));
     list
 }
 

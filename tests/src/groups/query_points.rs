@@ -1,6 +1,6 @@
 //! Queries on small files put together by hand, with answers by hand.
 
-use crate::generate::bare::{bare, with_links, with_names, with_path, HEADS};
+use crate::generate::bare::{bare, trace_entry, with_links, with_names, with_path, HEADS};
 use crate::generate::{set_16, set_32};
 use crate::reference::layout::END;
 use crate::reference::{queries, search};
@@ -38,32 +38,41 @@ fn needs(tally: &mut Tally, name: &str, file: &[u8], number: Option<u64>) {
 
 /// Three trace entries right behind the head, up to S.
 fn with_three(version: u32) -> Vec<u8> {
-    let mut file = bare(version, 36);
-    let head_end = file.len() as u32 - 36;
+    let bytes = 3 * trace_entry(version);
+    let mut file = bare(version, bytes);
+    let head_end = file.len() as u32 - bytes;
     set_32(&mut file, 92, head_end);
     set_32(&mut file, 96, 3);
     file
+}
+
+/// So many, or none in version 30, whose trace entries have no next index.
+fn slots(version: u32, entries: u64) -> Option<u64> {
+    Some(if version == 30 { 0 } else { entries })
 }
 
 fn numbers_of_places(tally: &mut Tally) {
     for (version, head_end) in HEADS {
         let file = with_three(version);
         let cut = head_end as usize;
-        needs(tally, "a section that ends at S", &file, Some(3));
-        needs(tally, "H bytes", &file[..cut], Some(3));
+        let (two, three) = (slots(version, 2), slots(version, 3));
+        needs(tally, "a section that ends at S", &file, three);
+        needs(tally, "H bytes", &file[..cut], three);
         needs(tally, "a byte short of H", &file[..cut - 1], None);
         needs(tally, "no bytes", &[], None);
+        // Entries of 12 bytes: 8 past 2 to the 32; of 8: 8 past.
+        let wrapping = if version == 30 { 536_870_913 } else { 357_913_942 };
         let trace_fields: [(&str, usize, u32, Option<u64>); 10] = [
             ("an entry past S", 96, 4, None),
             ("a section that ends at S + 1", 92, head_end + 1, None),
             ("a section that starts at H - 1", 92, head_end - 1, None),
-            ("two entries, at H", 96, 2, Some(2)),
+            ("two entries, at H", 96, 2, two),
             ("a trace count of 0", 96, 0, Some(0)),
-            ("a product past 32 bits", 96, 357_913_942, None),
+            ("a product past 32 bits", 96, wrapping, None),
             ("the greatest count", 96, u32::MAX, None),
             ("a size below H", 12, head_end - 1, None),
             ("a size past the limit", 12, 67_108_865, None),
-            ("a size at the limit", 12, 67_108_864, Some(3)),
+            ("a size at the limit", 12, 67_108_864, three),
         ];
         for (name, field, number, expected) in trace_fields {
             let mut file = with_three(version);
@@ -76,10 +85,11 @@ fn numbers_of_places(tally: &mut Tally) {
 
 /// The other checks: 1 to 6 of any field count, 7 and later do not.
 fn others_of_places(tally: &mut Tally, version: u32, head_end: u32) {
+    let three = slots(version, 3);
     let mut file = with_three(version);
     set_32(&mut file, 112, u32::MAX);
-    needs(tally, "check 8 plays no part", &file, Some(3));
-    set_32(&mut file, 100, head_end + 35);
+    needs(tally, "check 8 plays no part", &file, three);
+    set_32(&mut file, 100, head_end + 3 * trace_entry(version) - 1);
     set_32(&mut file, 104, 1);
     needs(tally, "a byte shared with the strings", &file, None);
     set_32(&mut file, 96, 0);
@@ -88,7 +98,7 @@ fn others_of_places(tally: &mut Tally, version: u32, head_end: u32) {
     needs(tally, "strings past S", &file, None);
     let mut file = with_three(version);
     file.push(0);
-    needs(tally, "a byte past S", &file, Some(3));
+    needs(tally, "a byte past S", &file, three);
     file[4] = b's';
     needs(tally, "check 2", &file, None);
     let mut file = with_three(version);
@@ -157,7 +167,7 @@ fn program_names(tally: &mut Tally) {
 }
 
 fn entry_names(tally: &mut Tally) {
-    for version in [17, 23, 26] {
+    for version in [17, 23, 26, 30] {
         let file = with_names(version, &[(0, 1), (4, 2), (2, 0), (1, 0)], b"A\0\0\0B\0C\0\0\0");
         tally.named("entry 0", &Some(&b"A\0"[..]), &entry_name(&file, 0));
         tally.named("entry 1", &Some(&b"B\0C\0"[..]), &entry_name(&file, 1));
@@ -235,6 +245,11 @@ fn paths(tally: &mut Tally) {
         (26, XP_A, None),
         (26, UNITS_VISTA_A, None),
         (26, UNITS_VISTA_AB, None),
+        (30, VISTA_A, Some(1)),
+        (30, VISTA_AB, Some(0)),
+        (30, XP_A, None),
+        (30, UNITS_VISTA_A, None),
+        (30, UNITS_VISTA_AB, None),
     ];
     for (version, stored_hash, entry) in cases {
         let mut file = with_names(version, &names, strings);
@@ -242,7 +257,7 @@ fn paths(tally: &mut Tally) {
         finds(tally, &format!("version {version}, stored hash {stored_hash}"), &file, entry);
     }
     // Of no bytes: XP gives 0, the others their start.
-    for (version, stored_hash) in [(17, 0), (23, 314159), (26, 314159)] {
+    for (version, stored_hash) in [(17, 0), (23, 314159), (26, 314159), (30, 314159)] {
         finds(tally, "an empty name", &with_path(version, "", stored_hash), Some(0));
     }
 }
@@ -259,10 +274,14 @@ fn notepad(tally: &mut Tally) {
         (23, second, 0x86E0E9B9, Some(0)),
         (26, first, 0x3D2AFDB4, Some(0)),
         (26, second, 0x86E0E9B9, Some(0)),
+        (30, first, 0x3D2AFDB4, Some(0)),
+        (30, second, 0x86E0E9B9, Some(0)),
+        (30, first, 0x189578DA, None),
         // Over its units.
         (17, first, 0x39B1CF75, None),
         (23, first, 0xCDEC1644, None),
         (26, first, 0xCDEC1644, None),
+        (30, first, 0xCDEC1644, None),
     ];
     for (version, path, stored_hash, entry) in cases {
         let name = format!("version {version}, {path}, {stored_hash:08X}");
@@ -273,7 +292,12 @@ fn notepad(tally: &mut Tally) {
 /// A byte of 128 and above counts as it stands. As a signed one it would give
 /// the second hash, which must not be found.
 fn high_bytes(tally: &mut Tally) {
-    let cases = [(17, 757305720, 61565560), (23, 430092292, 430082820), (26, 430092292, 430082820)];
+    let cases = [
+        (17, 757305720, 61565560),
+        (23, 430092292, 430082820),
+        (26, 430092292, 430082820),
+        (30, 430092292, 430082820),
+    ];
     for (version, unsigned, signed) in cases {
         let name = format!("version {version}, E9 00");
         finds(tally, &name, &with_path(version, "\u{E9}", unsigned), Some(0));
@@ -283,7 +307,7 @@ fn high_bytes(tally: &mut Tally) {
 
 /// From 0 to 8 above the hash, and not 9 or one below.
 fn numbers_of_a_name(tally: &mut Tally) {
-    for (version, hash) in [(17, XP_A), (23, VISTA_A), (26, VISTA_A)] {
+    for (version, hash) in [(17, XP_A), (23, VISTA_A), (26, VISTA_A), (30, VISTA_A)] {
         let file = |stored_hash| with_path(version, "A", stored_hash);
         for number in 0..=8 {
             let name = format!("version {version}, number {number}");
@@ -307,7 +331,7 @@ fn with_steps(version: u32, steps: &[u8], stored_hash: u32) -> Vec<u8> {
 }
 
 fn numbers_of_names(tally: &mut Tally) {
-    for (version, head_end) in [HEADS[1], HEADS[2]] {
+    for (version, head_end) in [HEADS[1], HEADS[2], HEADS[3]] {
         // Equal names, the least number at neither end, and one past the hash.
         let file = with_steps(version, &[3, 0, 5, 3, 9, 5], VISTA_A + 8);
         let pairs = [(2, 3), (5, 3), (0, 5), (3, 5), (1, 8)];
@@ -367,7 +391,7 @@ fn hashes_that_wrap(tally: &mut Tally) {
         (5, Some(8)),
         (6, None),
     ];
-    for version in [23, 26] {
+    for version in [23, 26, 30] {
         for (stored_hash, number) in cases {
             let mut file = with_names(version, &[(0, 4)], &strings);
             set_32(&mut file, 76, stored_hash);

@@ -31,7 +31,7 @@ pub fn run(tally: &mut Tally) {
 }
 
 /// The offset is that of the field at fault, worked out by hand.
-fn refused(number: u64, index: u64, offset: u64) -> Verdict {
+pub fn refused(number: u64, index: u64, offset: u64) -> Verdict {
     Verdict::Refused(Refusal { number, index, offset })
 }
 
@@ -41,7 +41,7 @@ fn check(tally: &mut Tally, name: &str, reader: Reader, bytes: &[u8], verdict: V
     check_answer(tally, name, reader, bytes, &answer);
 }
 
-fn check_answer(tally: &mut Tally, name: &str, reader: Reader, bytes: &[u8], answer: &Answer) {
+pub fn check_answer(tally: &mut Tally, name: &str, reader: Reader, bytes: &[u8], answer: &Answer) {
     let places = answer.predecessors.len();
     let outputs = Outputs::new(&mut Random::new(1), HS_READER_OUT, places);
     let expected = outputs.expected(answer);
@@ -49,11 +49,11 @@ fn check_answer(tally: &mut Tally, name: &str, reader: Reader, bytes: &[u8], ans
     tally.named(name, answer, &(reader.reference)(bytes, places));
 }
 
-fn part(tally: &mut Tally, name: &str, bytes: &[u8], verdict: Verdict) {
+pub fn part(tally: &mut Tally, name: &str, bytes: &[u8], verdict: Verdict) {
     check(tally, name, PREFIX_READER, bytes, verdict);
 }
 
-fn whole(tally: &mut Tally, name: &str, bytes: &[u8], verdict: Verdict) {
+pub fn whole(tally: &mut Tally, name: &str, bytes: &[u8], verdict: Verdict) {
     check(tally, name, WHOLE_READER, bytes, verdict);
 }
 
@@ -77,7 +77,8 @@ fn first_bytes(tally: &mut Tally) {
         whole(tally, &name, &file[..length], refused(16, 0, 12));
     }
     part(tally, "version 24 in four bytes", &[24, 0, 0, 0], refused(1, 0, 0));
-    part(tally, "version 30", &[30, 0, 0, 0], refused(1, 0, 0));
+    part(tally, "version 29", &[29, 0, 0, 0], refused(1, 0, 0));
+    part(tally, "version 31", &[31, 0, 0, 0], refused(1, 0, 0));
     part(tally, "version 17 and 256", &[17, 1, 0, 0], refused(1, 0, 0));
     part(tally, "wrong signature", b"\x11\0\0\0SCCB", refused(2, 0, 4));
     part(tally, "both wrong", b"\x18\0\0\0SCCB", refused(1, 0, 0));
@@ -140,13 +141,14 @@ const TIMES: [u64; 8] = [5, u64::MAX, 0, 1 << 63, 7, 7, 0xFFFF_FFFF, 1];
 
 /// The same numbers from the latest run time on in every version. Up to the
 /// run count 17 and 23 have room for three of them, and only the first is a
-/// time; 26 has all eight from 128 to 192, and other things up to 208.
+/// time; 26 and 30 have all eight from 128 to 192, and other things up to 208.
 fn run_times(tally: &mut Tally) {
     let first_alone = [5, 0, 0, 0, 0, 0, 0, 0];
     let cases = [
         (17, 120, 3, 144, 1, first_alone),
         (23, 128, 3, 152, 1, first_alone),
         (26, 128, 8, 208, 8, TIMES),
+        (30, 128, 8, 208, 8, TIMES),
     ];
     for (version, start, numbers, run_count, time_count, run_times) in cases {
         let mut file = bare(version, 0);

@@ -3,7 +3,7 @@
 use super::Run;
 use crate::boundary::compare_both;
 use crate::generate::cuts::cuts;
-use crate::generate::damage::{damage, edits, AIMS};
+use crate::generate::damage::{damage, edits, AIMS, AIMS_BEHIND_HEAD, AIMS_BEHIND_NAME};
 use crate::generate::{any, rich, sound, Counts, Sample};
 use crate::random::Random;
 use crate::reference::checks::Refusal;
@@ -31,15 +31,15 @@ struct Readers<'a> {
 }
 
 impl Readers<'_> {
-    /// Every length from 0 to 300, on sound files and damaged ones.
+    /// Every length from 0 to 320, on sound files and damaged ones.
     fn short_prefixes(&mut self, rounds: usize) {
         for round in 0..rounds {
             let mut sample = any(&mut self.random);
             if round % 3 == 1 {
-                let number = self.random.between(5, 15) as u64;
+                let number = *self.random.pick(AIMS_BEHIND_NAME);
                 damage(&mut self.random, &mut sample, number);
             }
-            for length in 0..=300.min(sample.bytes.len()) {
+            for length in 0..=320.min(sample.bytes.len()) {
                 self.prefix(&sample, length, sample.places);
             }
             self.rest_of(&sample);
@@ -77,8 +77,8 @@ impl Readers<'_> {
 
     /// Every pair, two faults for one check among them.
     fn pairs_of_faults(&mut self, rounds: usize) {
-        for first in AIMS {
-            for second in first..=*AIMS.end() {
+        for (place, &first) in AIMS.iter().enumerate() {
+            for &second in &AIMS[place..] {
                 for _ in 0..rounds {
                     let sample = self.damaged(&[first, second]);
                     self.seen.paired(first, second, &sample);
@@ -120,7 +120,7 @@ impl Readers<'_> {
     /// Noise behind a head that is good as far as it goes.
     fn random_bytes(&mut self, rounds: usize) {
         for _ in 0..rounds {
-            let length = self.random.below(300);
+            let length = self.random.below(400);
             let mut bytes = self.random.bytes(length);
             let head = good_start(&mut self.random);
             let kept = self.random.between(0, head.len()).min(length);
@@ -140,7 +140,7 @@ impl Readers<'_> {
             };
             let mut sample = sound(&mut self.random, counts);
             if round % 2 == 1 {
-                let number = self.random.between(9, 15) as u64;
+                let number = *self.random.pick(AIMS_BEHIND_HEAD);
                 damage(&mut self.random, &mut sample, number);
             }
             sample.places += self.random.below(10_000);
@@ -237,7 +237,7 @@ fn safe_verdict(verdict: hivesaddle::Verdict) -> Verdict {
 
 /// Version, signature, four bytes and a size that may be good.
 fn good_start(random: &mut Random) -> Vec<u8> {
-    let mut start = vec![*random.pick(&[17, 23, 26]), 0, 0, 0];
+    let mut start = vec![*random.pick(&[17, 23, 26, 30]), 0, 0, 0];
     start.extend(b"SCCA");
     start.extend(random.bytes(4));
     start.extend((random.between(140, 400) as u32).to_le_bytes());
@@ -249,14 +249,20 @@ fn good_start(random: &mut Random) -> Vec<u8> {
 #[derive(Default)]
 struct Seen {
     accepted: u64,
+    accepted_by_version: [u64; 31],
     /// With eight run times that do not fall.
     unsorted_times: u64,
     wanted: u64,
-    refused: [u64; 18],
+    refused: [u64; 22],
     /// Aimed at this check alone, and answered by it.
-    aimed: [u64; 16],
+    aimed: [u64; 22],
     /// Aimed at both, and answered by the first.
-    paired: [[u64; 16]; 16],
+    paired: [[u64; 22]; 22],
+}
+
+/// All that the readers can refuse with, in the order of checks.
+fn numbers() -> impl Iterator<Item = u64> {
+    AIMS.into_iter().chain([16, 17])
 }
 
 impl Seen {
@@ -264,6 +270,7 @@ impl Seen {
         match answer.verdict {
             Verdict::Accepted(record) => {
                 self.accepted += 1;
+                self.accepted_by_version[record.version as usize] += 1;
                 let times = &record.run_times[..record.time_count as usize];
                 self.unsorted_times += !times.is_sorted_by(|one, next| one >= next) as u64;
             }
@@ -286,19 +293,26 @@ impl Seen {
             "readers: {} accepted, {} wanted more, refused by number:",
             self.accepted, self.wanted
         );
+        let refused = |number: u64| self.refused[number as usize];
         let counts: Vec<String> =
-            (1..18).map(|number| format!("{number}: {}", self.refused[number])).collect();
+            numbers().map(|number| format!("{number}: {}", refused(number))).collect();
         println!("  {}", counts.join(", "));
         tally.named("unsorted times have come up", &true, &(self.unsorted_times > 0));
-        for number in 1..18 {
-            let name = format!("refusal {number} has come up");
-            tally.named(&name, &true, &(self.refused[number] > 0));
+        for version in [17, 23, 26, 30] {
+            let often = self.accepted_by_version[version] > 1_000;
+            tally.named(&format!("version {version} was accepted often"), &true, &often);
         }
-        for first in 1..16 {
-            tally.named(&format!("aim {first} has hit"), &true, &(self.aimed[first] > 0));
-            for second in first..16 {
+        for number in numbers() {
+            let name = format!("refusal {number} has come up");
+            tally.named(&name, &true, &(refused(number) > 0));
+        }
+        for (place, &first) in AIMS.iter().enumerate() {
+            let hits = self.aimed[first as usize];
+            tally.named(&format!("aim {first} has hit"), &true, &(hits > 0));
+            for &second in &AIMS[place..] {
                 let name = format!("pair {first}, {second} has hit");
-                tally.named(&name, &true, &(self.paired[first][second] > 0));
+                let hits = self.paired[first as usize][second as usize];
+                tally.named(&name, &true, &(hits > 0));
             }
         }
     }

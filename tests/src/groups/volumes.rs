@@ -3,7 +3,7 @@
 
 use super::Run;
 use crate::boundary::compare_both;
-use crate::generate::bare::{bare, one_volume_of};
+use crate::generate::bare::{bare, one_volume_of, volume_entry};
 use crate::generate::damage::{directory_ends, volume_start};
 use crate::generate::{set_16, set_32, sound_of, Counts};
 use crate::random::Random;
@@ -97,8 +97,12 @@ impl Volumes<'_> {
     /// One volume with one part: all small numbers and those near the ends of
     /// 32 bits, at every parity.
     fn grids(&mut self) {
-        let lengths: [(u32, &[usize]); 3] =
-            [(17, &[0, 1, 2, 3, 7, 8, 9, 15, 16, 17, 24]), (23, &[0, 1, 8, 17]), (26, &[0, 9, 16])];
+        let lengths: [(u32, &[usize]); 4] = [
+            (17, &[0, 1, 2, 3, 7, 8, 9, 15, 16, 17, 24]),
+            (23, &[0, 1, 8, 17]),
+            (26, &[0, 9, 16]),
+            (30, &[0, 8, 15]),
+        ];
         for (version, lengths) in lengths {
             for &length in lengths {
                 self.path_grid(version, length);
@@ -226,7 +230,7 @@ impl Volumes<'_> {
             let mut data = data.clone();
             set_16(&mut data, 2 * BYTES - 2, last);
             data.truncate(2 * BYTES - short);
-            for version in [17, 23, 26] {
+            for version in [17, 23, 26, 30] {
                 let entry = volumes_size(version, 0);
                 self.file_and_cut(&one_volume_of(version, [0, 0, 0, 0, entry, count], &data));
             }
@@ -235,7 +239,7 @@ impl Volumes<'_> {
 }
 
 fn volumes_size(version: u32, data: usize) -> u32 {
-    data as u32 + if version == 17 { 40 } else { 104 }
+    data as u32 + volume_entry(version)
 }
 
 /// From 0 to the bound, and near the halves and ends of 32 bits.

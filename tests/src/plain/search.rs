@@ -78,11 +78,12 @@ impl<'a> Search<'a> {
     }
 }
 
-/// Checks 1 to 6.
+/// Checks 1 to 6, with 21 among them.
 fn opening(file: &[u8]) -> Result<(&'static Layout, [Section; 4]), Refusal> {
     let layout = layout(file)?;
     let size = declared_size(file, layout)?;
     program_name(file)?;
+    form(file)?;
     need(file, layout.head_end)?;
     Ok((layout, sections(file, layout, size)?))
 }
@@ -147,7 +148,7 @@ fn hash_xp(name: &[u8]) -> Option<u32> {
     Some((h as i32).unsigned_abs() % 1_000_000_007)
 }
 
-/// Vista and 2008 are equal, so versions 23 and 26 have the same.
+/// Vista and 2008 are equal, so versions 23, 26 and 30 have the same.
 fn hash(version: usize, name: &[u8]) -> Option<u32> {
     match version {
         17 => hash_xp(name),

@@ -1,7 +1,7 @@
 //! The catalogue line: size 8 digits, stored hash 8, run count 8, version 2,
 //! and a line feed. Old lines, with 6 digits for the size, are read too.
 
-use super::layout::{layout_of, LARGEST_SIZE};
+use super::layout::{least_head_end, LARGEST_SIZE};
 
 /// The greatest size in an old line.
 pub const OLD_LARGEST_SIZE: u64 = 16_777_215;
@@ -41,11 +41,11 @@ pub fn write(fields: &Fields) -> Option<Vec<u8>> {
     good(fields, LARGEST_SIZE).then(|| line.into_bytes())
 }
 
-/// The version is one of three and the size lies between its H and the
-/// limit.
+/// The version is one of four and the size lies between its H, the smallest
+/// of its forms, and the limit.
 fn good(fields: &Fields, largest: u64) -> bool {
-    match layout_of(fields.version as u32) {
-        Some(layout) => layout.head_end <= fields.size && fields.size <= largest,
+    match least_head_end(fields.version as u32) {
+        Some(head_end) => head_end <= fields.size && fields.size <= largest,
         None => false,
     }
 }
@@ -69,5 +69,15 @@ mod points {
         assert_eq!(read(b"000094000000410000000111\n"), Some(fields));
         assert_eq!(read(b"00000094000000410000000111\n"), Some(fields));
         assert_eq!(write(&fields).unwrap(), b"00000094000000410000000111\n");
+    }
+
+    #[test]
+    fn lines_of_version_30() {
+        let fields = Fields { size: 212, stored_hash: 65, run_count: 1, version: 30 };
+        assert_eq!(read(b"0000D400000041000000011E\n"), Some(fields));
+        assert_eq!(read(b"000000D400000041000000011E\n"), Some(fields));
+        assert_eq!(write(&fields).unwrap(), b"000000D400000041000000011E\n");
+        assert_eq!(read(b"0000D300000041000000011E\n"), None);
+        assert_eq!(read(b"000000D300000041000000011E\n"), None);
     }
 }

@@ -1,7 +1,8 @@
-//! Checks 1 to 15 with their required lengths, in the order of the paper's table.
+//! Checks 1 to 15 and 21 with their required lengths, in the order in which the
+//! papers have them.
 
 use super::head::*;
-use super::layout::LARGEST_SIZE;
+use super::layout::{least_head_end, Layout, LARGEST_SIZE};
 use super::trace;
 use super::volumes;
 
@@ -45,7 +46,7 @@ pub struct Fault {
 }
 
 /// Checks 14 and 15 are one pass over the volumes.
-const CHECKS: [Check; 14] = [
+const CHECKS: [Check; 15] = [
     Check {
         number: 1,
         required: |_| 4,
@@ -69,6 +70,12 @@ const CHECKS: [Check; 14] = [
         required: |_| 76,
         fault: |input| at_zero(4, endless_name(input)),
         field: |_, _| 16,
+    },
+    Check {
+        number: 21,
+        required: form_required,
+        fault: |input| at_zero(21, unknown_form(input)),
+        field: |_, _| METRICS_FIELD,
     },
     Check {
         number: 5,
@@ -165,6 +172,14 @@ fn at(number: u64, index: Option<u64>) -> Option<Fault> {
     index.map(|index| Fault { number, index })
 }
 
+/// Where the offset tells no form, nothing is asked for.
+fn form_required(file: &[u8]) -> u64 {
+    match form_is_told(file) {
+        true => 88,
+        false => 0,
+    }
+}
+
 fn metrics_required(file: &[u8]) -> u64 {
     section_end(file, METRICS)
 }
@@ -176,8 +191,12 @@ fn names_required(file: &[u8]) -> u64 {
     section_end(file, METRICS).max(section_end(file, STRINGS))
 }
 
+/// Without next indexes nothing of the trace section is looked at.
 fn trace_required(file: &[u8]) -> u64 {
-    section_end(file, TRACE)
+    match known_layout(file).has_next {
+        true => section_end(file, TRACE),
+        false => head_end(file),
+    }
 }
 
 fn volumes_required(file: &[u8]) -> u64 {
@@ -188,7 +207,7 @@ fn volumes_required(file: &[u8]) -> u64 {
 }
 
 fn unknown_version(input: &Input) -> bool {
-    layout(input.bytes).is_none()
+    least_head_end(version(input.bytes)).is_none()
 }
 
 fn wrong_signature(input: &Input) -> bool {
@@ -197,11 +216,18 @@ fn wrong_signature(input: &Input) -> bool {
 
 fn wrong_size(input: &Input) -> bool {
     let size = declared_size(input.bytes);
-    size < head_end(input.bytes) || size > LARGEST_SIZE
+    size < smallest_head_end(input.bytes) || size > LARGEST_SIZE
 }
 
 fn endless_name(input: &Input) -> bool {
     name_units(input.bytes).is_none()
+}
+
+/// No form has that metrics offset, or the size is below the H of the one that
+/// has.
+fn unknown_form(input: &Input) -> bool {
+    let too_small = |form: &Layout| declared_size(input.bytes) < form.head_end;
+    form_is_told(input.bytes) && layout(input.bytes).is_none_or(too_small)
 }
 
 fn section_outside(input: &Input) -> Option<u64> {
@@ -225,7 +251,7 @@ fn share_a_byte(file: &[u8], one: u64, other: u64) -> bool {
 }
 
 fn too_few_slots(input: &Input) -> bool {
-    input.places < trace_count(input.bytes)
+    input.places < slots_needed(input.bytes)
 }
 
 fn too_many_volumes(input: &Input) -> bool {

@@ -1,7 +1,7 @@
 //! The fields of the head and its four sections. Each function expects the
 //! bytes it reads to be there: the checks ask for them first.
 
-use super::layout::{layout_of, Layout, TRACE_ENTRY};
+use super::layout::{form_with, forms_of, least_head_end, Layout};
 
 /// The little-endian number of so many bytes at a place.
 pub fn number(bytes: &[u8], at: usize, width: usize) -> u64 {
@@ -16,13 +16,36 @@ pub fn unit(bytes: &[u8], at: usize) -> u64 {
     number(bytes, at, 2)
 }
 
-pub fn layout(file: &[u8]) -> Option<&'static Layout> {
-    layout_of(number_32(file, 0) as u32)
+pub fn version(file: &[u8]) -> u32 {
+    number_32(file, 0) as u32
 }
 
-/// The layout after check 1.
+/// Whether the version's head form is told by its metrics offset.
+pub fn form_is_told(file: &[u8]) -> bool {
+    forms_of(version(file)).any(|layout| layout.metrics_start.is_some())
+}
+
+/// The smallest H of the version's forms, after check 1.
+pub fn smallest_head_end(file: &[u8]) -> u64 {
+    least_head_end(version(file)).expect("check 1 comes first")
+}
+
+/// Where the metrics offset stands.
+pub const METRICS_FIELD: u64 = 84;
+
+/// The form is decided by the offset as it stands, also where the array is
+/// empty.
+pub fn layout(file: &[u8]) -> Option<&'static Layout> {
+    let metrics_start = match form_is_told(file) {
+        true => number_32(file, METRICS_FIELD as usize),
+        false => 0,
+    };
+    form_with(version(file), metrics_start)
+}
+
+/// The layout after check 21.
 pub fn known_layout(file: &[u8]) -> &'static Layout {
-    layout(file).expect("check 1 comes first")
+    layout(file).expect("checks 1 and 21 come first")
 }
 
 pub fn head_end(file: &[u8]) -> u64 {
@@ -56,6 +79,15 @@ pub fn metrics_count(file: &[u8]) -> u64 {
 
 pub fn trace_count(file: &[u8]) -> u64 {
     number_32(file, 96)
+}
+
+/// The slots that `predecessors` needs: one for each trace entry, and none
+/// where trace entries have no next index.
+pub fn slots_needed(file: &[u8]) -> u64 {
+    match known_layout(file).has_next {
+        true => trace_count(file),
+        false => 0,
+    }
 }
 
 pub fn volume_count(file: &[u8]) -> u64 {
@@ -110,7 +142,7 @@ impl Section {
 /// Where a section's offset stands.
 pub fn offset_field(which: u64) -> u64 {
     match which {
-        METRICS => 84,
+        METRICS => METRICS_FIELD,
         TRACE => 92,
         STRINGS => 100,
         VOLUMES => 108,
@@ -122,7 +154,7 @@ pub fn section(file: &[u8], which: u64) -> Section {
     let start = number_32(file, offset_field(which) as usize);
     let length = match which {
         METRICS => metrics_count(file) * known_layout(file).metrics_entry,
-        TRACE => trace_count(file) * TRACE_ENTRY,
+        TRACE => trace_count(file) * known_layout(file).trace_entry,
         STRINGS => number_32(file, 104),
         _ => number_32(file, 116),
     };

@@ -1,8 +1,11 @@
 //! The constants of each version, and numbers in a file.
 
+/// One head form of a version.
 #[derive(Debug)]
 pub struct Layout {
     pub version: u32,
+    /// The metrics offset that tells the form, where the version goes by it.
+    pub metrics_start: Option<u64>,
     /// The latest run time; older ones follow it.
     pub run_time: usize,
     /// Run times, the latest included.
@@ -13,12 +16,18 @@ pub struct Layout {
     pub metrics_entry: u64,
     pub name_offset: usize,
     pub name_length: usize,
+    pub trace_entry: u64,
+    /// Whether a trace entry has a next index. It is then the first field, and
+    /// the block count follows; otherwise the block count is the first.
+    pub has_next: bool,
     pub volume_entry: u64,
 }
 
-pub const LAYOUTS: [Layout; 3] = [
+/// A second head form of a version is one row more.
+pub const LAYOUTS: [Layout; 4] = [
     Layout {
         version: 17,
+        metrics_start: None,
         run_time: 120,
         time_count: 1,
         run_count: 144,
@@ -26,10 +35,13 @@ pub const LAYOUTS: [Layout; 3] = [
         metrics_entry: 20,
         name_offset: 8,
         name_length: 12,
+        trace_entry: 12,
+        has_next: true,
         volume_entry: 40,
     },
     Layout {
         version: 23,
+        metrics_start: None,
         run_time: 128,
         time_count: 1,
         run_count: 152,
@@ -37,10 +49,13 @@ pub const LAYOUTS: [Layout; 3] = [
         metrics_entry: 32,
         name_offset: 12,
         name_length: 16,
+        trace_entry: 12,
+        has_next: true,
         volume_entry: 104,
     },
     Layout {
         version: 26,
+        metrics_start: None,
         run_time: 128,
         time_count: 8,
         run_count: 208,
@@ -48,17 +63,45 @@ pub const LAYOUTS: [Layout; 3] = [
         metrics_entry: 32,
         name_offset: 12,
         name_length: 16,
+        trace_entry: 12,
+        has_next: true,
         volume_entry: 104,
+    },
+    // The one form that the source names: the head of version 26, and so its
+    // metrics offset of 0x130.
+    Layout {
+        version: 30,
+        metrics_start: Some(304),
+        run_time: 128,
+        time_count: 8,
+        run_count: 208,
+        head_end: 212,
+        metrics_entry: 32,
+        name_offset: 12,
+        name_length: 16,
+        trace_entry: 8,
+        has_next: false,
+        volume_entry: 96,
     },
 ];
 
 /// The greatest declared size.
 pub const LARGEST_SIZE: u64 = 67_108_864;
-/// Bytes of a trace entry, in every version.
-pub const TRACE_ENTRY: u64 = 12;
 /// The end of a chain, and a slot that holds no entry.
 pub const END: u32 = 4_294_967_295;
 
-pub fn layout_of(version: u32) -> Option<&'static Layout> {
-    LAYOUTS.iter().find(|layout| layout.version == version)
+/// The head forms of a version; none where it is not known.
+pub fn forms_of(version: u32) -> impl Iterator<Item = &'static Layout> {
+    LAYOUTS.iter().filter(move |layout| layout.version == version)
+}
+
+/// The smallest H of a version's forms. It is all that can be asked of a size
+/// before the form is known.
+pub fn least_head_end(version: u32) -> Option<u64> {
+    forms_of(version).map(|layout| layout.head_end).min()
+}
+
+/// The form of a version with this metrics offset.
+pub fn form_with(version: u32, metrics_start: u64) -> Option<&'static Layout> {
+    forms_of(version).find(|layout| layout.metrics_start.is_none_or(|start| start == metrics_start))
 }

@@ -34,13 +34,14 @@ fn passes(file: &[u8], numbers: &[u64]) -> bool {
     pass(&Input { bytes: file, places: 0 }, numbers)
 }
 
+/// Checks 1 to 6, with 21 among them.
 pub fn head_and_sections_pass(file: &[u8]) -> bool {
-    passes(file, &[1, 2, 3, 4, 5, 6])
+    passes(file, &[1, 2, 3, 4, 21, 5, 6])
 }
 
-/// The slots that `predecessors` needs: one for each trace entry.
+/// The slots that `predecessors` needs.
 pub fn places(file: &[u8]) -> Option<u64> {
-    head_and_sections_pass(file).then(|| trace_count(file))
+    head_and_sections_pass(file).then(|| slots_needed(file))
 }
 
 pub fn program_name(file: &[u8]) -> Option<Part> {
@@ -96,7 +97,7 @@ pub fn volume(file: &[u8], i: u64) -> Option<Volume> {
 }
 
 fn volume_can_be_shown(file: &[u8], i: u64) -> bool {
-    passes(file, &[1, 2, 3, 4, 5, 6, 8])
+    passes(file, &[1, 2, 3, 4, 21, 5, 6, 8])
         && i < volume_count(file)
         && section(file, VOLUMES).end() <= file.len() as u64
         && volumes::fault(file, i).is_none()

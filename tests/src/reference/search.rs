@@ -55,8 +55,8 @@ fn hashes(file: &[u8]) -> Vec<Option<u32>> {
     (0..metrics_count(file)).map(hash).collect()
 }
 
-/// The hash that a version uses, over a list of numbers. That of XP has its
-/// end step, before any number is added.
+/// The hash that a version uses, over a list of numbers: 26 and 30 use 2008.
+/// That of XP has its end step, before any number is added.
 pub fn hash_of(version: u32, numbers: &[u32]) -> u32 {
     match version {
         17 => hash_xp(numbers),

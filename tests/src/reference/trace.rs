@@ -1,19 +1,23 @@
 //! The trace entries and their next links.
 
-use super::head::{number_32, section, trace_count, TRACE};
-use super::layout::{END, TRACE_ENTRY};
+use super::head::{known_layout, number_32, section, trace_count, TRACE};
+use super::layout::END;
 
 pub fn entry_start(file: &[u8], entry: u64) -> u64 {
-    section(file, TRACE).start + entry * TRACE_ENTRY
+    section(file, TRACE).start + entry * known_layout(file).trace_entry
 }
 
 fn next(file: &[u8], entry: u64) -> u64 {
     number_32(file, entry_start(file, entry) as usize)
 }
 
-/// All the next indexes, in order.
+/// All the next indexes, in order; none where trace entries have no such field,
+/// so that there is nothing to find, no chain and no predecessor.
 fn links(file: &[u8]) -> Vec<u64> {
-    (0..trace_count(file)).map(|entry| next(file, entry)).collect()
+    match known_layout(file).has_next {
+        true => (0..trace_count(file)).map(|entry| next(file, entry)).collect(),
+        false => Vec::new(),
+    }
 }
 
 /// Check 11: the first next index that is neither the end nor an entry.

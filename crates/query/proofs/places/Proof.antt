@@ -1,15 +1,21 @@
+use Rattle.query.proofs.Laws.{asking}
+use borrow.Author.Needs.{needs}
+use Rattle.query.proofs.places.Statement.{statement}
+use Rattle.query.proofs.places.Tie as tie
 -- A file that opens needs one place for each trace entry; for any other the number is not known.
 use Rattle.query.proofs.Laws.{asking}
 use borrow.Author.Needs.{needs}
 use Rattle.query.proofs.places.Statement.{statement}
 use Rattle.query.proofs.places.Tie as tie
-use Rattle.head.proofs.read_open.Reads as read-open-reads
 
 read-open-requires : tie.Need-read-open-requires
 read-open-requires c κs = search needs
 
 enum-known-o : tie.Need-enum-known-o
 enum-known-o c = search needs
+
+link-count-requires : tie.Need-link-count-requires
+link-count-requires c κs = search needs
 
 enum-told : tie.Need-enum-told
 enum-told c = search needs
@@ -29,4 +35,12 @@ returns-3 c = search asking
 pub places-spec : {M : Type 1} → statement M
 places-spec =
     tie.close
-    (tie.spec read-open-requires enum-known-o enum-told enum-told-2 returns returns-2 returns-3)
+    (tie.spec
+    read-open-requires
+    enum-known-o
+    link-count-requires
+    enum-told
+    enum-told-2
+    returns
+    returns-2
+    returns-3)

@@ -10,7 +10,7 @@ const NAMES: usize = 10_000;
 
 pub fn run() {
     println!("what, version, library ns a name, plain ns a name, ratio");
-    for version in [17, 23, 26] {
+    for version in [17, 23, 26, 30] {
         one_file(version);
     }
 }

@@ -3,6 +3,8 @@ use Rattle.layout.specs.Versions.{layoutOf}
 use borrow.Author.Needs.{needs}
 use Rattle.layout.proofs.Layout.of.Statement.{statement}
 use Rattle.layout.proofs.Layout.of.Tie as tie
+use Rattle.layout.proofs.Layout.of.Reads as reads
+use Rattle.layout.proofs.Layout.of.Lts as lts
 
 enum-told : tie.Need-enum-told
 enum-told c = search needs
@@ -13,6 +15,9 @@ enum-told-2 c = search needs
 enum-told-3 : tie.Need-enum-told-3
 enum-told-3 c = search needs
 
+enum-told-4 : tie.Need-enum-told-4
+enum-told-4 c = search needs
+
 returns : tie.Need-returns
 returns c = sym (ap layoutOf (c .enum-told .given .1))
 
@@ -22,5 +27,10 @@ returns-2 c = sym (ap layoutOf (c .enum-told2 .given .1))
 returns-3 : tie.Need-returns-3
 returns-3 c = sym (ap layoutOf (c .enum-told3 .given .1))
 
+returns-4 : tie.Need-returns-4
+returns-4 c = sym (ap layoutOf (c .enum-told4 .given .1))
+
 pub of-spec : {M : Type 1} → statement M
-of-spec = tie.close (tie.spec enum-told enum-told-2 enum-told-3 returns returns-2 returns-3)
+of-spec =
+    tie.close
+    (tie.spec enum-told enum-told-2 enum-told-3 enum-told-4 returns returns-2 returns-3 returns-4)

@@ -8,7 +8,13 @@ use Rattle.reader.proofs.checks.check_trace.Statement.{statement}
 use Rattle.reader.proofs.checks.check_trace.Tie as tie
 
 returns : tie.Need-returns
-returns c = trace-short _ _ _ _ (c .if1 .taken)
+returns c = trace-short _ _ _ _ (c .before .trace-required .ensures) _ (c .if1 .taken)
+
+trace-required-requires : tie.Need-trace-required-requires
+trace-required-requires c κs = search needs
+
+link-count-requires : tie.Need-link-count-requires
+link-count-requires c κs = search needs
 
 slice-aggregate-part-of : tie.Need-slice-aggregate-part-of
 slice-aggregate-part-of c = simp length-take (omega arith)
@@ -31,9 +37,12 @@ same-length c = search needs
 returns-2 : tie.Need-returns-2
 returns-2 c =
     let links = c .before .before .before .before .before in
-    let part = links .before .before in
-    let start = part .before .before .before .before .before .before .before in
-    trace-passed _ _ _ _ (omega arith) (part .part-of .ensures .contents) (start .pre) _ _ (links .check-links .ensures) _ (c .before .n .given .1)
+    let count = links .before .before in
+    let part = count .before in
+    let required = part .before .before .before in
+    let start = required .before .before .before .before .before .before in
+    trace-passed _ _ _ _ (required .trace-required .ensures) _ (omega arith) (part .part-of .ensures .contents) _ (count .link-count .ensures) (start .pre) _ _
+    (links .check-links .ensures) _ (c .before .n .given .1)
 
 same-length-2 : tie.Need-same-length-2
 same-length-2 c = search needs
@@ -41,17 +50,22 @@ same-length-2 c = search needs
 returns-3 : tie.Need-returns-3
 returns-3 c =
     let links = c .before .before .before .before .before in
-    let part = links .before .before in
-    let start = part .before .before .before .before .before .before .before in
-    trace-refused _ _ _ _ (omega arith) (part .part-of .ensures .contents) (start .pre) _ _ (links .check-links .ensures) _ (c .before .r .given .1)
+    let count = links .before .before in
+    let part = count .before in
+    let required = part .before .before .before in
+    let start = required .before .before .before .before .before .before in
+    trace-refused _ _ _ _ (required .trace-required .ensures) _ (omega arith) (part .part-of .ensures .contents) _ (count .link-count .ensures) (start .pre) _ _
+    (links .check-links .ensures) _ (c .before .r .given .1)
 
 pub check-trace-spec : {M : Type 1} → statement M
 check-trace-spec =
     tie.close
     (tie.spec
+    trace-required-requires
     returns
     slice-aggregate-part-of
     part-of-requires
+    link-count-requires
     check-links-requires
     enum-known-n
     enum-known-r

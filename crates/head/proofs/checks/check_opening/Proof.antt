@@ -1,0 +1,46 @@
+-- Check 21, and after it 5 and 6.
+use Rattle.head.proofs.Steps.{steps}
+use Rattle.head.specs.Private.{openingPlan}
+use borrow.Author.Needs.{needs}
+use Rattle.head.proofs.checks.check_opening.Statement.{statement}
+use Rattle.head.proofs.checks.check_opening.Tie as tie
+
+check-form-requires : tie.Need-check-form-requires
+check-form-requires c κs = search needs
+
+enum-known-formed : tie.Need-enum-known-formed
+enum-known-formed c = search needs
+
+check-sections-requires : tie.Need-check-sections-requires
+check-sections-requires c κs = search needs
+
+enum-known-r : tie.Need-enum-known-r
+enum-known-r c = search needs
+
+enum-known-required : tie.Need-enum-known-required
+enum-known-required c = search needs
+
+returns : tie.Need-returns
+unfolding openingPlan
+returns c = search steps depth 12
+
+returns-2 : tie.Need-returns-2
+unfolding openingPlan
+returns-2 c = search steps depth 12
+
+returns-3 : tie.Need-returns-3
+unfolding openingPlan
+returns-3 c = search steps depth 12
+
+pub check-opening-spec : {M : Type 1} → statement M
+check-opening-spec =
+    tie.close
+    (tie.spec
+    check-form-requires
+    enum-known-formed
+    check-sections-requires
+    enum-known-r
+    enum-known-required
+    returns
+    returns-2
+    returns-3)
