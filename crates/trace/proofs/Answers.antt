@@ -1,5 +1,6 @@
 -- What the functions of the crate promise: each check's search, the checks from one of them on, and the buffer.
 use mathlib.Core.Path.{_≡_, refl, sym, ap, _∙_}
+use mathlib.Core.Bool.{Bool}
 use mathlib.Core.List.{List}
 use Prim.Native.Nat.{ℕ, _≤_, _<_}
 use native.Mathlib.Omega.{arith}
@@ -19,20 +20,23 @@ use Rattle.incremental.specs.declared.Fault.the-variants as fault
 use Rattle.sections.specs.Fields.{placesFault}
 use Rattle.trace.specs.Private.{passOf, LinkDecision}
 
-pub passed-astray : (f g : Found) (n i : ℕ) → passOf f g n ≡ Astray i → f ≡ At i
-passed-astray (At j) g n i e = let z : j ≡ i = cc in ap At z
-passed-astray Nothing (At j) n i e = let z : _≡_ {A = ℕ} 0 1 = cc in absurd (omega arith)
-passed-astray Nothing Nothing n i e = let z : _≡_ {A = ℕ} 0 1 = cc in absurd (omega arith)
+pub passed-astray : (f g : Found) (n i : ℕ) (b : Bool) → passOf f g n b ≡ Astray i → f ≡ At i
+passed-astray (At j) g n i b e = let z : j ≡ i = cc in ap At z
+passed-astray Nothing (At j) n i b e = let z : _≡_ {A = ℕ} 0 1 = cc in absurd (omega arith)
+passed-astray Nothing Nothing n i b e = let z : _≡_ {A = ℕ} 0 1 = cc in absurd (omega arith)
 
-pub passed-shared : (f g : Found) (n i : ℕ) → passOf f g n ≡ Shared i → (f ≡ Nothing) × (g ≡ At i)
-passed-shared (At j) g n i e = let z : _≡_ {A = ℕ} 0 1 = cc in absurd (omega arith)
-passed-shared Nothing (At j) n i e = let z : j ≡ i = cc in (refl, ap At z)
-passed-shared Nothing Nothing n i e = let z : _≡_ {A = ℕ} 0 1 = cc in absurd (omega arith)
+pub passed-shared : (f g : Found) (n i : ℕ) (b : Bool) → passOf f g n b ≡ Shared i → (f ≡ Nothing) × (g ≡ At i)
+passed-shared (At j) g n i b e = let z : _≡_ {A = ℕ} 0 1 = cc in absurd (omega arith)
+passed-shared Nothing (At j) n i b e = let z : j ≡ i = cc in (refl, ap At z)
+passed-shared Nothing Nothing n i b e = let z : _≡_ {A = ℕ} 0 1 = cc in absurd (omega arith)
 
-pub passed-clear : (f g : Found) (n k : ℕ) → passOf f g n ≡ Clear k → (f ≡ Nothing) × (g ≡ Nothing) × (k ≡ n)
-passed-clear (At j) g n k e = let z : _≡_ {A = ℕ} 0 1 = cc in absurd (omega arith)
-passed-clear Nothing (At j) n k e = let z : _≡_ {A = ℕ} 0 1 = cc in absurd (omega arith)
-passed-clear Nothing Nothing n k e = let z : n ≡ k = cc in (refl, refl, sym z)
+pub passed-clear : (f g : Found) (n k : ℕ) (b d : Bool) → passOf f g n b ≡ Clear k d → (f ≡ Nothing) × (g ≡ Nothing) × (k ≡ n) × (d ≡ b)
+passed-clear (At j) g n k b d e = let z : _≡_ {A = ℕ} 0 1 = cc in absurd (omega arith)
+passed-clear Nothing (At j) n k b d e = let z : _≡_ {A = ℕ} 0 1 = cc in absurd (omega arith)
+passed-clear Nothing Nothing n k b d e =
+    let z : n ≡ k = cc in
+    let w : b ≡ d = cc in
+    (refl, refl, sym z, sym w)
 
 -- a check whose search found something, and one whose search found nothing
 pub answer-at : (n i m : ℕ) (at : ℕ → ℕ) (f r : Found) (later : Decision ℕ) (s buffer : List ℕ) (a : Links) → r ≡ f → r ≡ At i

@@ -1,5 +1,6 @@
 -- What only private contracts need: what each check looks for, the checks from one of them on, and what is known of the buffer on the way.
 use mathlib.Core.Path.{_≡_}
+use mathlib.Core.Bool.{Bool, true}
 use mathlib.Core.List.{List}
 use mathlib.Core.Logic.{_⊎_}
 use Prim.Native.Nat.{ℕ, _<_, _≤_, min}
@@ -41,11 +42,12 @@ cycleChecks at s = check 13 (cyclicFault at s) >> accept (chains s)
 abbrev pub sharedChecks : (ℕ → ℕ) → List ℕ → Decision ℕ
 sharedChecks at s = check 12 (sharedFault at s) >> cycleChecks at s
 
--- what one pass for checks 11 and 12 says: f and g are what they look for, and n is the number of entries that end a chain
-abbrev pub passOf : Found → Found → ℕ → Pass
-passOf (At i) g n = Astray i
-passOf Nothing (At i) n = Shared i
-passOf Nothing Nothing n = Clear n
+-- what one pass for checks 11 and 12 says: f and g are what they look for, n is the number of entries that end a chain, and b
+-- is whether every next index was seen to be above its own
+abbrev pub passOf : Found → Found → ℕ → Bool → Pass
+passOf (At i) g n b = Astray i
+passOf Nothing (At i) n b = Shared i
+passOf Nothing Nothing n b = Clear n b
 
 -- the buffer has a place for each entry, and check 11 has passed
 pub record LinkedBuffer (s buffer : List ℕ) : Type 0 where
@@ -71,9 +73,15 @@ pub record Stored (i j least : ℕ) (before : List ℕ) (r : ℕ) (buffer : List
   pub ends : j ≡ end → (r ≡ least) × (buffer ≡ before)
   pub names : (j ≡ end → ⊥) → (r ≡ pick (eqb (getD before j 0) end) least (min least j)) × (buffer ≡ set before j i)
 
+-- every next index is above its own; the end is above all
+abbrev pub Forward : List ℕ → Type 0
+Forward s = (i : ℕ) → i < length s → i < after s i
+
 -- what the pass for checks 11 and 12 found, and the table of predecessors
 pub record Passed (s : List ℕ) (m : ℕ) (r : Pass) (buffer : List ℕ) : Type 0 where
-  pub found : r ≡ passOf (firstAstray s) (firstShared s) (ends s)
+  pub forward : Bool
+  pub found : r ≡ passOf (firstAstray s) (firstShared s) (ends s) forward
+  pub leads : forward ≡ true → Forward s
   pub holds : InRange s → buffer ≡ predecessors s m
 
 -- checks 11 and 12 have passed: n entries end a chain, and the buffer is the table of predecessors
@@ -95,7 +103,3 @@ CyclesAnswered at s m r buffer = LinkDecision (cycleChecks at s) s m r buffer
 
 abbrev pub LinksAnswered : (ℕ → ℕ) → List ℕ → ℕ → Links → List ℕ → Type 0
 LinksAnswered at s m r buffer = LinkDecision (linkChecks at s) s m r buffer
-
--- every next index is above its own; the end is above all
-abbrev pub Forward : List ℕ → Type 0
-Forward s = (i : ℕ) → i < length s → i < after s i

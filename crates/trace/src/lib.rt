@@ -24,11 +24,11 @@ pub enum Links {
 }
 
 // What the pass for checks 11 and 12 finds: the first entry astray, the smallest entry that two entries name, or the number of
-// entries that end a chain.
+// entries that end a chain and whether every next index is above its own.
 enum Pass {
     Astray(u32),
     Shared(u32),
-    Clear(usize),
+    Clear(usize, bool),
 }
 
 // The next index of entry i, of entries of that size.
@@ -78,13 +78,15 @@ fn store_predecessor(buffer: &mut [u32], i: u32, next: u32, least: u32) -> u32
 }
 
 // Checks 11 and 12: the first entry astray, or else the smallest entry that two entries name, or else the number of entries that
-// end a chain. A filled buffer becomes the table of predecessors where no entry is astray.
+// end a chain and whether every next index is above its own. All in one pass, since a large section has to come from memory each
+// time. A filled buffer becomes the table of predecessors where no entry is astray.
 fn store_predecessors(section: &[u8], size: u16, entries: u32, buffer: &mut [u32]) -> Pass
     requires { ⌜ FilledBuffer (nexts (now section) size entries) (now buffer) ⌝ }
     ensures { λ r. ⌜ Passed (nexts (now (section .entry)) size entries) (length (now (buffer .entry))) r (now (buffer .exit)) ⌝ }
 {
     let mut least = entries;
     let mut ends: usize = 0;
+    let mut forward = true;
     let mut i = 0;
     while i < entries {
         let next = next_at(section, size, i);
@@ -96,12 +98,13 @@ fn store_predecessors(section: &[u8], size: u16, entries: u32, buffer: &mut [u32
             }
         }
         least = store_predecessor(buffer, i, next, least);
+        forward = forward & (i < next);
         i += 1;
     }
     if least < entries {
         return Pass::Shared(least);
     }
-    Pass::Clear(ends)
+    Pass::Clear(ends, forward)
 }
 
 // The table of predecessors, whatever the buffer held.
@@ -175,33 +178,21 @@ fn check_cycles(
     Links::Chains(ends)
 }
 
-// Whether every next index is above its own. Where it is, as in the files that Windows writes, no entry is on a cycle.
-fn leads_on(section: &[u8], size: u16, entries: u32) -> bool
-    ensures { λ r. ⌜ (r ≡ true → Forward (nexts (now (section .entry)) size entries)) ⌝ }
-{
-    let mut i = 0;
-    while i < entries {
-        if next_at(section, size, i) <= i {
-            return false;
-        }
-        i += 1;
-    }
-    true
-}
-
-// Check 13. Links that only lead on need no walk, and the table stands as it is.
+// Check 13. Where every next index is above its own, as in the files that Windows writes, no entry is on a cycle: no walk is
+// needed, and the table stands as it is.
 fn check_order(
     section: &[u8],
     start: u32,
     size: u16,
     entries: u32,
     ends: usize,
+    forward: bool,
     buffer: &mut [u32],
 ) -> Links
-    requires { ⌜ TableBuilt (nexts (now section) size entries) ends (now buffer) ⌝ }
+    requires { ⌜ TableBuilt (nexts (now section) size entries) ends (now buffer) × (forward ≡ true → Forward (nexts (now section) size entries)) ⌝ }
     ensures { λ r. ⌜ CyclesAnswered (entryOffset start size) (nexts (now (section .entry)) size entries) (length (now (buffer .entry))) r (now (buffer .exit)) ⌝ }
 {
-    if leads_on(section, size, entries) {
+    if forward {
         return Links::Chains(ends);
     }
     check_cycles(section, start, size, entries, ends, buffer)
@@ -222,7 +213,15 @@ fn check_entries(section: &[u8], start: u32, size: u16, entries: u32, buffer: &m
             fill(buffer);
             refused(12, start, size, i)
         }
-        Pass::Clear(ends) => check_order(section, start, size, entries, ends, buffer),
+        Pass::Clear(ends, forward) => check_order(
+            section,
+            start,
+            size,
+            entries,
+            ends,
+            forward,
+            buffer,
+        ),
     }
 }
 

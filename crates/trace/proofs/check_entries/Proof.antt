@@ -40,14 +40,16 @@ check-order-requires c κs = let a = c .before .before .before .before .before .
     let s = nexts (a .args .section .now) (a .args .size) (a .args .entries) in
     let r = c .before .before .before .before .before .before .store-predecessors in
     let q = c .before .before .pass3 .given in
-    let w = passed-clear (firstAstray s) (firstShared s) (ends s) (q .0 .0) (sym (r .ensures .found) ∙ q .1) in
-    record {
-      room = omega (arith, a .pre .room, r .kept .1 .1 .1 .0);
-      sound = sound s (w .0);
-      once = once s (w .1);
-      counted = w .2;
-      table = r .ensures .holds (sound s (w .0)) ∙ ap (predecessors s) (sym (r .kept .1 .1 .1 .0));
-    }
+    let w = passed-clear (firstAstray s) (firstShared s) (ends s) (q .0 .0) (r .ensures .forward) (q .0 .1 .0) (sym (r .ensures .found) ∙ q .1) in (
+      record {
+        room = omega (arith, a .pre .room, r .kept .1 .1 .1 .0);
+        sound = sound s (w .0);
+        once = once s (w .1);
+        counted = w .2;
+        table = r .ensures .holds (sound s (w .0)) ∙ ap (predecessors s) (sym (r .kept .1 .1 .1 .0));
+      },
+      λ e. r .ensures .leads (sym (w .3) ∙ e),
+    )
 
 same-length : tie.Need-same-length
 same-length c = search needs
@@ -64,7 +66,7 @@ returns c =
     let r = store .store-predecessors in
     let q = arm .pass .given in
     answer-at 11 (q .0 .0) (length (a .args .buffer .now)) at (firstAstray s) (firstAstray s) (sharedChecks at s) s (fill .fill .last .0) _ refl
-    (passed-astray (firstAstray s) (firstShared s) (ends s) (q .0 .0) (sym (r .ensures .found) ∙ q .1)) (c .refused .ensures)
+    (passed-astray (firstAstray s) (firstShared s) (ends s) (q .0 .0) (r .ensures .forward) (sym (r .ensures .found) ∙ q .1)) (c .refused .ensures)
     (fill .fill .ensures ∙ ap filled (r .kept .1 .1 .1 .0))
 
 same-length-2 : tie.Need-same-length-2
@@ -83,7 +85,7 @@ returns-2 c =
     let r = store .store-predecessors in
     let q = arm .pass2 .given in
     let b = fill .fill2 .last .0 in
-    let w = passed-shared (firstAstray s) (firstShared s) (ends s) (q .0 .0) (sym (r .ensures .found) ∙ q .1) in
+    let w = passed-shared (firstAstray s) (firstShared s) (ends s) (q .0 .0) (r .ensures .forward) (sym (r .ensures .found) ∙ q .1) in
     answer-nothing 11 m at (firstAstray s) (firstAstray s) (sharedChecks at s) s b _ refl (w .0)
     (answer-at 12 (q .0 .0) m at (firstShared s) (firstShared s) (cycleChecks at s) s b _ refl (w .1) (c .refused2 .ensures)
     (fill .fill2 .ensures ∙ ap filled (r .kept .1 .1 .1 .0)))
@@ -100,8 +102,8 @@ returns-3 c = let a = c .before .before .before .before .before .before .before 
     let r = c .before .before .before .before .before .before .before .before .before .store-predecessors in
     let q = c .before .before .before .before .before .pass3 .given in
     let x = c .before .before .check-order in
-    let b = x .last .1 .1 .1 .1 .1 .0 in
-    let w = passed-clear (firstAstray s) (firstShared s) (ends s) (q .0 .0) (sym (r .ensures .found) ∙ q .1) in
+    let b = x .last .1 .1 .1 .1 .1 .1 .0 in
+    let w = passed-clear (firstAstray s) (firstShared s) (ends s) (q .0 .0) (r .ensures .forward) (q .0 .1 .0) (sym (r .ensures .found) ∙ q .1) in
     answer-nothing 11 m at (firstAstray s) (firstAstray s) (sharedChecks at s) s b (x .result) refl (w .0)
     (answer-nothing 12 m at (firstShared s) (firstShared s) (cycleChecks at s) s b (x .result) refl (w .1) (rw (r .kept .1 .1 .1 .0) at (x .ensures)))
 

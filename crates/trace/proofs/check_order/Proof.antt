@@ -14,19 +14,16 @@ use borrow.Author.Needs.{needs}
 use Rattle.trace.proofs.check_order.Statement.{statement}
 use Rattle.trace.proofs.check_order.Tie as tie
 
-leads-on-requires : tie.Need-leads-on-requires
-leads-on-requires c κs = search needs
-
 returns : tie.Need-returns
 returns c =
-    let a = c .before .before .before .before in
+    let a = c .before .before .before in
     let s = nexts (a .args .section .now) (a .args .size) (a .args .entries) in
     let m = length (a .args .buffer .now) in
     let e = length-nexts (a .args .section .now) (a .args .size) (a .args .entries) in
-    let f = forward-acyclic s (omega (arith, e, a .fits .entries)) (a .pre .sound) (c .before .leads-on .ensures (c .if1 .taken)) in
-    let k : a .args .ends ≡ chains s = a .pre .counted ∙ sym (chains-are-ends s (omega (arith, e, a .fits .entries)) (a .pre .sound) (a .pre .once)) in
+    let f = forward-acyclic s (omega (arith, e, a .fits .entries)) (a .pre .0 .sound) (a .pre .1 (c .if1 .taken)) in
+    let k : a .args .ends ≡ chains s = a .pre .0 .counted ∙ sym (chains-are-ends s (omega (arith, e, a .fits .entries)) (a .pre .0 .sound) (a .pre .0 .once)) in
     answer-nothing 13 m _ (firstCyclic s) (firstCyclic s) (accept (chains s)) s (a .args .buffer .now) (Chains (a .args .ends)) refl f
-    (record { answer = ap accept k; holds = a .pre .table })
+    (record { answer = ap accept k; holds = a .pre .0 .table })
 
 check-cycles-requires : tie.Need-check-cycles-requires
 check-cycles-requires c κs = search needs
@@ -39,4 +36,4 @@ returns-2 c = search needs
 
 pub check-order-spec : {M : Type 1} → statement M
 check-order-spec =
-    tie.close (tie.spec leads-on-requires returns check-cycles-requires same-length returns-2)
+    tie.close (tie.spec returns check-cycles-requires same-length returns-2)

@@ -1,4 +1,5 @@
--- After i turns the buffer is the table of the first i entries, none of them astray, and `least` is their smallest shared one.
+-- After i turns the buffer is the table of the first i entries, none of them astray, `least` is their smallest shared one, and
+-- where `forward` holds each of them names one above itself.
 use mathlib.Core.Logic.{_⊎_, inl, inr, ⊎-elim}
 use mathlib.Core.Path.{_≡_, sym, _∙_, ap}
 use mathlib.Core.List.{List}
@@ -18,22 +19,24 @@ use Rattle.trace.specs.Links.{end, nexts, after, astray, namers, shared,
 use Rattle.trace.proofs.Steps.{length-nexts, after-nexts}
 use Rattle.trace.proofs.Accepted.{astray-yes, astray-below, astray-end}
 use Rattle.trace.specs.Private.{firstAstray, firstShared}
+use Rattle.trace.proofs.Forward.{LeadsOn, leads-none, leads-more}
 use Rattle.trace.proofs.Predecessors.{namers-same, namers-other}
 use Rattle.trace.proofs.Naming.{sharedBy, place, table, table-none, table-end, table-more, least-none, least-end, least-more, none-more}
 use Rattle.trace.proofs.store_predecessors.Statement.{statement}
 use Rattle.trace.proofs.store_predecessors.Tie as tie
 
 abbrev Inv-loop : tie.InvT-loop
-Inv-loop section size entries buffer₀ least₀ ends₀ i₀ buffer least ends i =
+Inv-loop section size entries buffer₀ least₀ ends₀ forward₀ i₀ buffer least ends forward i =
     (i ≤ entries)
     × (buffer ≡ table (nexts section size entries) (length buffer₀) i)
     × Least (sharedBy (nexts section size entries) i) entries least
     × (ends ≤ i)
     × (ends ≡ namers (nexts section size entries) i end)
     × ((k : ℕ) → k < i → astray (nexts section size entries) k ≡ false)
+    × (forward ≡ true → LeadsOn (nexts section size entries) i)
 
 abbrev μ-loop : tie.MeasureT-loop
-μ-loop section size entries buffer₀ least₀ ends₀ i₀ buffer least ends i = entries - i
+μ-loop section size entries buffer₀ least₀ ends₀ forward₀ i₀ buffer least ends forward i = entries - i
 
 loop-holds : tie.Need-loop-holds Inv-loop μ-loop
 unfolding namers
@@ -45,6 +48,7 @@ loop-holds c = let a = c .before .before in
       omega arith,
       sym (count-zero (λ k. eqb (after s k) end)),
       (λ k l. absurd (omega arith)),
+      (λ _. leads-none s),
     )
 
 next-at-requires : tie.Need-next-at-requires Inv-loop μ-loop
@@ -70,7 +74,9 @@ returns c =
     let h : astray s i ≡ true = astray-yes s i (λ z. c .before .if1 .left (sym e ∙ z)) (omega (arith, n, e)) in
     let f : firstAstray s ≡ _ = first-is-at (astray s) (length s) i (omega (arith, n)) h (v .5) in
     record {
+      forward = false;
       found = rw f;
+      leads = λ z. absurd (true-false (sym z));
       holds = λ z. absurd (⊎-elim (λ y. true-false (sym h ∙ astray-end s i y)) (λ y. true-false (sym h ∙ astray-below s i y)) (z i (omega (arith, n))));
     }
 
@@ -121,6 +127,7 @@ loop-again c = let b = c .before .before .before .before .before .before .before
     let w = stepped (c .before .before .before .before) in
     let small : length s ≤ end = omega (arith, n, a .fits .entries) in
     let at-most : i ≤ end = omega (arith, a .fits .entries) in
+    let leads = leads-more s i (c .before .before .before .before .before .next-at .result) (b .loop .forward) (w .0) (v .6) in
     ⊎-elim
     (λ (z : (after s i ≡ end) × (c .before .before .before .before .if1 .ends ≡ b .loop .ends + 1)). let q = d .ends (w .0 ∙ z .0) in (
       omega arith,
@@ -129,6 +136,7 @@ loop-again c = let b = c .before .before .before .before .before .before .before
       omega (arith, z .1),
       rw add-one (omega (arith, z .1, v .4, namers-same s i end (z .0))),
       none-more (astray s) i (v .5) (astray-end s i (z .0)),
+      leads,
     ))
     (λ (z : (after s i < length s) × (c .before .before .before .before .if1 .ends ≡ b .loop .ends)). let q = d .names (λ y. omega (arith, w .0, y, z .0)) in (
       omega arith,
@@ -142,6 +150,7 @@ loop-again c = let b = c .before .before .before .before .before .before .before
       omega (arith, z .1),
       rw add-one (omega (arith, z .1, v .4, namers-other s i end (λ y. omega (arith, z .0, y)))),
       none-more (astray s) i (v .5) (astray-below s i (z .0)),
+      leads,
     ))
     (w .1)
 
@@ -159,7 +168,12 @@ returns-2 c = let b = c .before .before in
     let l : Least (shared s) (a .args .entries) (b .loop .least) = rw e at (v .2) in
     let f : firstAstray s ≡ _ = first-is-nothing (astray s) (length s) (λ k h. v .5 k (omega arith)) in
     let g : firstShared s ≡ _ = first-is-at (shared s) (length s) (b .loop .least) (omega arith) (l .here (omega arith)) (l .below) in
-    record { found = rw (f, g); holds = λ _. v .1 ∙ ap (table s (length (a .args .buffer .now))) e }
+    record {
+      forward = false;
+      found = rw (f, g);
+      leads = λ z. absurd (true-false (sym z));
+      holds = λ _. v .1 ∙ ap (table s (length (a .args .buffer .now))) e;
+    }
 
 same-length-3 : tie.Need-same-length-3 Inv-loop μ-loop
 same-length-3 c = ap length (c .before .before .loop .inv .1) ∙ length-tabulate _ _
@@ -176,7 +190,9 @@ returns-3 c = let b = c .before .before in
     let f : firstAstray s ≡ _ = first-is-nothing (astray s) (length s) (λ k h. v .5 k (omega arith)) in
     let g : firstShared s ≡ _ = first-is-nothing (shared s) (length s) (λ k h. l .below k (omega (arith, l .most))) in
     record {
-      found = rw (f, g) (ap Clear (v .4 ∙ ap (λ (k : ℕ). namers s k end) e));
+      forward = b .loop .forward;
+      found = rw (f, g) (ap (λ (k : ℕ). Clear k (b .loop .forward)) (v .4 ∙ ap (λ (k : ℕ). namers s k end) e));
+      leads = λ z k l. v .6 z k (omega arith);
       holds = λ _. v .1 ∙ ap (table s (length (a .args .buffer .now))) e;
     }
 
