@@ -156,7 +156,9 @@ places-say p buffer n v after q r = go (run openPlan p) refl
     go (decided (accept o)) e =
         let s : prefixAnswer p m ≡ run (restPlan m o) p = reads ∙ rw e in
         record {
-          enough = λ k a l i at z. let j : linkCount (o .layout) (o .head) ≡ k = same (sym (needed e) ∙ a) in refused _ i at s (room-enough m o p (omega arith)) z;
+          enough = λ k a l i at z.
+              let j : linkCount (o .layout) (o .head) ≡ k = same (sym (needed e) ∙ a) in
+              refused _ i at s (room-enough m o p (omega arith)) z;
           short = λ k a l.
               let j : linkCount (o .layout) (o .head) ≡ k = same (sym (needed e) ∙ a) in
               same-values v (Refused (refusal 7 0 traceCountAt)) (r .verdict ∙ ap answerValues (s ∙ room-short m o p (open-facts p .holds o e .whole) (omega arith)));

@@ -5,7 +5,8 @@ use mathlib.Core.List.{List, [], _∷_, _++_}
 use Prim.Native.Nat.{ℕ, _+_, _-_, _*_, _/_, _%_, _≤_}
 use lib.ListN.{length, replicate}
 use Rattle.lists.specs.Count.{pick}
-use Rattle.layout.specs.Versions.{layoutOf, versionNumber, timeCount, runCountAt, headEnd, metricsEntry, nameOffsetAt, volumeEntry, traceEntry, hasNext, firstSection}
+use Rattle.layout.specs.Versions.{layoutOf, versionNumber, timeCount, runCountAt, headEnd, metricsEntry}
+use Rattle.layout.specs.Versions.{nameOffsetAt, volumeEntry, traceEntry, hasNext, firstSection}
 use Rattle.layout.specs.declared.Version.{Version}
 use Rattle.layout.specs.declared.Version.the-variants.{V17, V23, V26, V30}
 use Rattle.incremental.specs.Decision.{accept}

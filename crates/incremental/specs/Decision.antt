@@ -1,4 +1,5 @@
--- What checks find and decide: a fault with its index and the file offset of its field, an acceptance or a refusal (document 01, "Refusal numbers and the order of checks").
+-- What checks find and decide: a fault with its index and the file offset of its field, an acceptance or a refusal (document 01,
+-- "Refusal numbers and the order of checks").
 use mathlib.Core.Bool.{Bool}
 use Prim.Native.Nat.{ℕ}
 use Rattle.lists.specs.Count.{pick}

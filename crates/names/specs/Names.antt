@@ -40,7 +40,8 @@ sound strings at units =
 
 -- 10: the first of the entries whose name isn't sound
 unfoldable pub unsoundFault : Layout → ℕ → List ℕ → ℕ → List ℕ → Fault
-unsoundFault l start metrics entries strings = faultOf (nameFieldAt l start) (first (λ i. not (sound strings (nameAt l metrics i) (nameUnits l metrics i))) entries)
+unsoundFault l start metrics entries strings =
+    faultOf (nameFieldAt l start) (first (λ i. not (sound strings (nameAt l metrics i) (nameUnits l metrics i))) entries)
 
 -- the same in plain words: what a sound name is
 pub record SoundName (strings : List ℕ) (at units : ℕ) : Type 0 where

@@ -64,14 +64,16 @@ module _ (p : List ℕ) (o : Opening) (f : OpenFacts p o) (d : declaredSize p �
   decided-fits =
       let b = take (o .head .metrics .end) p in
       decided-reach (o .head .metrics .end) _ p (le-trans (f .metrics) d)
-      (decided-check 9 (misfitFault (o .layout) (o .head .metrics .at) (part (o .head .metrics) b) (o .head .metrics .count) (o .head .strings .len)) _ p λ _. decided-decide _ p)
+      (decided-check 9 (misfitFault (o .layout) (o .head .metrics .at) (part (o .head .metrics) b) (o .head .metrics .count) (o .head .strings .len)) _ p
+      λ _. decided-decide _ p)
 
   decided-texts : Decided (run (textsPlan o) p)
   unfolding textsPlan
   decided-texts =
       let k = namesRequired (o .layout) (o .head) in
+      let b = take k p in
       decided-reach k _ p (le-trans (names-required-low p o f) d)
-      (decided-check 10 (unsoundFault (o .layout) (o .head .metrics .at) (part (o .head .metrics) (take k p)) (o .head .metrics .count) (part (o .head .strings) (take k p))) _ p
+      (decided-check 10 (unsoundFault (o .layout) (o .head .metrics .at) (part (o .head .metrics) b) (o .head .metrics .count) (part (o .head .strings) b)) _ p
       λ _. decided-decide _ p)
 
   decided-trace : Decided (run (tracePlan o) p)

@@ -1,5 +1,5 @@
--- ALL FIFTEEN CHECKS of document 01's table, from 1 to 15, and 21 of request 107 directly after 4: required length (document 01: reach), number, fault with its index and file
--- offset. Then the whole-file reader's 16 and 17, and the promises of both readers.
+-- ALL FIFTEEN CHECKS of document 01's table, from 1 to 15, and 21 of request 107 directly after 4: required length (document 01:
+-- reach), number, fault with its index and file offset. Then the whole-file reader's 16 and 17, and the promises of both readers.
 use mathlib.Core.Bool.{Bool, true, false}
 use mathlib.Core.List.{List}
 use Prim.Native.Nat.{ℕ, _+_, _*_, max}

@@ -167,7 +167,9 @@ fn check_cycles(
     buffer: &mut [u32],
 ) -> Links
     requires { ⌜ TableBuilt (nexts (now section) size entries) ends (now buffer) ⌝ }
-    ensures { λ r. ⌜ CyclesAnswered (entryOffset start size) (nexts (now (section .entry)) size entries) (length (now (buffer .entry))) r (now (buffer .exit)) ⌝ }
+    ensures { λ r.
+        ⌜ CyclesAnswered (entryOffset start size) (nexts (now (section .entry)) size entries) (length (now (buffer .entry))) r
+        (now (buffer .exit)) ⌝ }
 {
     let found = find_cycle(section, size, entries, buffer);
     if let Found::At(i) = found {
@@ -190,7 +192,9 @@ fn check_order(
     buffer: &mut [u32],
 ) -> Links
     requires { ⌜ TableBuilt (nexts (now section) size entries) ends (now buffer) × (forward ≡ true → Forward (nexts (now section) size entries)) ⌝ }
-    ensures { λ r. ⌜ CyclesAnswered (entryOffset start size) (nexts (now (section .entry)) size entries) (length (now (buffer .entry))) r (now (buffer .exit)) ⌝ }
+    ensures { λ r.
+        ⌜ CyclesAnswered (entryOffset start size) (nexts (now (section .entry)) size entries) (length (now (buffer .entry))) r
+        (now (buffer .exit)) ⌝ }
 {
     if forward {
         return Links::Chains(ends);
@@ -201,7 +205,9 @@ fn check_order(
 // Checks 11 to 13 with a filled buffer.
 fn check_entries(section: &[u8], start: u32, size: u16, entries: u32, buffer: &mut [u32]) -> Links
     requires { ⌜ FilledBuffer (nexts (now section) size entries) (now buffer) ⌝ }
-    ensures { λ r. ⌜ LinksAnswered (entryOffset start size) (nexts (now (section .entry)) size entries) (length (now (buffer .entry))) r (now (buffer .exit)) ⌝ }
+    ensures { λ r.
+        ⌜ LinksAnswered (entryOffset start size) (nexts (now (section .entry)) size entries) (length (now (buffer .entry))) r
+        (now (buffer .exit)) ⌝ }
 {
     let pass = store_predecessors(section, size, entries, buffer);
     match pass {

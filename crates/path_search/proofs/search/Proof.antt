@@ -67,13 +67,15 @@ returns-2 : tie.Need-returns-2 Inv-loop μ-loop
 returns-2 c =
     let w = c .before .before .loop in
     let a = c .before .before .before .before .before .before .args in
-    numbered-search (a .version) (a .l) _ _ _ _ (omega arith) (lowest-at _ _ _ _ (lowest-end _ _ (w .i) _ _ (w .inv .2) (w .inv .0) (c .before .loop-test .left)) (c .if3 .taken))
+    let all = lowest-end _ _ (w .i) _ _ (w .inv .2) (w .inv .0) (c .before .loop-test .left) in
+    numbered-search (a .version) (a .l) _ _ _ _ (omega arith) (lowest-at _ _ _ _ all (c .if3 .taken))
 
 returns-3 : tie.Need-returns-3 Inv-loop μ-loop
 returns-3 c =
     let w = c .before .before .loop in
     let a = c .before .before .before .before .before .before .args in
-    numbered-search (a .version) (a .l) _ _ _ _ (omega arith) (lowest-none _ _ (w .least) (w .index) (lowest-end _ _ (w .i) _ _ (w .inv .2) (w .inv .0) (c .before .loop-test .left)) (c .if3 .left))
+    let all = lowest-end _ _ (w .i) _ _ (w .inv .2) (w .inv .0) (c .before .loop-test .left) in
+    numbered-search (a .version) (a .l) _ _ _ _ (omega arith) (lowest-none _ _ (w .least) (w .index) all (c .if3 .left))
 
 pub search-spec : {M : Type 1} → statement M
 search-spec =

@@ -45,7 +45,8 @@ returns-2 c =
     let places = told .before .before in
     let count = places .before in
     let start = count .before .before .before .before in
-    refused-8 _ _ _ (start .pre .whole) _ (count .link-count .ensures) _ (places .places-fault .ensures) (told .enum-told .given .1) _ (entries .entries-fault .ensures) _ _ _
+    refused-8 _ _ _ (start .pre .whole) _ (count .link-count .ensures) _ (places .places-fault .ensures) (told .enum-told .given .1) _
+    (entries .entries-fault .ensures) _ _ _
     (arm .i2 .given .1) (c .refuse2 .ensures)
 
 enum-told-2 : tie.Need-enum-told-2
@@ -75,7 +76,8 @@ returns-3 c =
     let places = roomy .before .before in
     let count = places .before in
     let start = count .before .before .before .before in
-    tables-next _ _ _ (start .pre .whole) _ (count .link-count .ensures) _ (places .places-fault .ensures) (roomy .enum-told .given .1) _ (entries .entries-fault .ensures) _
+    tables-next _ _ _ (start .pre .whole) _ (count .link-count .ensures) _ (places .places-fault .ensures) (roomy .enum-told .given .1) _
+    (entries .entries-fault .ensures) _
     (told .enum-told2 .given .1) (tables .check-tables .ensures)
 
 pub check-rest-spec : {M : Type 1} → statement M
