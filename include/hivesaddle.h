@@ -131,12 +131,44 @@ uint32_t hs_places(const uint8_t *file, size_t length, uint64_t *out, size_t out
  *  17                hs_read_file only: the file is longer than S                         0                    12
  *  18                hs_catalogue_read only: not a catalogue line
  *  19                hs_catalogue_write only: fields that form no line, or an output below 27 bytes
+ *  23                hs_walk only: order has fewer places than there are trace entries    0                    0
  *  25                hs_hash_swap and hs_hash_swap_bytes only: p exceeds the length of old
  *
  * 14 and 15 are found volume by volume, the first fault of the first volume that has one. The end of an empty section
  * counts as H; strings without metrics entries and a volumes section without volumes are not waited for. Version 30
  * passes 7 and 11 to 13 with any slots and any bytes, as soon as it has H.
  */
+
+/* ---- The walk along all chains ----
+ *
+ * hs_walk reads a complete file as hs_read_file does, and then walks its trace entries: from each head, an entry that
+ * no entry names as next, in index order, and from there along next to the chain's end. Every entry is on exactly one
+ * chain, so each is visited once, and there are as many chains as entries whose next is HS_NONE.
+ *
+ * order takes the entries in the order visited, one place for each step, and keeps what it held behind them. It needs
+ * one place for each trace entry, as many as hs_places says; with fewer the answer is 23. A refusal of hs_read_file, 7
+ * among them, comes first. After any refusal all of order is as it was.
+ *
+ * predecessors is as hs_read_file leaves it: the table after a walk, HS_NONE in every slot after a refusal, 23 too.
+ *
+ * The trace entries of version 30 have no next index: steps and total are 0, order is as it was, every slot holds
+ * HS_NONE, and 23 is never the answer. Such an entry has a block load count too, which is not added up.
+ *
+ * Gives HS_ACCEPTED where it walked, or HS_REFUSED.
+ */
+
+/* Where each number stands in out. All that the answer does not fill are 0. */
+enum hs_walk_out {
+    HS_WALK_NUMBER = 0, /* of the refusal */
+    HS_WALK_INDEX = 1,  /* section, entry or volume at fault, or 0 */
+    HS_WALK_OFFSET = 2, /* where the field at fault stands in the file; 0 for 23 */
+    HS_WALK_STEPS = 3,  /* entries visited, which is the trace count; 0 for version 30 */
+    HS_WALK_TOTAL = 4,  /* their block load counts added up, in 64 bits */
+    HS_WALK_OUT = 5     /* length of an out that holds them all */
+};
+
+uint32_t hs_walk(const uint8_t *file, size_t length, uint32_t *predecessors, size_t places, uint32_t *order,
+                 size_t order_length, uint64_t *out, size_t out_length);
 
 /* ---- Queries about one entry ----
  *

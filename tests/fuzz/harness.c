@@ -10,7 +10,8 @@
  *   8, 16  i and k; the four fields of a line to be written; of a swap, p and the old hash
  *   24     seed of the noise
  *   28     length of the output for a line, 0 to 39
- *   29     length of the list of pairs, 0 to 15
+ *   29     low four bits: length of the list of pairs, 0 to 15; high four: places for the order of a walk, chosen
+ *          as the slots are, with bytes 4, 5 for any
  *   30     2 bytes: how many of the file's last bytes are the start of a swap
  */
 #define _GNU_SOURCE
@@ -26,6 +27,7 @@
 
 uint32_t judge_read_prefix(const uint8_t *, size_t, uint32_t *, size_t, uint64_t *, size_t);
 uint32_t judge_read_file(const uint8_t *, size_t, uint32_t *, size_t, uint64_t *, size_t);
+uint32_t judge_walk(const uint8_t *, size_t, uint32_t *, size_t, uint32_t *, size_t, uint64_t *, size_t);
 uint32_t judge_places(const uint8_t *, size_t, uint64_t *, size_t);
 uint32_t judge_program_name(const uint8_t *, size_t, uint64_t *, size_t);
 uint32_t judge_entry_name(const uint8_t *, size_t, uint64_t, uint64_t *, size_t);
@@ -49,12 +51,12 @@ uint32_t judge_catalogue_write(uint32_t, uint32_t, uint32_t, uint32_t, uint8_t *
 enum call {
     READ_PREFIX, READ_FILE, PROGRAM_NAME, ENTRY_NAME, VOLUME, REFERENCE, FIND_PATH, HASH_XP, HASH_VISTA, HASH_2008,
     HASH_XP_BYTES, HASH_VISTA_BYTES, HASH_2008_BYTES, CATALOGUE_READ, CATALOGUE_WRITE, PLACES, LIST_PATHS,
-    HASH_POWERS, HASH_POWERS_BYTES, HASH_SWAP, HASH_SWAP_BYTES, CALLS
+    HASH_POWERS, HASH_POWERS_BYTES, HASH_SWAP, HASH_SWAP_BYTES, WALK, CALLS
 };
 static const char *const names[CALLS] = {
     "read_prefix", "read_file", "program_name", "entry_name", "volume", "reference", "find_path", "hash_xp", "hash_vista",
     "hash_2008", "hash_xp_bytes", "hash_vista_bytes", "hash_2008_bytes", "catalogue_read", "catalogue_write", "places",
-    "list_paths", "hash_powers", "hash_powers_bytes", "hash_swap", "hash_swap_bytes"
+    "list_paths", "hash_powers", "hash_powers_bytes", "hash_swap", "hash_swap_bytes", "walk"
 };
 
 /* ---- Lists between pages that cannot be touched ---- */
@@ -66,7 +68,10 @@ struct list {
     uint8_t *start;
     size_t bytes;
 };
-enum { FILE_LIST, NUMBERS, START, TABLE, JUDGE_TABLE, OUT, JUDGE_OUT, LINE, JUDGE_LINE, PAIRS, JUDGE_PAIRS, LISTS };
+enum {
+    FILE_LIST, NUMBERS, START, TABLE, JUDGE_TABLE, OUT, JUDGE_OUT, LINE, JUDGE_LINE, PAIRS, JUDGE_PAIRS, ORDER,
+    JUDGE_ORDER, LISTS
+};
 static struct list lists[LISTS];
 static int empty_pointer;
 
@@ -162,9 +167,10 @@ static void set_breakpoints(const char *path) {
 
 /* ---- What has been seen, as the library answered ---- */
 
-/* The greatest refusal number of the readers is 21. */
-enum { ANSWERS = 26, REFUSALS = 22 };
+/* The greatest refusal number of the readers is 21, that of the walk 23. */
+enum { ANSWERS = 26, REFUSALS = 24 };
 static uint64_t calls[CALLS], answers[CALLS][ANSWERS], refusals[2][REFUSALS], accepted[2][32], numbers_found[9];
+static uint64_t walk_refusals[REFUSALS], large_totals;
 
 static void count(enum call call, uint64_t code, const uint64_t *out, size_t out_length) {
     calls[call]++;
@@ -172,6 +178,8 @@ static void count(enum call call, uint64_t code, const uint64_t *out, size_t out
     if (call == LIST_PATHS && code >= ANSWERS) code = ANSWERS - 1; /* that many pairs, or more */
     answers[call][code]++;
     if (call == FIND_PATH && code == 1 && out_length > 1) numbers_found[out[1]]++;
+    if (call == WALK && code == HS_REFUSED && out_length > HS_WALK_NUMBER) walk_refusals[out[HS_WALK_NUMBER]]++;
+    if (call == WALK && out_length > HS_WALK_TOTAL) large_totals += out[HS_WALK_TOTAL] > UINT32_MAX;
     if (call <= READ_FILE && code == HS_REFUSED && out_length > HS_NUMBER) refusals[call][out[HS_NUMBER]]++;
     if (call <= READ_FILE && code == HS_ACCEPTED && out_length > HS_VERSION) accepted[call][out[HS_VERSION]]++;
 }
@@ -192,6 +200,10 @@ static void report(void) {
             if (refusals[call][number]) fprintf(stderr, ", %d: %lu", number, refusals[call][number]);
         fputc('\n', stderr);
     }
+    fprintf(stderr, "seen: walk: totals past 32 bits: %lu; refusals", large_totals);
+    for (int number = 0; number < REFUSALS; number++)
+        if (walk_refusals[number]) fprintf(stderr, ", %d: %lu", number, walk_refusals[number]);
+    fputc('\n', stderr);
     fprintf(stderr, "seen: find_path: by number");
     for (int number = 0; number <= 8; number++) fprintf(stderr, ", %d: %lu", number, numbers_found[number]);
     fputc('\n', stderr);
@@ -214,7 +226,7 @@ int LLVMFuzzerInitialize(int *argc, char ***argv) {
 
 struct input {
     const uint8_t *control, *bytes;
-    size_t length, out_length, places, start_length;
+    size_t length, out_length, places, order_length, start_length;
     uint64_t i, k;
 };
 
@@ -239,10 +251,11 @@ static void same_list(enum call call, const char *what, int one, int other) {
 static void one_call(enum call call, const struct input *in, uint64_t i, uint64_t k) {
     int flags = in->control[1];
     size_t n = in->length, count_32 = n / 4, line = in->control[28] % 40, pairs = in->control[29] % 16;
-    lay_pair(TABLE, JUDGE_TABLE, call <= READ_FILE ? 4 * in->places : 0, flags & 2);
+    lay_pair(TABLE, JUDGE_TABLE, call <= READ_FILE || call == WALK ? 4 * in->places : 0, flags & 2);
     lay_pair(OUT, JUDGE_OUT, 8 * in->out_length, flags & 4);
     lay_pair(LINE, JUDGE_LINE, line, flags & 4);
     lay_pair(PAIRS, JUDGE_PAIRS, 4 * pairs, flags & 2);
+    lay_pair(ORDER, JUDGE_ORDER, call == WALK ? 4 * in->order_length : 0, flags & 4);
     size_t start_length = in->start_length, start_count = start_length / 4;
     const uint8_t *start_bytes = in->bytes + n - start_length;
     lay(&lists[START], call == HASH_SWAP ? 4 * start_count : start_length, flags & 1);
@@ -251,7 +264,7 @@ static void one_call(enum call call, const struct input *in, uint64_t i, uint64_
     const uint32_t *numbers = pointer(&lists[NUMBERS]);
     uint32_t *table = pointer(&lists[TABLE]), *judge_table = pointer(&lists[JUDGE_TABLE]);
     uint64_t *out = pointer(&lists[OUT]), *judge_out = pointer(&lists[JUDGE_OUT]);
-    size_t o = in->out_length, p = in->places;
+    size_t o = in->out_length, p = in->places, w = in->order_length;
     uint64_t given = 0, expected = 0;
     switch (call) {
     case READ_PREFIX:
@@ -338,6 +351,10 @@ static void one_call(enum call call, const struct input *in, uint64_t i, uint64_
         given = hs_hash_swap_bytes(k, file, n, i, pointer(&lists[START]), start_length, out, o);
         expected = judge_hash_swap_bytes(k, file, n, i, pointer(&lists[START]), start_length, judge_out, o);
         break;
+    case WALK:
+        given = hs_walk(file, n, table, p, pointer(&lists[ORDER]), w, out, o);
+        expected = judge_walk(file, n, judge_table, p, pointer(&lists[JUDGE_ORDER]), w, judge_out, o);
+        break;
     default: abort();
     }
     if (given != expected) {
@@ -348,6 +365,7 @@ static void one_call(enum call call, const struct input *in, uint64_t i, uint64_
     same_list(call, "predecessors", TABLE, JUDGE_TABLE);
     same_list(call, "line", LINE, JUDGE_LINE);
     same_list(call, "pairs", PAIRS, JUDGE_PAIRS);
+    same_list(call, "order", ORDER, JUDGE_ORDER);
     if (n && memcmp(lists[FILE_LIST].start, in->bytes, n)) differ(call, "the file was changed");
     if (count_32 && memcmp(lists[NUMBERS].start, in->bytes, 4 * count_32)) differ(call, "the numbers were changed");
     if (start_length && memcmp(lists[START].start, start_bytes, lists[START].bytes)) differ(call, "the start was changed");
@@ -373,10 +391,11 @@ static void all_calls(const struct input *in) {
     }
 }
 
-static size_t places(const uint8_t *control, const uint8_t *bytes, size_t length) {
+/* Slots for the table, or places for the order. */
+static size_t places(uint8_t choice, const uint8_t *control, const uint8_t *bytes, size_t length) {
     size_t traces = length >= 100 ? number(bytes + 96, 4) : 0;
     if (traces > MOST_PLACES) traces = MOST_PLACES;
-    switch (control[3] % 8) {
+    switch (choice % 8) {
     case 0: case 1: case 2: return traces;
     case 3: return traces ? traces - 1 : 0;
     case 4: return traces + 1;
@@ -394,7 +413,8 @@ int LLVMFuzzerTestOneInput(const uint8_t *data, size_t size) {
     size_t cut = number(control + 6, 2);
     if (cut && cut - 1 < in.length) in.length = cut - 1;
     in.out_length = control[2] % (HS_READER_OUT + 4);
-    in.places = places(control, in.bytes, in.length);
+    in.places = places(control[3], control, in.bytes, in.length);
+    in.order_length = places(control[29] >> 4, control, in.bytes, in.length);
     in.i = number(control + 8, 8);
     in.k = number(control + 16, 8);
     in.start_length = number(control + 30, 2) % (in.length + 1);

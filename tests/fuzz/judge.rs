@@ -10,11 +10,12 @@ mod numbers;
 #[path = "../src/reference/mod.rs"]
 mod reference;
 
-use numbers::numbers_of;
+use numbers::{numbers_of, walk_numbers};
 use reference::catalogue::{self, Fields};
 use reference::head::{section, VOLUMES};
 use reference::readers::{read_file, read_prefix, Answer};
 use reference::search::{find_path, list_paths};
+use reference::walk::walk;
 use reference::{hashes, queries};
 
 unsafe fn list<'a, T>(pointer: *const T, length: usize) -> &'a [T] {
@@ -73,6 +74,28 @@ pub unsafe extern "C" fn judge_read_file(
     out_length: usize,
 ) -> u32 {
     give(&read_file(list(file, length), places), table, places, out, out_length)
+}
+
+/// After a refusal nothing is written to the order.
+#[no_mangle]
+pub unsafe extern "C" fn judge_walk(
+    file: *const u8,
+    length: usize,
+    table: *mut u32,
+    places: usize,
+    order: *mut u32,
+    order_length: usize,
+    out: *mut u64,
+    out_length: usize,
+) -> u32 {
+    let walked = walk(list(file, length), places, order_length);
+    let (code, numbers) = walk_numbers(&walked.outcome);
+    write(table, places, &walked.predecessors);
+    if let Ok(walk) = &walked.outcome {
+        write(order, order_length, &walk.order);
+    }
+    write(out, out_length, &numbers);
+    code
 }
 
 #[no_mangle]

@@ -1,14 +1,15 @@
 //! seeds FOLDER FILE..
 //!
 //! Writes inputs for the fuzzer to start from: the files given, and of each version sound files, a file damaged for
-//! each check that it can fail, and cuts; lines; and lists around the end of the table of powers. The same bytes every
-//! time.
+//! each check that it can fail, and cuts; chains to walk; lines; and lists around the end of the table of powers. The
+//! same bytes every time.
 
+use compare::generate::bare::with_blocks;
 use compare::generate::cuts::cuts;
 use compare::generate::damage::{aims_of, damage};
 use compare::generate::{sound_of, Counts, Sample};
 use compare::random::Random;
-use compare::reference::layout::LAYOUTS;
+use compare::reference::layout::{END, LAYOUTS};
 use hivesaddle::raw::HS_READER_OUT;
 use std::io;
 use std::path::{Path, PathBuf};
@@ -19,9 +20,12 @@ const CATALOGUE_READ: u8 = 13;
 const CATALOGUE_WRITE: u8 = 14;
 const HASH_POWERS: u8 = 17;
 const HASH_SWAP_BYTES: u8 = 20;
-/// Places as the trace count says, one fewer, or none.
+const WALK: u8 = 21;
+/// Slots as the trace count says, or one fewer; above them the same for the places of a walk's order.
 const EXACT: u8 = 0;
 const FEWER: u8 = 3;
+const ORDER_FEWER: u8 = FEWER << 4;
+const ORDER_MORE: u8 = 4 << 4;
 
 struct Seeds {
     folder: PathBuf,
@@ -32,11 +36,11 @@ impl Seeds {
     /// The choices as harness.c takes them, then the bytes.
     fn add(&mut self, call: u8, places: u8, i: u64, k: u64, bytes: &[u8]) -> io::Result<()> {
         let out_length = HS_READER_OUT as u8 + self.count as u8 % 4;
-        let mut input = vec![call, self.count as u8 % 32, out_length, places, 0, 0, 0, 0];
+        let mut input = vec![call, self.count as u8 % 32, out_length, places & 0x0F, 0, 0, 0, 0];
         input.extend(i.to_le_bytes());
         input.extend(k.to_le_bytes());
         input.extend((self.count as u32).to_le_bytes());
-        input.extend([26 + self.count as u8 % 3, self.count as u8 % 16]);
+        input.extend([26 + self.count as u8 % 3, places & 0xF0 | self.count as u8 % 16]);
         input.extend((self.count as u16 % 64).to_le_bytes());
         input.extend(bytes);
         std::fs::write(self.folder.join(format!("seed-{:03}", self.count)), input)?;
@@ -58,6 +62,25 @@ impl Seeds {
                 damage(random, &mut sample, number);
                 let places = if number == 7 { FEWER } else { EXACT };
                 self.add(ALL, places, 1, 1, &sample.bytes)?;
+            }
+        }
+        Ok(())
+    }
+
+    /// Chains of each kind, with places for all of them, for one fewer and for one more.
+    fn walks(&mut self) -> io::Result<()> {
+        let lists: [&[u32]; 6] = [
+            &[END],
+            &[1, 2, 3, END],
+            &[END, 0, 1, 2],
+            &[3, END, END, 1],
+            &[END, END, END],
+            &[4, END, 1, END, 2, 3],
+        ];
+        for (list, blocks) in lists.iter().zip([1, 8, u32::MAX, u32::MAX - 1, 1 << 31, 7]) {
+            let file = with_blocks(list, &vec![blocks; list.len()]);
+            for places in [EXACT, ORDER_FEWER, ORDER_MORE] {
+                self.add(WALK, places, 0, 0, &file)?;
             }
         }
         Ok(())
@@ -119,6 +142,7 @@ fn main() -> io::Result<()> {
         seeds.add(ALL, EXACT, 2, 0, &std::fs::read(file)?)?;
     }
     seeds.versions(&mut Random::new(1))?;
+    seeds.walks()?;
     seeds.lines()?;
     seeds.powers(&mut Random::new(2))
 }

@@ -3,6 +3,7 @@
 //! is what the benchmarks hold the library to.
 
 pub mod search;
+pub mod walk;
 
 use hivesaddle::{Record, Refusal};
 

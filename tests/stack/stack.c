@@ -16,7 +16,7 @@
 static _Alignas(64) unsigned char stack[STACK_BYTES];
 static uint8_t *file;
 static size_t length, places;
-static uint32_t *predecessors;
+static uint32_t *predecessors, *order;
 static uint64_t out[HS_READER_OUT];
 static uint32_t numbers[1000], pairs[64];
 static uint8_t line[HS_CATALOGUE_LINE_LENGTH];
@@ -35,6 +35,7 @@ static uint32_t (*volatile nothing_called)(const uint8_t *, size_t, uint32_t *, 
 static void call_nothing(void) { answer = nothing_called(file, length, predecessors, places, out, HS_READER_OUT); }
 static void read_file(void) { answer = hs_read_file(file, length, predecessors, places, out, HS_READER_OUT); }
 static void read_prefix(void) { answer = hs_read_prefix(file, length, predecessors, places, out, HS_READER_OUT); }
+static void walk(void) { answer = hs_walk(file, length, predecessors, places, order, places, out, HS_WALK_OUT); }
 static void places_needed(void) { answer = hs_places(file, length, out, HS_READER_OUT); }
 static void find_path(void) { answer = hs_find_path(file, length, out, HS_READER_OUT); }
 static void list_paths(void) { answer = (uint32_t)hs_list_paths(file, length, pairs, 64); }
@@ -63,6 +64,7 @@ static struct {
     {"a call that does nothing", call_nothing, 0},
     {"hs_read_prefix", read_prefix, 0},
     {"hs_read_file", read_file, 0},
+    {"hs_walk", walk, 0},
     {"hs_places", places_needed, 0},
     {"hs_program_name", program_name, 0},
     {"hs_entry_name", entry_name, 0},
@@ -114,7 +116,8 @@ static void load(const char *path)
     places = length / 12 + 1;
     file = malloc(length + 1);
     predecessors = malloc(places * sizeof *predecessors);
-    if (file == NULL || predecessors == NULL || fread(file, 1, length, opened) != length) {
+    order = malloc(places * sizeof *order);
+    if (file == NULL || predecessors == NULL || order == NULL || fread(file, 1, length, opened) != length) {
         perror(path);
         exit(2);
     }
@@ -135,6 +138,7 @@ int main(int count, char **paths)
         }
         free(file);
         free(predecessors);
+        free(order);
     }
     printf("%d files\n", count - 1);
     for (size_t k = 1; k < CALLS; k++) {

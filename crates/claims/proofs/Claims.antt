@@ -21,6 +21,8 @@ use Rattle.claims.proofs.OneHash.{one-hash}
 use Rattle.claims.proofs.Powers.{powers}
 use Rattle.claims.proofs.Times.{times}
 use Rattle.claims.proofs.WithoutNext.{without-next}
+use Rattle.walk.proofs.Once.{every-entry}
+use Rattle.claims.proofs.Walks.{walks-say}
 use Rattle.claims.proofs.Places.{places-say}
 use Rattle.claims.proofs.EmptyPrograms.{empty-programs}
 use Rattle.claims.proofs.Examples.{examples}
@@ -46,6 +48,8 @@ claims =
       working-buffer = λ s places l room. working-buffer (l .at) s (l .count) places (l .short) room (l .passes);
       one-chain = λ s l. one-chain (l .at) s (l .count) (l .short) (l .passes);
       chains-ends = λ s l. chains-ends (l .at) s (l .count) (l .short) (l .passes);
+      every-entry = λ s l. every-entry (l .at) s (l .count) (l .short) (l .passes);
+      walks = walks-say;
       cycles = cycle-law;
       round-trip = round-trip;
       decimal-is = decimal-law;

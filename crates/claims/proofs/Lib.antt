@@ -8,6 +8,7 @@ pub mod Numbers
 pub mod OneHash
 pub mod Times
 pub mod WithoutNext
+pub mod Walks
 pub mod EveryName
 pub mod Examples
 pub mod Places

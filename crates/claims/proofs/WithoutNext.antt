@@ -51,7 +51,7 @@ no-links : (o : Opening) → hasNext (o .layout) ≡ false → linkCount (o .lay
 unfolding linkCount
 no-links o e = rw e
 
-no-nexts : (o : Opening) (b : List ℕ) → hasNext (o .layout) ≡ false → nextsIn o b ≡ []
+pub no-nexts : (o : Opening) (b : List ℕ) → hasNext (o .layout) ≡ false → nextsIn o b ≡ []
 unfolding nexts tabulate
 no-nexts o b e = rw (no-links o e)
 

@@ -22,6 +22,7 @@ use Rattle.reader.specs.declared.verdict.Verdict.the-variants.{Accepted}
 use Rattle.reader.specs.Checks.{nextsIn, prefixAnswer, ReadsPrefix, ReadsFile}
 use Rattle.reader.specs.Allowed.{Allowed, AcceptedExactly}
 use Rattle.reader.specs.Early.{EarlyStands}
+use Rattle.walk.specs.EveryEntry.{EveryEntry}
 use Rattle.query.specs.Queries.{entryShown, volumeShown, volumeFacts}
 use Rattle.query.specs.Shown.{EntryShown, NamePlaced, VolumeShown}
 use Rattle.path_search.specs.declared.PathAnswer.the-variants.{Entry, NoPath}
@@ -36,6 +37,7 @@ use Rattle.claims.specs.Powers.{Powers}
 use Rattle.claims.specs.Times.{Times}
 use Rattle.claims.specs.WithoutNext.{WithoutNext}
 use Rattle.claims.specs.Places.{PlacesSay}
+use Rattle.claims.specs.Walks.{WalksSay}
 use Rattle.claims.specs.EmptyPrograms.{EmptyPrograms}
 use Rattle.claims.specs.Examples.{Examples}
 use Rattle.claims.specs.Points.{Points}
@@ -104,6 +106,11 @@ pub record Claims : Type 1 where
   -- "The chain count": every entry is on exactly one chain, and there are as many chains as entries whose next is 4,294,967,295.
   pub one-chain : (s : List ℕ) → Linked s → (i : ℕ) → i < length s → OneChain s i
   pub chains-ends : (s : List ℕ) → Linked s → chains s ≡ namers s (length s) end
+  -- Request 112: the walk over such links visits every entry once; its length is their number, and what is added up along it is the
+  -- plain total. There are as many heads as ends.
+  pub every-entry : (s : List ℕ) → Linked s → EveryEntry s
+  -- The walk of a file: its steps, its total, and what it gives where trace entries have no next index.
+  pub walks : WalksSay
   -- Refusal 13, "following next from an entry comes back to it": a test of as many steps as there are entries finds every cycle.
   pub cycles : (s : List ℕ) (i : ℕ) → i < length s → length s ≤ end → (cyclic s i ≡ true) ↔ Cyclic s i
   -- ---- the catalogue line, decimal numbers, the hashes

@@ -4,6 +4,7 @@ pub mod Numbers
 pub mod OneHash
 pub mod Times
 pub mod WithoutNext
+pub mod Walks
 pub mod Claims
 pub mod EmptyPrograms
 pub mod EveryName

@@ -9,6 +9,7 @@ use Rattle.incremental.specs.Plan.{Answer}
 use Rattle.reader.specs.Verdict.{Acceptable, Values, answerValues, bufferAfter}
 use Rattle.reader.specs.declared.verdict.Acceptance.{Acceptance}
 use Rattle.reader.specs.Checks.{prefixAnswer, fileAnswer}
+use Rattle.walk.specs.Walk as walk
 use Rattle.catalogue.specs.declared.Fields.{Fields}
 use Rattle.catalogue.specs.Line.{canWrite, lineOf}
 
@@ -78,3 +79,12 @@ FileOut p before code buffer out out′ = ReadOut (fileAnswer p (length before))
 pub record Answered (said : Said) (r : ℕ) (out out′ : List ℕ) : Type 0 where
   pub number : r ≡ said .number
   pub output : out′ ≡ overlay out (said .values)
+
+-- ---- the walk: 0 walked, 1 refused; refusal number, index, file offset, steps and total; the place and the working buffer afterwards
+abbrev pub walkSaid : walk.Values → Said
+walkSaid v = record { number = v .kind; values = v .number ∷ v .index ∷ v .offset ∷ v .steps ∷ v .total ∷ [] }
+
+pub record WalkOut (p buffer order : List ℕ) (code : ℕ) (buffer′ order′ out out′ : List ℕ) : Type 0 where
+  pub said : Answered (walkSaid (walk.decisionValues (walk.walked p (length buffer) (length order)))) code out out′
+  pub placed : order′ ≡ walk.orderAfter (walk.walked p (length buffer) (length order)) order
+  pub places : buffer′ ≡ walk.bufferAfter (walk.walked p (length buffer) (length order)) (length buffer)

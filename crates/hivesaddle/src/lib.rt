@@ -8,6 +8,8 @@ ghost use Rattle.reader.specs.Verdict.{valuesOf, noRecord};
 ghost use Rattle.query.specs.Queries.{placeSaid, programPlace, entryPlace, volumeAsked, volumeList, volumeValues, volumeSaid};
 ghost use Rattle.query.specs.Queries.{referenceAsked, referenceSaid, placesNeeded, placesSaid};
 ghost use Rattle.path_search.specs.Search.{pathFound, pathSaid, ListsPaths};
+ghost use Rattle.walk.specs.Walk as walk;
+ghost use Rattle.hivesaddle.specs.Output.{walkSaid, WalkOut};
 ghost use Rattle.hivesaddle.specs.Output.{Answered, overlay, lineValues, fieldsOf, LineWriting, verdictValues, valuesWith, PrefixOut, FileOut};
 use catalogue::Fields;
 use catalogue::ReadLine;
@@ -24,6 +26,7 @@ use reader::Acceptance;
 use reader::RunTimes;
 use reader::Verdict;
 use volumes::Reference;
+use walk::WalkAnswer;
 
 #[no_mangle]
 pub extern "C" fn hs_hash_xp(numbers: &[u32]) -> u32
@@ -258,6 +261,39 @@ pub extern "C" fn hs_read_file(file: &[u8], predecessors: &mut [u32], out: &mut 
 {
     let v = reader::read_file(file, predecessors);
     put_verdict(v, out)
+}
+
+fn put_walk(answer: WalkAnswer, out: &mut [u64]) -> u32
+    ensures { λ r. ⌜ Answered (walkSaid (walk.valuesOf answer)) r (now (out .entry)) (now (out .exit)) ⌝ }
+{
+    match answer {
+        WalkAnswer::Walked { steps, total } => {
+            let values = [0, 0, 0, steps as u64, total];
+            put(out, &values);
+            0
+        }
+        WalkAnswer::Refused(r) => {
+            let values = [r.number as u64, r.index as u64, r.offset as u64, 0, 0];
+            put(out, &values);
+            1
+        }
+    }
+}
+
+// The walk over all chains of a file: 0 walked, 1 refused.
+#[no_mangle]
+pub extern "C" fn hs_walk(
+    file: &[u8],
+    predecessors: &mut [u32],
+    order: &mut [u32],
+    out: &mut [u64],
+) -> u32
+    ensures { λ r.
+        ⌜ WalkOut (now (file .entry)) (now (predecessors .entry)) (now (order .entry)) r (now (predecessors .exit)) (now (order .exit))
+        (now (out .entry)) (now (out .exit)) ⌝ }
+{
+    let answer = walk::walk(file, predecessors, order);
+    put_walk(answer, out)
 }
 
 fn put_one(out: &mut [u64], a: u64)

@@ -1,7 +1,10 @@
 -- What only private contracts need: facts that hold of every version's constants.
+use mathlib.Core.Path.{_≡_}
 use Prim.Native.Nat.{_+_, _*_, _≤_}
+use Rattle.lists.specs.Count.{pick}
 use Rattle.layout.specs.declared.Layout.{Layout}
-use Rattle.layout.specs.Versions.{runTimeAt, timeCount, runCountAt, headEnd, metricsEntry, nameOffsetAt, nameLengthAt, volumeEntry, traceEntry, formRequired}
+use Rattle.layout.specs.Versions.{runTimeAt, timeCount, runCountAt, headEnd, metricsEntry, nameOffsetAt}
+use Rattle.layout.specs.Versions.{nameLengthAt, volumeEntry, traceEntry, hasNext, formRequired}
 
 pub record SoundLayout (l : Layout) : Type 0 where
   -- the head's fields that every version has end by H
@@ -19,5 +22,7 @@ pub record SoundLayout (l : Layout) : Type 0 where
   pub volume-fields : 36 ≤ volumeEntry l
   pub trace-entry : traceEntry l ≤ 12
   pub next : 4 ≤ traceEntry l
+  -- a trace entry that has a next index is 12 bytes long
+  pub linked : pick (hasNext l) (traceEntry l) 12 ≡ 12
   -- what tells the head form lies before the smallest H
   pub form : formRequired l ≤ 88

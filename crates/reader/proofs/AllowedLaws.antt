@@ -39,7 +39,8 @@ use Rattle.head.proofs.Facts.{open-facts, open-complete, open-sound, open-shape
 use Rattle.head.specs.declared.checks.Opening.{Opening}
 use Rattle.names.specs.Names.{nameAt, nameUnits, misfitFault, unsoundFault, SoundName}
 use Rattle.names.proofs.Laws.{sound-name, le-fits}
-use Rattle.trace.specs.Links.{end, nexts, after, Cyclic, cyclic, namers, shared, astray, astrayFault, sharedFault, cyclicFault, chains, predecessors, linkChecks}
+use Rattle.trace.specs.Links.{end, nexts, after, Cyclic, cyclic, namers, shared}
+use Rattle.trace.specs.Links.{astray, astrayFault, sharedFault, cyclicFault, chains, predecessors, linkChecks}
 use Rattle.trace.proofs.Steps.{length-nexts}
 use Rattle.trace.proofs.Accepted.{accepted, astray-end, astray-below}
 use Rattle.trace.proofs.Cycles.{cycle-law}
@@ -48,7 +49,8 @@ use Rattle.volumes.specs.SoundVolume.{SoundVolume}
 use Rattle.volumes.proofs.SoundVolume.{volumes-sound}
 use Rattle.reader.specs.declared.verdict.Acceptance.{Acceptance}
 use Rattle.reader.specs.Verdict.{Acceptable}
-use Rattle.reader.specs.Checks.{nextsIn, linkAt, timeAt, recordOf, traceRequired, volumesRequired, namesRequired, readPlan, prefixAnswer, sizeOf, sized, whole}
+use Rattle.reader.specs.Checks.{nextsIn, linkAt, timeAt, recordOf, traceRequired, volumesRequired}
+use Rattle.reader.specs.Checks.{namesRequired, readPlan, prefixAnswer, sizeOf, sized, whole}
 use Rattle.reader.specs.Private.{fitsPlan, textsPlan, tracePlan, volumesPlan, EntriesFit, tablesPlan, restPlan}
 use Rattle.reader.proofs.Opens.{read-opens}
 use Rattle.reader.proofs.Stages.{answer-then}
@@ -266,7 +268,7 @@ pub record RestFacts (m : ℕ) (p : List ℕ) (o : Opening) (x : Acceptable) : T
   pub table : x .table ≡ predecessors (nextsIn o p) m
 
 -- the faults of checks 11 to 13 and their decision
-links-pass : (at : ℕ → ℕ) (s : List ℕ) → astrayFault at s ≡ Nowhere → sharedFault at s ≡ Nowhere → cyclicFault at s ≡ Nowhere
+pub links-pass : (at : ℕ → ℕ) (s : List ℕ) → astrayFault at s ≡ Nowhere → sharedFault at s ≡ Nowhere → cyclicFault at s ≡ Nowhere
     → linkChecks at s ≡ accept (chains s)
 unfolding linkChecks
 links-pass at s a b c = rw (a, b, c)

@@ -1,6 +1,7 @@
 //! Lists what a file says of itself: the program and when it ran, the files it
 //! read, the volumes they lie on, which files the program itself can be and
-//! with which number, and where its trace chains start.
+//! with which number, where its trace chains start, and what was loaded along
+//! them.
 //!
 //!     contents FILE
 //!
@@ -8,7 +9,7 @@
 //! can't be read.
 
 use hivesaddle::{
-    entry_name, list_paths_alloc, program_name, read_file_alloc, volume, FileContents, NONE,
+    entry_name, list_paths_alloc, program_name, read_file_alloc, volume, walk, FileContents, NONE,
 };
 use std::process::ExitCode;
 
@@ -33,9 +34,14 @@ fn show(file: &[u8], contents: &FileContents) {
     // The trace entries of version 30 have no links, so there is no table.
     let links = contents.predecessors.iter().enumerate();
     let starts: Vec<usize> = links.filter(|link| *link.1 == NONE).map(|link| link.0).collect();
-    match starts.is_empty() {
-        true => println!("{} trace entries, no chains", record.trace_count),
-        false => println!("{} trace entries, chains start at {starts:?}", record.trace_count),
+    if starts.is_empty() {
+        println!("{} trace entries, no chains", record.trace_count);
+        return;
+    }
+    println!("{} trace entries, chains start at {starts:?}", record.trace_count);
+    let mut order = vec![0; contents.predecessors.len()];
+    if let Ok(walk) = walk(file, &mut contents.predecessors.clone(), &mut order) {
+        println!("{} steps along the chains, {} blocks loaded", walk.steps, walk.total);
     }
 }
 

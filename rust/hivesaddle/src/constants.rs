@@ -1,7 +1,7 @@
 //! The numbers of `include/hivesaddle.h`, under the names that they have
 //! there; `tests/header.rs` holds the two together.
 
-/// What both readers give back.
+/// What both readers give back, and the walk the first two of them.
 pub const HS_ACCEPTED: u32 = 0;
 pub const HS_REFUSED: u32 = 1;
 pub const HS_WANTED: u32 = 2;
@@ -31,6 +31,15 @@ pub const HS_RUN_TIME_7: usize = 20;
 pub const HS_RUN_TIME_8: usize = 21;
 /// The length of an `out` that holds them all.
 pub const HS_READER_OUT: usize = 22;
+
+/// Where each number stands in the walk's `out`.
+pub const HS_WALK_NUMBER: usize = 0;
+pub const HS_WALK_INDEX: usize = 1;
+pub const HS_WALK_OFFSET: usize = 2;
+pub const HS_WALK_STEPS: usize = 3;
+pub const HS_WALK_TOTAL: usize = 4;
+/// The length of an `out` that holds them all.
+pub const HS_WALK_OUT: usize = 5;
 
 /// In a slot of `predecessors`: no entry.
 pub const HS_NONE: u32 = 4294967295;

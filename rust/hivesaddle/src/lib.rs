@@ -14,6 +14,7 @@ mod hashes;
 mod queries;
 pub mod raw;
 mod readers;
+mod walk;
 
 pub use catalogue::{
     catalogue_read, catalogue_write, CatalogueFields, CATALOGUE_LINE_LENGTH,
@@ -28,6 +29,7 @@ pub use queries::{
     FoundPath, Reference, Volume,
 };
 pub use readers::{read_file, read_file_alloc, read_prefix, FileContents, Record, Verdict};
+pub use walk::{walk, Walk};
 
 /// What a slot of `predecessors` holds where it has no entry, and every slot
 /// after an answer that is no acceptance.
@@ -41,7 +43,7 @@ pub struct Refusal {
     pub number: u32,
     /// The section, entry or volume at fault; 0 where there is none to name.
     pub index: u64,
-    /// Where the field at fault stands in the file; 0 for 18, 19 and 25, which
-    /// are about no file.
+    /// Where the field at fault stands in the file; 0 for 18, 19, 23 and 25,
+    /// which are about no field of a file.
     pub offset: u64,
 }

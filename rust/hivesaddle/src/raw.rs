@@ -75,6 +75,18 @@ extern "C" {
         out: *mut u64,
         out_length: usize,
     ) -> u32;
+    /// [`HS_ACCEPTED`] where it walked, or [`HS_REFUSED`]. `out`: the numbers
+    /// from [`HS_WALK_NUMBER`] to [`HS_WALK_TOTAL`], [`HS_WALK_OUT`] in all.
+    pub fn hs_walk(
+        file: *const u8,
+        length: usize,
+        predecessors: *mut u32,
+        places: usize,
+        order: *mut u32,
+        order_length: usize,
+        out: *mut u64,
+        out_length: usize,
+    ) -> u32;
     /// 1 for a yes and 0 for a no. `out`: the slots of
     /// `predecessors` that both need.
     pub fn hs_places(file: *const u8, length: usize, out: *mut u64, out_length: usize) -> u32;

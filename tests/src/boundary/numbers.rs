@@ -1,9 +1,11 @@
-//! The numbers that a verdict of the reference stands for, in the order of
-//! `out`. The fuzzer's judge has this file too, so it takes the constants from
-//! the module above.
+//! The numbers that a verdict of the reference stands for, or a walk, in the
+//! order of `out`. The fuzzer's judge has this file too, so it takes the
+//! constants from the module above.
 
 use super::constants::*;
+use crate::reference::checks::Refusal;
 use crate::reference::readers::Verdict;
+use crate::reference::walk::Walk;
 
 /// Every field is zero with any answer but an acceptance.
 pub fn numbers_of(verdict: &Verdict) -> (u32, [u64; HS_READER_OUT]) {
@@ -33,6 +35,25 @@ pub fn numbers_of(verdict: &Verdict) -> (u32, [u64; HS_READER_OUT]) {
         Verdict::Wanted(bytes) => {
             out[HS_BYTES_WANTED] = bytes;
             HS_WANTED
+        }
+    };
+    (code, out)
+}
+
+/// Steps and total are zero after a refusal, and its places after a walk.
+pub fn walk_numbers(outcome: &Result<Walk, Refusal>) -> (u32, [u64; HS_WALK_OUT]) {
+    let mut out = [0; HS_WALK_OUT];
+    let code = match outcome {
+        Ok(walk) => {
+            out[HS_WALK_STEPS] = walk.order.len() as u64;
+            out[HS_WALK_TOTAL] = walk.total;
+            HS_ACCEPTED
+        }
+        Err(refusal) => {
+            out[HS_WALK_NUMBER] = refusal.number;
+            out[HS_WALK_INDEX] = refusal.index;
+            out[HS_WALK_OFFSET] = refusal.offset;
+            HS_REFUSED
         }
     };
     (code, out)

@@ -52,6 +52,16 @@ pub fn with_links(links: &[u32]) -> Vec<u8> {
     file
 }
 
+/// The same with their block counts.
+pub fn with_blocks(links: &[u32], blocks: &[u32]) -> Vec<u8> {
+    assert_eq!(links.len(), blocks.len());
+    let mut file = with_links(links);
+    for (entry, &count) in blocks.iter().enumerate() {
+        set_32(&mut file, 148 + 12 * entry + 4, count);
+    }
+    file
+}
+
 /// One volume at 148 of a version 17 file, with data behind its entry.
 pub fn one_volume(fields: [u32; 6], data: &[u8]) -> Vec<u8> {
     one_volume_of(17, fields, data)

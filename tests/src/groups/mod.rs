@@ -15,6 +15,7 @@ mod reader_points;
 mod readers;
 mod version_30;
 mod volumes;
+mod walks;
 
 /// What a run is asked for.
 pub struct Run {
@@ -43,5 +44,6 @@ pub const GROUPS: &[Group] = &[
     ("volumes", volumes::run),
     ("queries", queries::run),
     ("version_30", version_30::run),
+    ("walks", walks::run),
     ("listing", listing::run),
 ];

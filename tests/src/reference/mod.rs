@@ -13,3 +13,4 @@ pub mod readers;
 pub mod search;
 pub mod trace;
 pub mod volumes;
+pub mod walk;

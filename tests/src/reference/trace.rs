@@ -11,6 +11,11 @@ fn next(file: &[u8], entry: u64) -> u64 {
     number_32(file, entry_start(file, entry) as usize)
 }
 
+/// The blocks loaded for an entry, right behind its next index.
+pub fn block_count(file: &[u8], entry: u64) -> u64 {
+    number_32(file, entry_start(file, entry) as usize + 4)
+}
+
 /// All the next indexes, in order; none where trace entries have no such field,
 /// so that there is nothing to find, no chain and no predecessor.
 fn links(file: &[u8]) -> Vec<u64> {

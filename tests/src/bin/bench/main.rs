@@ -27,6 +27,12 @@
 //! The path search and the list of paths through 10,000 names, none of which
 //! has the stored hash, beside those of `plain`.
 //!
+//! bench walk
+//!
+//! The walk along one chain, in and out of order, beside that of `plain`: the
+//! walk alone, which is that of the library less its whole-file reader, and the
+//! whole of both.
+//!
 //! The two run turn and turn about on the same input, and medians are shown.
 
 mod hashes;
@@ -36,6 +42,7 @@ mod readers;
 mod search;
 mod timing;
 mod trace;
+mod walk;
 
 use std::process::ExitCode;
 
@@ -47,8 +54,9 @@ fn main() -> ExitCode {
         Some("trace") => trace::run(),
         Some("overlap") => overlap::run(),
         Some("search") => search::run(),
+        Some("walk") => walk::run(),
         _ => {
-            eprintln!("bench hashes | powers | readers | trace | overlap | search");
+            eprintln!("bench hashes | powers | readers | trace | overlap | search | walk");
             return ExitCode::from(2);
         }
     }

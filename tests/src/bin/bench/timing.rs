@@ -1,6 +1,6 @@
-//! Two ways to do the same, timed turn and turn about. The time is that of
-//! the processor spent on this thread, so that other work on the machine
-//! counts only by what it takes of the caches.
+//! Two ways to do the same, or more, timed turn and turn about. The time is
+//! that of the processor spent on this thread, so that other work on the
+//! machine counts only by what it takes of the caches.
 
 /// Medians in nanoseconds, for one call.
 pub struct Times {
@@ -21,15 +21,25 @@ pub fn side_by_side(
     mut library: impl FnMut(),
     mut plain: impl FnMut(),
 ) -> Times {
-    let (mut of_library, mut of_plain) = (Vec::new(), Vec::new());
-    for _ in 0..turns {
-        of_library.push(nanoseconds(calls, &mut library));
-        of_plain.push(nanoseconds(calls, &mut plain));
-    }
-    Times { library: median(of_library), plain: median(of_plain) }
+    let times = in_turn(turns, calls, [&mut library, &mut plain]);
+    Times { library: median_of(&times, |turn| turn[0]), plain: median_of(&times, |turn| turn[1]) }
 }
 
-fn nanoseconds(calls: usize, call: &mut impl FnMut()) -> f64 {
+/// What a call of each took, turn by turn.
+pub fn in_turn<const N: usize>(
+    turns: usize,
+    calls: usize,
+    mut ways: [&mut dyn FnMut(); N],
+) -> Vec<[f64; N]> {
+    let turn = |_| std::array::from_fn(|way| nanoseconds(calls, ways[way]));
+    (0..turns).map(turn).collect()
+}
+
+pub fn median_of<T>(turns: &[T], time: impl Fn(&T) -> f64) -> f64 {
+    median(turns.iter().map(time).collect())
+}
+
+fn nanoseconds(calls: usize, call: &mut dyn FnMut()) -> f64 {
     let start = processor_time();
     for _ in 0..calls {
         call();

@@ -27,17 +27,17 @@ const SHAPES: [Shape; 5] = [
     ("chains of one", |count| vec![END; count as usize]),
 ];
 
-fn in_order(count: u32) -> Vec<u32> {
+pub fn in_order(count: u32) -> Vec<u32> {
     (0..count).collect()
 }
 
-fn shuffled(count: u32) -> Vec<u32> {
+pub fn shuffled(count: u32) -> Vec<u32> {
     let mut order = in_order(count);
     Random::new(37).shuffle(&mut order);
     order
 }
 
-fn linked(order: &[u32], cycle: bool) -> Vec<u32> {
+pub fn linked(order: &[u32], cycle: bool) -> Vec<u32> {
     let mut links = vec![END; order.len()];
     link_run(&mut links, order, cycle);
     links
