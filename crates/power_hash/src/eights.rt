@@ -63,7 +63,7 @@ fn eight_step(h: u32, a: u32, b: u32) -> u32
 }
 
 // The plain step at the last numbers, three at most.
-fn last_numbers(h: u32, cs: &[u32], i: usize) -> u32
+pub(crate) fn last_numbers(h: u32, cs: &[u32], i: usize) -> u32
     requires { ⌜ (i ≤ length (now cs)) × (length (now cs) < i + 4) ⌝ }
     ensures { λ r. ⌜ r ≡ plain h (drop i (now (cs .entry))) ⌝ }
 {
@@ -82,7 +82,7 @@ fn last_numbers(h: u32, cs: &[u32], i: usize) -> u32
     next(b, cs[i + 2])
 }
 
-fn last_bytes(h: u32, text: &[u8], i: usize) -> u32
+pub(crate) fn last_bytes(h: u32, text: &[u8], i: usize) -> u32
     requires { ⌜ (i ≤ length (now text)) × (length (now text) < i + 4) ⌝ }
     ensures { λ r. ⌜ r ≡ plain h (drop i (now (text .entry))) ⌝ }
 {
@@ -148,31 +148,34 @@ fn rest_bytes(h: u32, text: &[u8], i: usize) -> u32
     last_bytes(h, text, i)
 }
 
-// Fewer than 16 numbers, with no loop.
-pub(crate) fn few_numbers(cs: &[u32]) -> u32
-    requires { ⌜ length (now cs) < 16 ⌝ }
-    ensures { λ r. ⌜ r ≡ vista (now (cs .entry)) ⌝ }
+// The hash of the first four numbers. That of all goes on from it.
+pub(crate) fn first_numbers(cs: &[u32]) -> u32
+    requires { ⌜ 4 ≤ length (now cs) ⌝ }
+    ensures { λ r. ⌜ plain r (drop 4 (now (cs .entry))) ≡ vista (now (cs .entry)) ⌝ }
 {
-    if cs.len() < 4 {
-        return last_numbers(START, cs, 0);
-    }
-    if 8 <= cs.len() {
-        return rest_numbers(eight_numbers(START, cs, 0), cs, 8);
-    }
-    rest_numbers(START, cs, 0)
+    four_step(START, four_numbers(cs, 0))
 }
 
-pub(crate) fn few_bytes(text: &[u8]) -> u32
-    requires { ⌜ length (now text) < 16 ⌝ }
+pub(crate) fn first_bytes(text: &[u8]) -> u32
+    requires { ⌜ 4 ≤ length (now text) ⌝ }
+    ensures { λ r. ⌜ plain r (drop 4 (now (text .entry))) ≡ vista (now (text .entry)) ⌝ }
+{
+    four_step(START, four_bytes(text, 0))
+}
+
+// Eight to fifteen numbers, with no loop.
+pub(crate) fn from_eight_numbers(cs: &[u32]) -> u32
+    requires { ⌜ (8 ≤ length (now cs)) × (length (now cs) < 16) ⌝ }
+    ensures { λ r. ⌜ r ≡ vista (now (cs .entry)) ⌝ }
+{
+    rest_numbers(eight_numbers(START, cs, 0), cs, 8)
+}
+
+pub(crate) fn from_eight_bytes(text: &[u8]) -> u32
+    requires { ⌜ (8 ≤ length (now text)) × (length (now text) < 16) ⌝ }
     ensures { λ r. ⌜ r ≡ vista (now (text .entry)) ⌝ }
 {
-    if text.len() < 4 {
-        return last_bytes(START, text, 0);
-    }
-    if 8 <= text.len() {
-        return rest_bytes(eight_bytes(START, text, 0), text, 8);
-    }
-    rest_bytes(START, text, 0)
+    rest_bytes(eight_bytes(START, text, 0), text, 8)
 }
 
 // Eight numbers at a time: only one product in eight waits for the one before.

@@ -12,8 +12,12 @@ mod entries;
 
 use eights::START;
 use eights::bytes_by_eights;
-use eights::few_bytes;
-use eights::few_numbers;
+use eights::first_bytes;
+use eights::first_numbers;
+use eights::from_eight_bytes;
+use eights::from_eight_numbers;
+use eights::last_bytes;
+use eights::last_numbers;
 use eights::numbers_by_eights;
 use eights::wide;
 use entries::POWERS;
@@ -24,11 +28,11 @@ pub enum Swap {
 }
 
 // A list of fewer numbers takes no loop.
-const FEW: usize = 16;
+const NO_LOOP: usize = 16;
 
 // A table that is read at a variable place is laid out anew at each call, which takes as long as some 30 plain steps. A list of
 // fewer numbers does without.
-const LEAST: usize = 192;
+const LEAST: usize = 512;
 
 // The most numbers that the table serves.
 const MOST: usize = 1024;
@@ -127,36 +131,78 @@ fn swapped(hash: u32, new: u32, old: u32, kept: usize) -> u32
     std::num::wrapping_add_u32(hash, times(d, power(kept)))
 }
 
-// The Vista hash of a list of numbers: up to 1,024 of them by the powers of 37, past that by the plain step.
-pub fn hash_powers(cs: &[u32]) -> u32
+// Past 1,024 numbers by the plain step, eight at a time. What is called takes the list by way of the stack: in a function of its own
+// that costs a short list nothing.
+fn many_numbers(cs: &[u32]) -> u32
     ensures { λ r. ⌜ r ≡ hashPowers (now (cs .entry)) ⌝ }
 {
-    if cs.len() < FEW {
-        return few_numbers(cs);
-    }
     if cs.len() < LEAST {
         return numbers_by_eights(cs);
     }
     if cs.len() <= MOST {
         return numbers_by_table(cs);
     }
-    path_hash::hash_vista(cs)
+    numbers_by_eights(cs)
 }
 
-// The same of a text, each byte of which is a number.
-pub fn hash_powers_bytes(text: &[u8]) -> u32
+fn many_bytes(text: &[u8]) -> u32
     ensures { λ r. ⌜ r ≡ hashPowers (now (text .entry)) ⌝ }
 {
-    if text.len() < FEW {
-        return few_bytes(text);
-    }
     if text.len() < LEAST {
         return bytes_by_eights(text);
     }
     if text.len() <= MOST {
         return bytes_by_table(text);
     }
-    path_hash::hash_vista_bytes(text)
+    bytes_by_eights(text)
+}
+
+// Eight numbers or more.
+fn more_numbers(cs: &[u32]) -> u32
+    requires { ⌜ 8 ≤ length (now cs) ⌝ }
+    ensures { λ r. ⌜ r ≡ hashPowers (now (cs .entry)) ⌝ }
+{
+    if cs.len() < NO_LOOP {
+        return from_eight_numbers(cs);
+    }
+    many_numbers(cs)
+}
+
+fn more_bytes(text: &[u8]) -> u32
+    requires { ⌜ 8 ≤ length (now text) ⌝ }
+    ensures { λ r. ⌜ r ≡ hashPowers (now (text .entry)) ⌝ }
+{
+    if text.len() < NO_LOOP {
+        return from_eight_bytes(text);
+    }
+    many_bytes(text)
+}
+
+// The Vista hash of a list of numbers: up to 1,024 of them by the powers of 37, past that by the plain step. The shortest lists are
+// asked for first, and need nothing on the stack.
+pub fn hash_powers(cs: &[u32]) -> u32
+    ensures { λ r. ⌜ r ≡ hashPowers (now (cs .entry)) ⌝ }
+{
+    if cs.len() < 4 {
+        return last_numbers(START, cs, 0);
+    }
+    if cs.len() < 8 {
+        return last_numbers(first_numbers(cs), cs, 4);
+    }
+    more_numbers(cs)
+}
+
+// The same of a text, each byte of which is a number.
+pub fn hash_powers_bytes(text: &[u8]) -> u32
+    ensures { λ r. ⌜ r ≡ hashPowers (now (text .entry)) ⌝ }
+{
+    if text.len() < 4 {
+        return last_bytes(START, text, 0);
+    }
+    if text.len() < 8 {
+        return last_bytes(first_bytes(text), text, 4);
+    }
+    more_bytes(text)
 }
 
 // The first p numbers of the old list swapped for another start. Only the starts are read, so the cost does not grow with what is

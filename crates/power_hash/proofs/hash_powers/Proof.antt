@@ -5,39 +5,27 @@ use borrow.Author.Needs.{needs}
 use Rattle.power_hash.proofs.hash_powers.Statement.{statement}
 use Rattle.power_hash.proofs.hash_powers.Tie as tie
 
-few-numbers-requires : tie.Need-few-numbers-requires
-few-numbers-requires c κs = search needs
+last-numbers-requires : tie.Need-last-numbers-requires
+last-numbers-requires c κs = search needs
 
 returns : tie.Need-returns
-returns c = c .few-numbers .ensures ∙ sym (powers-vista _)
+returns c = c .last-numbers .ensures ∙ sym (powers-vista _)
 
-numbers-by-eights-requires : tie.Need-numbers-by-eights-requires
-numbers-by-eights-requires c κs = search needs
+first-numbers-requires : tie.Need-first-numbers-requires
+first-numbers-requires c κs = search needs
+
+last-numbers-requires-2 : tie.Need-last-numbers-requires-2
+last-numbers-requires-2 c κs = search needs
 
 returns-2 : tie.Need-returns-2
-returns-2 c = c .numbers-by-eights .ensures ∙ sym (powers-vista _)
+returns-2 c = c .last-numbers2 .ensures ∙ c .before .first-numbers .ensures ∙ sym (powers-vista _)
 
-numbers-by-table-requires : tie.Need-numbers-by-table-requires
-numbers-by-table-requires c κs = search needs
+more-numbers-requires : tie.Need-more-numbers-requires
+more-numbers-requires c κs = search needs
 
 returns-3 : tie.Need-returns-3
 returns-3 c = search needs
 
-hash-vista-requires : tie.Need-hash-vista-requires
-hash-vista-requires c κs = search needs
-
-returns-4 : tie.Need-returns-4
-returns-4 c = c .hash-vista .ensures ∙ sym (powers-vista _)
-
 pub hash-powers-spec : {M : Type 1} → statement M
 hash-powers-spec =
-    tie.close
-    (tie.spec
-    few-numbers-requires
-    returns
-    numbers-by-eights-requires
-    returns-2
-    numbers-by-table-requires
-    returns-3
-    hash-vista-requires
-    returns-4)
+    tie.close (tie.spec last-numbers-requires returns first-numbers-requires last-numbers-requires-2 returns-2 more-numbers-requires returns-3)

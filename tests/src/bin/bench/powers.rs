@@ -8,7 +8,10 @@ const SHORT_TURNS: usize = 101;
 const PATHS: usize = 200_000;
 /// Bytes or numbers hashed in one turn of a single length.
 const NUMBERS: usize = 1 << 17;
-const LENGTHS: [usize; 13] = [1, 2, 4, 8, 16, 32, 64, 100, 200, 500, 1_000, 1_024, 2_000];
+const LENGTHS: [usize; 24] = [
+    1, 2, 3, 4, 5, 6, 7, 8, 9, 10, 11, 12, 13, 14, 15, 16, 32, 64, 100, 200, 500, 1_000, 1_024,
+    2_000,
+];
 
 const OLD_VOLUME: &str = r"\DEVICE\HARDDISKVOLUME1";
 const NEW_VOLUME: &str = r"\DEVICE\HARDDISKVOLUME2";
