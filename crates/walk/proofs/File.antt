@@ -47,11 +47,11 @@ by-decision p buffer order d r buffer′ order′ e a b c = record { answer = rw
 
 -- ---- the whole-file reader refuses
 pub walks-refused : (p buffer order after : List ℕ) (v : Verdict) (f : Refusal) → Reads (fileAnswer p (length buffer)) (length buffer) v after
-    → v ≡ verdict.Refused f → Walks p buffer order (Refused f) after order
-unfolding walked
-walks-refused p buffer order after v f r q =
+    → v ≡ verdict.Refused f → (fileAnswer p (length buffer) ≡ decided (refuse f) → walked p (length buffer) (length order) ≡ refuse f)
+    → Walks p buffer order (Refused f) after order
+walks-refused p buffer order after v f r q first =
     let e = refused-answer (fileAnswer p (length buffer)) f (ap readValues (sym q) ∙ r .verdict) in
-    by-decision p buffer order (refuse f) _ _ _ (rw e) refl refl (r .buffer ∙ ap (λ (x : Answer Acceptable). readBuffer x (length buffer)) e)
+    by-decision p buffer order (refuse f) _ _ _ (first e) refl refl (r .buffer ∙ ap (λ (x : Answer Acceptable). readBuffer x (length buffer)) e)
 
 pub walks-wanted : (p buffer order after : List ℕ) (v : Verdict) (k : ℕ) (f : Refusal) → Reads (fileAnswer p (length buffer)) (length buffer) v after
     → v ≡ verdict.Wanted k → f ≡ refusal 16 0 declaredSizeAt → Walks p buffer order (Refused f) after order

@@ -23,8 +23,8 @@ pub cut-number : (s : List ℕ) (at r : ℕ) → r ≡ le 4 (take (at + 4 - at) 
 cut-number s at r e = e ∙ le-take 4 (at + 4 - at) (drop at s) 0 (omega arith) ∙ le-drop 4 at s 0 ∙ ap (le 4 s) (add-zero at)
 
 -- the two fields of an entry that are read
-pub next-is : (section : List ℕ) (size entries i r : ℕ) → i < entries → r ≡ le 4 section (i * size) → r ≡ after (nexts section size entries) i
-next-is section size entries i r l e = e ∙ sym (after-nexts section size entries i l)
+pub next-is : (section : List ℕ) (size entries i r : ℕ) → i < entries → r ≡ le 4 section (i * size + 0) → r ≡ after (nexts section size entries) i
+next-is section size entries i r l e = e ∙ ap (le 4 section) (add-zero (i * size)) ∙ sym (after-nexts section size entries i l)
 
 pub block-is : (section : List ℕ) (size entries i r : ℕ) → i < entries → r ≡ le 4 section (i * size + 4) → r ≡ getD (blocks section size entries) i 0
 unfolding blocks

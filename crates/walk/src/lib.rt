@@ -32,21 +32,17 @@ struct Visits {
 // with a constant is there sooner.
 const ENTRY: usize = 12;
 
-// The next index of entry i, which is there.
-fn next_at(section: &[u8], i: u32) -> u32
-    requires { ⌜ i * 12 + 8 ≤ length (now section) ⌝ }
-    ensures { λ r. ⌜ r ≡ le 4 (now (section .entry)) (i * 12) ⌝ }
-{
-    let at = i as usize * ENTRY;
-    little_endian::u32_at(&section[at..at + 4], 0)
-}
+// Where its fields stand.
+const NEXT: usize = 0;
 
-// Its block count.
-fn block_at(section: &[u8], i: u32) -> u32
-    requires { ⌜ i * 12 + 8 ≤ length (now section) ⌝ }
-    ensures { λ r. ⌜ r ≡ le 4 (now (section .entry)) (i * 12 + 4) ⌝ }
+const BLOCK_COUNT: usize = 4;
+
+// The number at `field` of entry i, which is there: the next index at 0, the block count at 4.
+fn field_at(section: &[u8], i: u32, field: usize) -> u32
+    requires { ⌜ (field ≤ 4) × (i * 12 + 8 ≤ length (now section)) ⌝ }
+    ensures { λ r. ⌜ r ≡ le 4 (now (section .entry)) (i * 12 + field) ⌝ }
 {
-    let at = i as usize * ENTRY + 4;
+    let at = i as usize * ENTRY + field;
     little_endian::u32_at(&section[at..at + 4], 0)
 }
 
@@ -62,9 +58,9 @@ fn walk_chain(section: &[u8], entries: u32, head: u32, before: Visits, order: &m
     let mut j = head;
     while j < entries {
         order[steps] = j;
-        total += block_at(section, j) as u64;
+        total += field_at(section, j, BLOCK_COUNT) as u64;
         steps += 1;
-        j = next_at(section, j);
+        j = field_at(section, j, NEXT);
     }
     Visits {
         steps: steps,

@@ -1,8 +1,21 @@
 -- The whole-file reader's refusals are handed on; what it accepts is walked.
+use mathlib.Core.Path.{_≡_, refl}
+use mathlib.Core.List.{List}
+use Prim.Native.Nat.{ℕ}
+use Rattle.incremental.specs.Decision.{refuse}
+use Rattle.incremental.specs.Plan.{decided}
+use Rattle.incremental.specs.declared.Refusal.{Refusal}
+use Rattle.reader.specs.Checks.{fileAnswer}
+use Rattle.walk.specs.Walk.{walked}
 use Rattle.walk.proofs.File.{walks-refused, walks-wanted, reader-accepts, walks-length}
 use borrow.Author.Needs.{needs}
 use Rattle.walk.proofs.walk.Statement.{statement}
 use Rattle.walk.proofs.walk.Tie as tie
+
+-- 23 is not looked at where the reader refuses
+reader-first : (p : List ℕ) (m n : ℕ) (f : Refusal) → fileAnswer p m ≡ decided (refuse f) → walked p m n ≡ refuse f
+unfolding walked
+reader-first p m n f e = rw e refl
 
 read-file-requires : tie.Need-read-file-requires
 read-file-requires c κs = search needs
@@ -43,7 +56,7 @@ same-length-3 c = search needs
 returns-2 : tie.Need-returns-2
 returns-2 c =
     let read = c .before .before .before .before .before in
-    walks-refused _ _ _ _ _ _ (read .read-file .ensures) (c .before .r .given .1)
+    walks-refused _ _ _ _ _ _ (read .read-file .ensures) (c .before .r .given .1) (reader-first _ _ _ _)
 
 same-length-4 : tie.Need-same-length-4
 same-length-4 c = search needs

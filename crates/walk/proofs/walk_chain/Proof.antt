@@ -44,8 +44,8 @@ mul-order c = omega (arith, room c, start (c .before) .pre .0 .fits)
 slice-write-order : tie.Need-slice-write-order Inv-loop μ-loop
 slice-write-order c = omega (arith, room c, start (c .before) .pre .0 .fits, c .before .loop .inv .long)
 
-block-at-requires : tie.Need-block-at-requires Inv-loop μ-loop
-block-at-requires c κs = omega (arith, start (c .before) .pre .1)
+field-at-requires : tie.Need-field-at-requires Inv-loop μ-loop
+field-at-requires c κs = omega (arith, start (c .before) .pre .1)
 
 cast-total : tie.Need-cast-total Inv-loop μ-loop
 cast-total c = search needs
@@ -61,8 +61,8 @@ add-steps c = let d = c .before in
     let p = start (d .before) .pre .0 in
     omega (arith, room d, p .short, p .small)
 
-next-at-requires : tie.Need-next-at-requires Inv-loop μ-loop
-next-at-requires c κs = omega (arith, start (c .before .before) .pre .1)
+field-at-requires-2 : tie.Need-field-at-requires-2 Inv-loop μ-loop
+field-at-requires-2 c κs = omega (arith, start (c .before .before) .pre .1)
 
 loop-less : tie.Need-loop-less Inv-loop μ-loop
 loop-less c = let d = c .before .before in omega (arith, room d, start (d .before) .pre .0 .fits)
@@ -74,8 +74,8 @@ loop-again c =
     let a = start h .args in
     let p = start h .pre .0 in
     going-step _ _ _ _ _ _ (p .small) _ _ _ _ (h .loop .inv) (p .sound) (omega (arith, size h)) _ _ (omega arith)
-    (block-is (a .section .now) 12 (a .entries) (h .loop .j) _ (omega arith) (c .before .block-at .ensures))
-    (next-is (a .section .now) 12 (a .entries) (h .loop .j) _ (omega arith) (c .next-at .ensures))
+    (block-is (a .section .now) 12 (a .entries) (h .loop .j) _ (omega arith) (c .before .field-at .ensures))
+    (next-is (a .section .now) 12 (a .entries) (h .loop .j) _ (omega arith) (c .field-at2 .ensures))
 
 same-length : tie.Need-same-length Inv-loop μ-loop
 same-length c = c .before .loop .inv .long
@@ -95,11 +95,11 @@ walk-chain-spec =
     loop-holds
     mul-order
     slice-write-order
-    block-at-requires
+    field-at-requires
     cast-total
     add-total
     add-steps
-    next-at-requires
+    field-at-requires-2
     loop-less
     loop-again
     same-length

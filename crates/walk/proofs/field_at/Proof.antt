@@ -1,7 +1,7 @@
 use Rattle.walk.proofs.Going.{cut-number}
 use borrow.Author.Needs.{needs}
-use Rattle.walk.proofs.block_at.Statement.{statement}
-use Rattle.walk.proofs.block_at.Tie as tie
+use Rattle.walk.proofs.field_at.Statement.{statement}
+use Rattle.walk.proofs.field_at.Tie as tie
 
 mul-at : tie.Need-mul-at
 mul-at c = search needs
@@ -27,8 +27,8 @@ u32-at-requires c κs = search needs
 returns : tie.Need-returns
 returns c = cut-number _ _ _ (c .u32-at .ensures)
 
-pub block-at-spec : {M : Type 1} → statement M
-block-at-spec =
+pub field-at-spec : {M : Type 1} → statement M
+field-at-spec =
     tie.close
     (tie.spec
     mul-at
