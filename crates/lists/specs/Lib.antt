@@ -1,4 +1,5 @@
 pub mod Answer
+pub mod Pairs
 pub mod Part
 pub mod First
 pub mod Those

@@ -1,4 +1,6 @@
 // Laws on lists that several crates need are in specs/; here is what they share of code.
+ghost use mathlib.Core.Path.{_≡_};
+ghost use lib.ListN.{getD};
 ghost use Rattle.lists.specs.Part.{IsPart};
 
 // The index that a search found, if any.
@@ -19,4 +21,14 @@ pub fn part(bytes: &[u8], at: usize, len: usize) -> &[u8]
     }
     let end = at + len;
     &bytes[at..end]
+}
+
+// The number at an index of a list; past its end 0, so the read is total.
+pub fn number_at(list: &[u32], at: usize) -> u32
+    ensures { λ r. ⌜ r ≡ getD (now (list .entry)) at 0 ⌝ }
+{
+    if list.len() <= at {
+        return 0;
+    }
+    list[at]
 }

@@ -9,10 +9,10 @@ use lib.Dec.{eqb, ltb}
 use lib.ListN.{length, getD}
 use borrow.Author.Tests.{leb-true, le-leb, ltb-true, ltb-false, eqb-true, eqb-false, eq-eqb, ne-eqb}
 use Rattle.lists.specs.Count.{some}
+use Rattle.lists.specs.First.{first, firstFrom}
 use Rattle.lists.proofs.Count.{some-yes, some-no, some-true, some-eight, true-false, some-false}
 use Rattle.little_endian.specs.Number.{le, zeroUnit}
-use Rattle.layout.specs.declared.Layout.{Layout}
-use Rattle.names.specs.Names.{nameAt, nameUnits, fits, sound, SoundName}
+use Rattle.names.specs.Names.{fits, sound, SoundName}
 use Rattle.names.specs.Private.{zeroIn, soundText}
 
 -- One unit, by its bytes
@@ -94,13 +94,17 @@ pub le-fits : (size at units : ℕ) → at + 2 * units + 2 ≤ size → fits siz
 unfolding fits
 le-fits size at units h = le-leb _ _ h
 
--- Checks 9 and 10: the name of entry i fails a test on its offset and its length
-abbrev pub failsAt : (ℕ → ℕ → Bool) → Layout → List ℕ → ℕ → Bool
-failsAt test l metrics i = not (test (nameAt l metrics i) (nameUnits l metrics i))
+-- Checks 9 and 10: the name of entry i, at f i and of g i units, fails a test on its offset and its length
+abbrev pub failsAt : (ℕ → ℕ → Bool) → (ℕ → ℕ) → (ℕ → ℕ) → ℕ → Bool
+failsAt test f g i = not (test (f i) (g i))
 
-pub fails-at : (test : ℕ → ℕ → Bool) (l : Layout) (metrics : List ℕ) (i : ℕ) {at units : ℕ} {r : Bool}
-    → at ≡ nameAt l metrics i → units ≡ nameUnits l metrics i → r ≡ test at units → failsAt test l metrics i ≡ not r
-fails-at test l metrics i a u e = rw (← a, ← u, ← e)
+pub fails-at : (test : ℕ → ℕ → Bool) (f g : ℕ → ℕ) (i : ℕ) {at units : ℕ} {r : Bool}
+    → at ≡ f i → units ≡ g i → r ≡ test at units → failsAt test f g i ≡ not r
+fails-at test f g i a u e = rw (← a, ← u, ← e)
+
+-- each of the first i entries passes: the first of all n that fails is the first from i on
+abbrev pub PassedTo : ℕ → (ℕ → Bool) → ℕ → Type 0
+PassedTo n fails i = (i ≤ n) × (first fails n ≡ firstFrom fails (n - i) i)
 
 pub sound-fits : (s : List ℕ) (at units : ℕ) → sound s at units ≡ true → fits (length s) at units ≡ true
 sound-fits s at units e = go (fits (length s) at units) refl

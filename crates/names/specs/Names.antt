@@ -6,6 +6,7 @@ use Prim.Native.Nat.{ℕ, _+_, _*_, _≤_, _<_}
 use lib.Dec.{leb}
 use lib.ListN.{length}
 use Rattle.lists.specs.First.{first}
+use Rattle.lists.specs.Pairs.{firstOf, secondOf}
 use Rattle.lists.specs.Count.{some}
 use Rattle.little_endian.specs.Number.{le, zeroUnit}
 use Rattle.layout.specs.Head.{entryOffset}
@@ -33,6 +34,10 @@ fits size at units = leb (at + 2 * units + 2) size
 unfoldable pub misfitFault : Layout → ℕ → List ℕ → ℕ → ℕ → Fault
 misfitFault l start metrics entries size = faultOf (nameFieldAt l start) (first (λ i. not (fits size (nameAt l metrics i) (nameUnits l metrics i))) entries)
 
+-- the same over a table of pairs, each of them an entry's name offset and name length
+unfoldable pub misfitPair : Layout → ℕ → List ℕ → ℕ → ℕ → Fault
+misfitPair l start pairs entries size = faultOf (nameFieldAt l start) (first (λ i. not (fits size (firstOf pairs i) (secondOf pairs i))) entries)
+
 -- a name that fits has no zero unit among its units, and a zero unit directly after them
 unfoldable pub sound : List ℕ → ℕ → ℕ → Bool
 sound strings at units =
@@ -43,7 +48,11 @@ unfoldable pub unsoundFault : Layout → ℕ → List ℕ → ℕ → List ℕ �
 unsoundFault l start metrics entries strings =
     faultOf (nameFieldAt l start) (first (λ i. not (sound strings (nameAt l metrics i) (nameUnits l metrics i))) entries)
 
--- the same in plain words: what a sound name is
+-- the same over a table of pairs
+unfoldable pub unsoundPair : Layout → ℕ → List ℕ → ℕ → List ℕ → Fault
+unsoundPair l start pairs entries strings = faultOf (nameFieldAt l start) (first (λ i. not (sound strings (firstOf pairs i) (secondOf pairs i))) entries)
+
+-- in plain words: what a sound name is
 pub record SoundName (strings : List ℕ) (at units : ℕ) : Type 0 where
   -- it lies in the section, with the unit after it
   pub inside : at + 2 * units + 2 ≤ length strings

@@ -5,8 +5,13 @@ ghost use lib.ListN.{length};
 ghost use Rattle.little_endian.specs.Number.{le, zeroUnit};
 ghost use Rattle.names.specs.Names.{fits, sound, nameAt, nameUnits, nameFieldAt, misfitFault, unsoundFault};
 ghost use Rattle.names.specs.Private.{zeroIn, soundText};
+
+mod pairs;
+
 use incremental::Fault;
 use layout::Layout;
+pub use pairs::misfit_pair;
+pub use pairs::unsound_pair;
 
 // Whether a name of so many units at an offset fits a strings section of that size, with its zero unit.
 pub fn name_fits(size: usize, at: u32, units: u32) -> bool

@@ -6,6 +6,7 @@ pub mod Chains
 pub mod Cycles
 pub mod Forward
 pub mod OneChain
+pub mod Passing
 pub mod Points
 pub mod Predecessors
 pub mod Steps

@@ -5,9 +5,10 @@ use Prim.Native.Nat.{ℕ, zero, suc, _+_, _*_, _≤_, _<_}
 use native.Mathlib.Nat.{zero-add, suc-add, suc-mul, zero-mul}
 use native.Mathlib.Omega.{arith}
 use lib.ListN.{length, List·getD-eq-default}
+use Rattle.lists.specs.Pairs.{firstOf}
 use Rattle.lists.proofs.Table.{length-tabulate, getD-tabulate}
 use Rattle.little_endian.specs.Number.{le}
-use Rattle.trace.specs.Links.{end, nexts, after, follow}
+use Rattle.trace.specs.Links.{end, nexts, firsts, after, follow}
 
 pub length-nexts : (section : List ℕ) (size entries : ℕ) → length (nexts section size entries) ≡ entries
 unfolding nexts
@@ -16,6 +17,14 @@ length-nexts section size entries = length-tabulate entries (λ i. le 4 section 
 pub after-nexts : (section : List ℕ) (size entries i : ℕ) → i < entries → after (nexts section size entries) i ≡ le 4 section (i * size)
 unfolding nexts
 after-nexts section size entries i l = getD-tabulate entries (λ k. le 4 section (k * size)) i end l
+
+pub length-firsts : (pairs : List ℕ) (entries : ℕ) → length (firsts pairs entries) ≡ entries
+unfolding firsts
+length-firsts pairs entries = length-tabulate entries (firstOf pairs)
+
+pub after-firsts : (pairs : List ℕ) (entries i : ℕ) → i < entries → after (firsts pairs entries) i ≡ firstOf pairs i
+unfolding firsts
+after-firsts pairs entries i l = getD-tabulate entries (firstOf pairs) i end l
 
 -- j is reached from i in one step or more
 abbrev pub Reach : List ℕ → ℕ → ℕ → Type 0

@@ -6,6 +6,7 @@ use Prim.Native.Nat.{ℕ, zero, suc, _*_}
 use lib.Dec.{ltb, eqb}
 use lib.ListN.{length, getD, replicate}
 use Rattle.lists.specs.First.{first}
+use Rattle.lists.specs.Pairs.{firstOf}
 use Rattle.lists.specs.Table.{tabulate}
 use Rattle.lists.specs.Count.{some, count, pick}
 use Rattle.little_endian.specs.Number.{le}
@@ -23,6 +24,10 @@ end = 4_294_967_295
 -- the next indexes of a trace section of so many entries of that size: the first four bytes of each
 unfoldable pub nexts : List ℕ → ℕ → ℕ → List ℕ
 nexts section size entries = tabulate entries (λ i. le 4 section (i * size))
+
+-- the next indexes in a flat table of so many pairs: the first number of each
+unfoldable pub firsts : List ℕ → ℕ → List ℕ
+firsts pairs entries = tabulate entries (λ i. firstOf pairs i)
 
 -- the entry after entry i; outside the list, the end
 abbrev pub after : List ℕ → ℕ → ℕ
@@ -103,7 +108,15 @@ abbrev pub held : Decision ℕ → List ℕ → ℕ → List ℕ
 held (accept n) s m = predecessors s m
 held (refuse r) s m = filled m
 
--- the answer on a section that starts at `start` in the file, and the buffer after it, which had m places
-pub record LinkAnswer (section : List ℕ) (start size entries m : ℕ) (r : Links) (buffer : List ℕ) : Type 0 where
-  pub answer : linksOf r ≡ traceChecks (entryOffset start size) (nexts section size entries) m
-  pub holds : buffer ≡ held (traceChecks (entryOffset start size) (nexts section size entries) m) (nexts section size entries) m
+-- a decision as an answer, and the buffer of m places after it
+pub record LinkDecision (d : Decision ℕ) (s : List ℕ) (m : ℕ) (r : Links) (buffer : List ℕ) : Type 0 where
+  pub answer : linksOf r ≡ d
+  pub holds : buffer ≡ held d s m
+
+-- the answer on a list of next indexes
+abbrev pub LinkListAnswer : (ℕ → ℕ) → List ℕ → ℕ → Links → List ℕ → Type 0
+LinkListAnswer at s m r buffer = LinkDecision (traceChecks at s m) s m r buffer
+
+-- the answer on a section that starts at `start` in the file
+abbrev pub LinkAnswer : List ℕ → ℕ → ℕ → ℕ → ℕ → Links → List ℕ → Type 0
+LinkAnswer section start size entries m r buffer = LinkListAnswer (entryOffset start size) (nexts section size entries) m r buffer

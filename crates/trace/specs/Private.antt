@@ -6,7 +6,7 @@ use mathlib.Core.Logic.{_⊎_}
 use Prim.Native.Nat.{ℕ, _<_, _≤_, min}
 use lib.ListN.{length, getD, set}
 use Rattle.trace.specs.Links.{end, after, astray, namers, shared, cyclic, sharedFault, cyclicFault}
-use Rattle.trace.specs.Links.{chains, predecessors, filled, linksOf, held, linkChecks}
+use Rattle.trace.specs.Links.{chains, predecessors, filled, linkChecks, LinkDecision}
 use lib.Dec.{eqb}
 use Rattle.lists.specs.declared.Found.{Found}
 use Rattle.lists.specs.declared.Found.the-variants.{At, Nothing}
@@ -91,11 +91,6 @@ pub record TableBuilt (s : List ℕ) (n : ℕ) (buffer : List ℕ) : Type 0 wher
   pub once : (j : ℕ) → j < length s → namers s (length s) j ≤ 1
   pub counted : n ≡ ends s
   pub table : buffer ≡ predecessors s (length buffer)
-
--- a decision as an answer, and the buffer after it
-pub record LinkDecision (d : Decision ℕ) (s : List ℕ) (m : ℕ) (r : Links) (buffer : List ℕ) : Type 0 where
-  pub answer : linksOf r ≡ d
-  pub holds : buffer ≡ held d s m
 
 -- check 13, and checks 11 to 13, with a buffer of m places
 abbrev pub CyclesAnswered : (ℕ → ℕ) → List ℕ → ℕ → Links → List ℕ → Type 0

@@ -11,9 +11,13 @@ ghost use Rattle.incremental.specs.Decision.{refusal};
 ghost use Rattle.trace.specs.Links.{end, nexts, filled, predecessors, LinkAnswer};
 ghost use Rattle.trace.specs.Private.{Distinct, Forward, firstCyclic, LinkedBuffer, FilledBuffer, FilledLinked};
 ghost use Rattle.trace.specs.Private.{TableBuilt, Stored, Passed, CyclesAnswered, LinksAnswered};
+
+mod pairs;
+
 use incremental::Fault;
 use incremental::Refusal;
 use lists::Found;
+pub use pairs::check_pairs;
 
 const END: u32 = 4294967295;
 

@@ -1,19 +1,17 @@
 -- While every name so far passes the test, the first fault is that of the entries from i on; the loop stops at the first that fails.
-use mathlib.Core.Path.{_≡_, _∙_}
-use Prim.Native.Nat.{_≤_, _-_}
+use mathlib.Core.Path.{_∙_}
+use Prim.Native.Nat.{_-_}
 use native.Mathlib.Omega.{arith}
 use borrow.Author.Needs.{needs}
 use Rattle.incremental.proofs.Decision.{fault-hit, fault-none}
-use Rattle.lists.specs.First.{first, firstFrom}
 use Rattle.lists.proofs.First.{first-start, first-miss, first-hit, first-none}
-use Rattle.names.specs.Names.{fits, misfitFault}
-use Rattle.names.proofs.Laws.{failsAt, fails-at}
+use Rattle.names.specs.Names.{nameAt, nameUnits, fits, misfitFault}
+use Rattle.names.proofs.Laws.{failsAt, fails-at, PassedTo}
 use Rattle.names.proofs.misfit_fault.Statement.{statement}
 use Rattle.names.proofs.misfit_fault.Tie as tie
 
 abbrev Inv-loop : tie.InvT-loop
-Inv-loop metrics l start entries size i₀ i =
-    (i ≤ entries) × (first (failsAt (fits size) l metrics) entries ≡ firstFrom (failsAt (fits size) l metrics) (entries - i) i)
+Inv-loop metrics l start entries size i₀ i = PassedTo entries (failsAt (fits size) (nameAt l metrics) (nameUnits l metrics)) i
 
 abbrev μ-loop : tie.MeasureT-loop
 μ-loop metrics l start entries size i₀ i = entries - i
@@ -43,8 +41,10 @@ returns c =
     let name-units = test .before in
     let name = name-units .before in
     let w = name .before .before .loop in
-    let l = name .before .before .before .before .args .l in
-    let e = fails-at (fits _) l _ (w .i) (name .name-at .ensures) (name-units .name-units .ensures) (test .name-fits .ensures) in
+    let a = name .before .before .before .before .args in
+    let f = nameAt (a .l) (a .metrics .now) in
+    let g = nameUnits (a .l) (a .metrics .now) in
+    let e = fails-at (fits _) f g (w .i) (name .name-at .ensures) (name-units .name-units .ensures) (test .name-fits .ensures) in
     fault-hit _ _ _ _ (w .inv .1 ∙ first-hit _ _ _ (omega arith) (e ∙ c .before .if1 .taken)) (c .name-field-at .ensures)
 
 add-i : tie.Need-add-i Inv-loop μ-loop
@@ -58,8 +58,10 @@ loop-again c =
     let name-units = c .before .before in
     let name = c .before .before .before in
     let w = name .before .before .loop in
-    let l = name .before .before .before .before .args .l in
-    let e = fails-at (fits _) l _ (w .i) (name .name-at .ensures) (name-units .name-units .ensures) (c .before .name-fits .ensures) in
+    let a = name .before .before .before .before .args in
+    let f = nameAt (a .l) (a .metrics .now) in
+    let g = nameUnits (a .l) (a .metrics .now) in
+    let e = fails-at (fits _) f g (w .i) (name .name-at .ensures) (name-units .name-units .ensures) (c .before .name-fits .ensures) in
     (omega arith, w .inv .1 ∙ first-miss _ _ _ (omega arith) (e ∙ c .if1 .left))
 
 returns-2 : tie.Need-returns-2 Inv-loop μ-loop

@@ -1,16 +1,14 @@
 -- An entry on a cycle is refused with the buffer filled; where none is found the walk's marks give way to the table again.
-use mathlib.Core.Path.{_≡_, sym, _∙_, ap}
+use mathlib.Core.Path.{sym, _∙_, ap}
 use native.Mathlib.Omega.{arith}
 use lib.ListN.{length}
 use Rattle.incremental.specs.Decision.{accept}
-use Rattle.trace.specs.declared.Links.the-variants.{Chains}
 use Rattle.trace.proofs.Steps.{length-nexts}
-use Rattle.trace.proofs.Chains.{chains-are-ends}
 use Rattle.lists.proofs.First.{first-at}
 use Rattle.trace.specs.Links.{nexts, filled, cyclic, chains, predecessors}
 use Rattle.trace.proofs.Accepted.{distinct}
 use Rattle.trace.specs.Private.{firstCyclic}
-use Rattle.trace.proofs.Answers.{answer-at, answer-nothing}
+use Rattle.trace.proofs.Answers.{answer-at, answer-chains}
 use borrow.Author.Needs.{needs}
 use Rattle.trace.proofs.check_cycles.Statement.{statement}
 use Rattle.trace.proofs.check_cycles.Tie as tie
@@ -63,18 +61,15 @@ same-length-2 : tie.Need-same-length-2
 same-length-2 c = search needs
 
 returns-2 : tie.Need-returns-2
-returns-2 c = let t = c .before .before .build-table in
-    let n = c .before .before .before .before .enum-told .given in
-    let f = c .before .before .before .before .before .before .before .before .find-cycle in
-    let a = c .before .before .before .before .before .before .before .before .before .before .before .before in
+returns-2 c =
+    let t = c .before .before .build-table in
+    let told = c .before .before .before .before in
+    let f = told .before .before .before .before .find-cycle in
+    let a = told .before .before .before .before .before .before .before .before in
     let s = nexts (a .args .section .now) (a .args .size) (a .args .entries) in
-    let m = length (a .args .buffer .now) in
-    let b = t .last .1 .1 .1 .0 in
     let e = length-nexts (a .args .section .now) (a .args .size) (a .args .entries) in
-    let h : b ≡ predecessors s m = t .ensures ∙ ap (predecessors s) (f .kept .1 .1 .1 .0) in
-    let k : a .args .ends ≡ chains s = a .pre .counted ∙ sym (chains-are-ends s (omega (arith, e, a .fits .entries)) (a .pre .sound) (a .pre .once)) in
-    answer-nothing 13 m _ (firstCyclic s) (f .result) (accept (chains s)) s b (Chains (a .args .ends)) (f .ensures) (n .1)
-    (record { answer = ap accept k; holds = h })
+    answer-chains _ s _ _ (f .result) _ (omega (arith, e, a .fits .entries)) (a .pre) (f .ensures) (told .enum-told .given .1)
+    (t .ensures ∙ ap (predecessors s) (f .kept .1 .1 .1 .0))
 
 pub check-cycles-spec : {M : Type 1} → statement M
 check-cycles-spec =

@@ -30,7 +30,9 @@ returns c =
     let arm = c .before .before in
     let places = arm .before .before in
     let fill = places .before .before .before in
-    answer-few _ _ _ _ _ _ _ _ _ _ (places .places-fault .ensures) (arm .i .given .1) (c .refuse .ensures) (fill .fill .ensures)
+    let a = fill .before .before .before .before .args in
+    answer-few _ _ _ _ (length-nexts (a .section .now) (a .size) (a .entries)) _ _ (places .places-fault .ensures) _ _ _ (arm .i .given .1)
+    (c .refuse .ensures) (fill .fill .ensures)
 
 enum-told : tie.Need-enum-told
 enum-told c = search needs
@@ -51,8 +53,10 @@ returns-2 c =
     let told = c .before .before .before .before in
     let places = told .before .before in
     let fill = places .before .before .before in
+    let a = fill .before .before .before .before .args in
     let r = c .before .before .check-entries in
-    answer-links _ _ _ _ _ _ _ _ (places .places-fault .ensures) (told .enum-told .given .1) (rw (fill .fill .kept .0) at (r .ensures))
+    answer-links _ _ _ _ (length-nexts (a .section .now) (a .size) (a .entries)) _ _ (places .places-fault .ensures) _ (told .enum-told .given .1)
+    (rw (fill .fill .kept .0) at (r .ensures))
 
 pub check-links-spec : {M : Type 1} → statement M
 check-links-spec =

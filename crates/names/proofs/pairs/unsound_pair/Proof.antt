@@ -1,0 +1,104 @@
+-- While every name so far passes the test, the first fault is that of the pairs from i on; the loop stops at the first that fails.
+use mathlib.Core.Path.{_∙_}
+use Prim.Native.Nat.{_-_}
+use native.Mathlib.Omega.{arith}
+use borrow.Author.Needs.{needs}
+use Rattle.incremental.proofs.Decision.{fault-hit, fault-none}
+use Rattle.lists.specs.Pairs.{firstOf, secondOf}
+use Rattle.lists.proofs.First.{first-start, first-miss, first-hit, first-none}
+use Rattle.names.specs.Names.{sound, unsoundPair}
+use Rattle.names.proofs.Laws.{failsAt, fails-at, PassedTo}
+use Rattle.names.proofs.pairs.unsound_pair.Statement.{statement}
+use Rattle.names.proofs.pairs.unsound_pair.Tie as tie
+
+abbrev Inv-loop : tie.InvT-loop
+Inv-loop pairs l start entries strings i₀ i = PassedTo entries (failsAt (sound strings) (firstOf pairs) (secondOf pairs)) i
+
+abbrev μ-loop : tie.MeasureT-loop
+μ-loop pairs l start entries strings i₀ i = entries - i
+
+loop-holds : tie.Need-loop-holds Inv-loop μ-loop
+loop-holds c = (omega arith, first-start _ _)
+
+cast-number-at : tie.Need-cast-number-at Inv-loop μ-loop
+cast-number-at c = search needs
+
+mul-number-at : tie.Need-mul-number-at Inv-loop μ-loop
+mul-number-at c = search needs
+
+number-at-requires : tie.Need-number-at-requires Inv-loop μ-loop
+number-at-requires c κs = search needs
+
+cast-number-at-2 : tie.Need-cast-number-at-2 Inv-loop μ-loop
+cast-number-at-2 c = search needs
+
+mul-number-at-2 : tie.Need-mul-number-at-2 Inv-loop μ-loop
+mul-number-at-2 c = search needs
+
+add-number-at : tie.Need-add-number-at Inv-loop μ-loop
+add-number-at c = search needs
+
+number-at-requires-2 : tie.Need-number-at-requires-2 Inv-loop μ-loop
+number-at-requires-2 c κs = search needs
+
+name-sound-requires : tie.Need-name-sound-requires Inv-loop μ-loop
+name-sound-requires c κs = search needs
+
+cast-t14 : tie.Need-cast-t14 Inv-loop μ-loop
+cast-t14 c = search needs
+
+name-field-at-requires : tie.Need-name-field-at-requires Inv-loop μ-loop
+name-field-at-requires c κs = search needs
+
+returns : tie.Need-returns Inv-loop μ-loop
+unfolding unsoundPair
+returns c =
+    let test = c .before .before in
+    let units = test .before in
+    let pair = units .before in
+    let w = pair .before .before .loop in
+    let p = pair .before .before .before .before .before .args .pairs .now in
+    let e = fails-at (sound _) (firstOf p) (secondOf p) (w .i) (pair .number-at .ensures) (units .number-at2 .ensures) (test .name-sound .ensures) in
+    fault-hit _ _ _ _ (w .inv .1 ∙ first-hit _ _ _ (omega arith) (e ∙ c .before .if1 .taken)) (c .name-field-at .ensures)
+
+add-i : tie.Need-add-i Inv-loop μ-loop
+add-i c = search needs
+
+loop-less : tie.Need-loop-less Inv-loop μ-loop
+loop-less c = search needs
+
+loop-again : tie.Need-loop-again Inv-loop μ-loop
+loop-again c =
+    let units = c .before .before in
+    let pair = units .before in
+    let w = pair .before .before .loop in
+    let p = pair .before .before .before .before .before .args .pairs .now in
+    let e = fails-at (sound _) (firstOf p) (secondOf p) (w .i) (pair .number-at .ensures) (units .number-at2 .ensures) (c .before .name-sound .ensures) in
+    (omega arith, w .inv .1 ∙ first-miss _ _ _ (omega arith) (e ∙ c .if1 .left))
+
+returns-2 : tie.Need-returns-2 Inv-loop μ-loop
+unfolding unsoundPair
+returns-2 c = fault-none _ _ (c .before .loop .inv .1 ∙ first-none _ _ _ (omega arith))
+
+pub unsound-pair-spec : {M : Type 1} → statement M
+unsound-pair-spec =
+    tie.close
+    (tie.spec
+    Inv-loop
+    μ-loop
+    loop-holds
+    cast-number-at
+    mul-number-at
+    number-at-requires
+    cast-number-at-2
+    mul-number-at-2
+    add-number-at
+    number-at-requires-2
+    name-sound-requires
+    cast-t14
+    name-field-at-requires
+    returns
+    add-i
+    loop-less
+    loop-again
+    returns-2)

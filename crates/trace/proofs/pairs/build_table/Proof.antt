@@ -1,0 +1,32 @@
+-- Storing starts from a filled buffer, and as no entry is astray it leaves the table of predecessors there.
+use mathlib.Core.Path.{_≡_, sym, _∙_, ap}
+use native.Mathlib.Omega.{arith}
+use lib.ListN.{length}
+use Rattle.trace.specs.Links.{firsts, filled, predecessors}
+use borrow.Author.Needs.{needs}
+use Rattle.trace.proofs.pairs.build_table.Statement.{statement}
+use Rattle.trace.proofs.pairs.build_table.Tie as tie
+
+fill-requires : tie.Need-fill-requires
+fill-requires c κs = search needs
+
+store-predecessors-requires : tie.Need-store-predecessors-requires
+store-predecessors-requires c κs = let f = c .before .before .before .fill in
+    let a = c .before .before .before .before .before .before .before in
+    let e : length (f .last .0) ≡ length (a .args .buffer .now) = f .kept .0 in
+    record { room = omega (arith, e, a .pre .room); clear = f .ensures ∙ ap filled (sym e) }
+
+same-length : tie.Need-same-length
+same-length c = search needs
+
+returns : tie.Need-returns
+returns c =
+    let store = c .before .before in
+    let fill = store .before .before .before .before in
+    let a = c .before .before .before .before .before .before .before .before .before .before in
+    let s = firsts (a .args .pairs .now) (a .args .entries) in
+    store .store-predecessors .ensures .holds (a .pre .sound) ∙ ap (predecessors s) (fill .fill .kept .0)
+
+pub build-table-spec : {M : Type 1} → statement M
+build-table-spec =
+    tie.close (tie.spec fill-requires store-predecessors-requires same-length returns)

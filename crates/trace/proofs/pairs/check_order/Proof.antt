@@ -1,0 +1,34 @@
+-- Links that only lead on form no cycle, so the table stands; any others are walked by the check for cycles.
+use mathlib.Core.Path.{refl}
+use Prim.Native.Nat.{_≤_}
+use native.Mathlib.Omega.{arith}
+use lib.ListN.{length}
+use Rattle.trace.proofs.Steps.{length-firsts}
+use Rattle.trace.proofs.Forward.{forward-acyclic}
+use Rattle.trace.specs.Links.{end, firsts}
+use Rattle.trace.specs.Private.{firstCyclic}
+use Rattle.trace.proofs.Answers.{answer-chains}
+use borrow.Author.Needs.{needs}
+use Rattle.trace.proofs.pairs.check_order.Statement.{statement}
+use Rattle.trace.proofs.pairs.check_order.Tie as tie
+
+returns : tie.Need-returns
+returns c =
+    let a = c .before .before .before in
+    let s = firsts (a .args .pairs .now) (a .args .entries) in
+    let small : length s ≤ end = omega (arith, length-firsts (a .args .pairs .now) (a .args .entries), a .fits .entries) in
+    let f = forward-acyclic s small (a .pre .0 .sound) (a .pre .1 (c .if1 .taken)) in
+    answer-chains _ s _ _ (firstCyclic s) _ small (a .pre .0) refl f (a .pre .0 .table)
+
+check-cycles-requires : tie.Need-check-cycles-requires
+check-cycles-requires c κs = search needs
+
+same-length : tie.Need-same-length
+same-length c = search needs
+
+returns-2 : tie.Need-returns-2
+returns-2 c = search needs
+
+pub check-order-spec : {M : Type 1} → statement M
+check-order-spec =
+    tie.close (tie.spec returns check-cycles-requires same-length returns-2)

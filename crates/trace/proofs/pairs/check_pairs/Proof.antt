@@ -1,0 +1,74 @@
+-- Check 7 says whether there is a place for each entry; where there is, checks 11 to 13 run on a filled buffer.
+use mathlib.Core.Path.{_≡_, sym, _∙_, ap}
+use native.Mathlib.Omega.{arith}
+use lib.ListN.{length}
+use Rattle.sections.proofs.Cases.{places-met}
+use Rattle.trace.proofs.Steps.{length-firsts}
+use Rattle.trace.specs.Links.{filled}
+use Rattle.trace.proofs.Answers.{answer-few, answer-links}
+use borrow.Author.Needs.{needs}
+use Rattle.trace.proofs.pairs.check_pairs.Statement.{statement}
+use Rattle.trace.proofs.pairs.check_pairs.Tie as tie
+
+fill-requires : tie.Need-fill-requires
+fill-requires c κs = search needs
+
+places-fault-requires : tie.Need-places-fault-requires
+places-fault-requires c κs = search needs
+
+enum-known-i : tie.Need-enum-known-i
+enum-known-i c = search needs
+
+refuse-requires : tie.Need-refuse-requires
+refuse-requires c κs = search needs
+
+same-length : tie.Need-same-length
+same-length c = search needs
+
+returns : tie.Need-returns
+returns c =
+    let arm = c .before .before in
+    let places = arm .before .before in
+    let fill = places .before .before .before in
+    let a = fill .before .before .before .before .args in
+    answer-few _ _ _ _ (length-firsts (a .pairs .now) (a .entries)) _ _ (places .places-fault .ensures) _ _ _ (arm .i .given .1)
+    (c .refuse .ensures) (fill .fill .ensures)
+
+enum-told : tie.Need-enum-told
+enum-told c = search needs
+
+check-entries-requires : tie.Need-check-entries-requires
+check-entries-requires c κs =
+    let a = c .before .before .before .before .before .before .before .before .before .before .args in
+    let f = c .before .before .before .before .before .before .fill in
+    let e : length (f .last .0) ≡ length (a .predecessors .now) = f .kept .0 in
+    let room = places-met _ _ _ (c .before .before .before .places-fault .ensures) (c .before .enum-told .given .1) in
+    record { room = omega (arith, e, length-firsts (a .pairs .now) (a .entries), room); clear = f .ensures ∙ ap filled (sym e) }
+
+same-length-2 : tie.Need-same-length-2
+same-length-2 c = search needs
+
+returns-2 : tie.Need-returns-2
+returns-2 c =
+    let told = c .before .before .before .before in
+    let places = told .before .before in
+    let fill = places .before .before .before in
+    let a = fill .before .before .before .before .args in
+    let r = c .before .before .check-entries in
+    answer-links _ _ _ _ (length-firsts (a .pairs .now) (a .entries)) _ _ (places .places-fault .ensures) _ (told .enum-told .given .1)
+    (rw (fill .fill .kept .0) at (r .ensures))
+
+pub check-pairs-spec : {M : Type 1} → statement M
+check-pairs-spec =
+    tie.close
+    (tie.spec
+    fill-requires
+    places-fault-requires
+    enum-known-i
+    refuse-requires
+    same-length
+    returns
+    enum-told
+    check-entries-requires
+    same-length-2
+    returns-2)

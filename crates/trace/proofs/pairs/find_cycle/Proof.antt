@@ -1,0 +1,30 @@
+use mathlib.Core.Path.{_≡_, sym, _∙_, ap}
+use native.Mathlib.Omega.{arith}
+use lib.ListN.{length}
+use borrow.Author.Needs.{needs}
+use Rattle.trace.specs.Links.{filled}
+use Rattle.trace.proofs.pairs.find_cycle.Statement.{statement}
+use Rattle.trace.proofs.pairs.find_cycle.Tie as tie
+
+fill-requires : tie.Need-fill-requires
+fill-requires c κs = search needs
+
+first-cyclic-requires : tie.Need-first-cyclic-requires
+first-cyclic-requires c κs = let f = c .before .before .before .fill in
+    let a = c .before .before .before .before .before .before .before in
+    let e : length (f .last .0) ≡ length (a .args .buffer .now) = f .kept .0 in (
+      record {
+        ready = record { room = omega (arith, e, a .pre .0 .room); sound = a .pre .0 .sound };
+        clear = f .ensures ∙ ap filled (sym e);
+      },
+      a .pre .1,
+    )
+
+same-length : tie.Need-same-length
+same-length c = search needs
+
+returns : tie.Need-returns
+returns c = search needs
+
+pub find-cycle-spec : {M : Type 1} → statement M
+find-cycle-spec = tie.close (tie.spec fill-requires first-cyclic-requires same-length returns)
