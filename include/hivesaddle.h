@@ -1,4 +1,5 @@
-/* Hivesaddle: a reader of Windows Prefetch (SCCA) files, versions 17, 23, 26 and 30, uncompressed.
+/* Hivesaddle: a reader of Windows Prefetch (SCCA) files, versions 17, 23, 26 and 30, uncompressed, and a writer of
+ * files of versions 17 and 23 to test with.
  *
  * Link with libhivesaddle.a. It needs memcpy and memset and nothing else: it allocates nothing, keeps nothing between
  * calls, and does no input or output. Calls with different lists may run at the same time.
@@ -131,6 +132,7 @@ uint32_t hs_places(const uint8_t *file, size_t length, uint64_t *out, size_t out
  *  17                hs_read_file only: the file is longer than S                         0                    12
  *  18                hs_catalogue_read only: not a catalogue line
  *  19                hs_catalogue_write only: fields that form no line, or an output below 27 bytes
+ *  20                hs_write_file only: output is shorter than the file                  0                    0
  *  23                hs_walk only: order has fewer places than there are trace entries    0                    0
  *  25                hs_hash_swap and hs_hash_swap_bytes only: p exceeds the length of old
  *
@@ -169,6 +171,45 @@ enum hs_walk_out {
 
 uint32_t hs_walk(const uint8_t *file, size_t length, uint32_t *predecessors, size_t places, uint32_t *order,
                  size_t order_length, uint64_t *out, size_t out_length);
+
+/* ---- The writer ----
+ *
+ * hs_write_file lays out a file of version 17 or 23 from what it says. Its answer is that of hs_read_file on the file as
+ * laid out, with these predecessors; any other version, 26 and 30 too, is refused with 1, whatever the rest. So what it
+ * writes hs_read_file accepts with the same record, and what it does not write it refuses with the number, index and file
+ * offset of hs_read_file, as if the file were there. Where that is an acceptance and output is shorter than the file, the
+ * answer is 20.
+ *
+ * The file has a head of 152 bytes (version 17) or 240 (version 23), then metrics, trace, strings and volumes, without
+ * gaps. The offset of an empty section is where it would stand. All bytes of the head and of metrics and trace entries
+ * that are no field below are 0.
+ *
+ *   name          units of the program name: those before the first zero, or all. 30 or more are refused with 4
+ *   stored_hash, run_time, run_count
+ *   metrics       pairs: where a name begins in strings, in bytes, and its units without the zero
+ *   trace         pairs: next index, or HS_NONE at a chain's end, and block load count
+ *   strings       the strings section
+ *   volumes       the volumes section, with volume_count entries at its start
+ *
+ * An odd last number of metrics or trace is ignored. Metrics entries are 20 bytes in version 17 and 32 in 23, volume
+ * entries 40 and 104, trace entries 12. A file above 67,108,864 bytes is refused with 3, before 4; however long the lists
+ * are, no sum wraps.
+ *
+ * output takes the file, whose length is HS_DECLARED_SIZE in out, and keeps what it held behind it. After any refusal all
+ * of output is as it was. To read the file back, hand hs_read_file that length: with more the answer would be 17.
+ *
+ * predecessors is as hs_read_file leaves it: the table after an acceptance, HS_NONE in every slot after a refusal, 20 too.
+ *
+ * Refusals are 1, 3, 4, 7 to 15 and 20. 2, 5, 6, 16, 17 and 21 cannot occur.
+ *
+ * Gives HS_ACCEPTED where it wrote, or HS_REFUSED.
+ * out: as of the readers, see enum hs_reader_out.
+ */
+uint32_t hs_write_file(uint32_t version, const uint16_t *name, size_t name_length, uint32_t stored_hash, uint64_t run_time,
+                       uint32_t run_count, const uint32_t *metrics, size_t metrics_length, const uint32_t *trace,
+                       size_t trace_length, const uint8_t *strings, size_t strings_length, const uint8_t *volumes,
+                       size_t volumes_length, uint32_t volume_count, uint32_t *predecessors, size_t places,
+                       uint8_t *output, size_t output_length, uint64_t *out, size_t out_length);
 
 /* ---- Queries about one entry ----
  *

@@ -2,32 +2,39 @@
  * filled with the same noise; what both give back and leave behind must be the same.
  *
  *   0      the call, CALLS and above: all of them
- *   1      bits 0 to 2: file, table and out lie behind or before a page that cannot be touched; 3, 4: pointer of an empty list
+ *   1      bits 0 to 2: file, table and out lie behind or before a page that cannot be touched; 3, 4: pointer of an empty
+ *          list; 5, 6: an odd last number in the metrics and the trace of a file to be written
  *   2      length of out, 0 to 3 more than the readers write
- *   3      slots: as the file's trace count says, one fewer, one more, none, or as bytes 4, 5 say
- *   4      slots, 2 bytes
+ *   3      low four bits: slots, as the file's trace count says, one fewer, one more, none, or as bytes 4, 5 say; high
+ *          four: bytes of the output for a file, chosen likewise by its size
+ *   4      slots, or bytes of that output, 2 bytes
  *   6      2 bytes: 0 for the whole file, else a cut behind that many bytes less one
- *   8, 16  i and k; the four fields of a line to be written; of a swap, p and the old hash
+ *   8, 16  i and k; the four fields of a line to be written; of a swap, p and the old hash; k is how many units the name
+ *          of a file to be written has, to 63
  *   24     seed of the noise
  *   28     length of the output for a line, 0 to 39
  *   29     low four bits: length of the list of pairs, 0 to 15; high four: places for the order of a walk, chosen
  *          as the slots are, with bytes 4, 5 for any
  *   30     2 bytes: how many of the file's last bytes are the start of a swap
+ *
+ * A file is written from what the file says: the fields of its head, and of its sections what lies in its bytes.
  */
 #define _GNU_SOURCE
 #include "hivesaddle.h"
-#include <signal.h>
+#include "lists.h"
+#include "reached.h"
 #include <stdio.h>
 #include <stdlib.h>
 #include <string.h>
-#include <sys/mman.h>
-#include <ucontext.h>
 
 /* ---- The judge: each function beside the library's of that name ---- */
 
 uint32_t judge_read_prefix(const uint8_t *, size_t, uint32_t *, size_t, uint64_t *, size_t);
 uint32_t judge_read_file(const uint8_t *, size_t, uint32_t *, size_t, uint64_t *, size_t);
 uint32_t judge_walk(const uint8_t *, size_t, uint32_t *, size_t, uint32_t *, size_t, uint64_t *, size_t);
+uint32_t judge_write_file(uint32_t, const uint16_t *, size_t, uint32_t, uint64_t, uint32_t, const uint32_t *, size_t,
+                          const uint32_t *, size_t, const uint8_t *, size_t, const uint8_t *, size_t, uint32_t, uint32_t *,
+                          size_t, uint8_t *, size_t, uint64_t *, size_t);
 uint32_t judge_places(const uint8_t *, size_t, uint64_t *, size_t);
 uint32_t judge_program_name(const uint8_t *, size_t, uint64_t *, size_t);
 uint32_t judge_entry_name(const uint8_t *, size_t, uint64_t, uint64_t *, size_t);
@@ -51,126 +58,20 @@ uint32_t judge_catalogue_write(uint32_t, uint32_t, uint32_t, uint32_t, uint8_t *
 enum call {
     READ_PREFIX, READ_FILE, PROGRAM_NAME, ENTRY_NAME, VOLUME, REFERENCE, FIND_PATH, HASH_XP, HASH_VISTA, HASH_2008,
     HASH_XP_BYTES, HASH_VISTA_BYTES, HASH_2008_BYTES, CATALOGUE_READ, CATALOGUE_WRITE, PLACES, LIST_PATHS,
-    HASH_POWERS, HASH_POWERS_BYTES, HASH_SWAP, HASH_SWAP_BYTES, WALK, CALLS
+    HASH_POWERS, HASH_POWERS_BYTES, HASH_SWAP, HASH_SWAP_BYTES, WALK, WRITE_FILE, CALLS
 };
 static const char *const names[CALLS] = {
     "read_prefix", "read_file", "program_name", "entry_name", "volume", "reference", "find_path", "hash_xp", "hash_vista",
     "hash_2008", "hash_xp_bytes", "hash_vista_bytes", "hash_2008_bytes", "catalogue_read", "catalogue_write", "places",
-    "list_paths", "hash_powers", "hash_powers_bytes", "hash_swap", "hash_swap_bytes", "walk"
+    "list_paths", "hash_powers", "hash_powers_bytes", "hash_swap", "hash_swap_bytes", "walk", "write_file"
 };
-
-/* ---- Lists between pages that cannot be touched ---- */
-
-enum { PAGE = 4096, ROOM = 8 * PAGE, MARGIN = 32, CONTROL = 32, MOST_PLACES = 4096, MOST_FILE = ROOM - MARGIN };
-
-struct list {
-    uint8_t *room; /* ROOM bytes */
-    uint8_t *start;
-    size_t bytes;
-};
-enum {
-    FILE_LIST, NUMBERS, START, TABLE, JUDGE_TABLE, OUT, JUDGE_OUT, LINE, JUDGE_LINE, PAIRS, JUDGE_PAIRS, ORDER,
-    JUDGE_ORDER, LISTS
-};
-static struct list lists[LISTS];
-static int empty_pointer;
-
-static void make_lists(void) {
-    for (int i = 0; i < LISTS; i++) {
-        uint8_t *all = mmap(NULL, ROOM + 2 * PAGE, PROT_NONE, MAP_PRIVATE | MAP_ANONYMOUS, -1, 0);
-        if (all == MAP_FAILED || mprotect(all + PAGE, ROOM, PROT_READ | PROT_WRITE)) abort();
-        lists[i].room = all + PAGE;
-    }
-}
-
-/* At the front of the room or at its end. */
-static void lay(struct list *list, size_t bytes, int at_front) {
-    list->bytes = bytes;
-    list->start = at_front ? list->room : list->room + ROOM - bytes;
-}
-
-/* The bytes of a list, and those beside it that are no part of it. */
-static uint8_t *around(const struct list *list) {
-    return list->start == list->room ? list->start : list->start - MARGIN;
-}
-
-static void *pointer(const struct list *list) {
-    if (list->bytes) return list->start;
-    switch (empty_pointer) {
-    case 1: return (void *)1;
-    case 2: return list->room + ROOM;
-    default: return NULL;
-    }
-}
-
-static uint64_t noise_state;
-static uint8_t noise(void) {
-    noise_state = noise_state * 6364136223846793005u + 1442695040888963407u;
-    return noise_state >> 56;
-}
-
-/* The same noise in both and beside both. */
-static void lay_pair(int one, int other, size_t bytes, int at_front) {
-    lay(&lists[one], bytes, at_front);
-    lay(&lists[other], bytes, at_front);
-    uint8_t *a = around(&lists[one]), *b = around(&lists[other]);
-    for (size_t i = 0; i < bytes + MARGIN; i++) a[i] = b[i] = noise();
-}
-
-/* ---- Instructions of the library that have been reached ----
- *
- * Each instruction begins as a breakpoint, which is taken away the first time it is met. The fuzzer sees that as coverage.
- */
-
-enum { MOST_INSTRUCTIONS = 16384 };
-__attribute__((section("__libfuzzer_extra_counters"))) static uint8_t reached_now[MOST_INSTRUCTIONS];
-static struct { uint8_t *at; uint8_t byte, reached; } instructions[MOST_INSTRUCTIONS];
-static size_t instruction_count, reached_count;
-
-static void met(int signal, siginfo_t *info, void *context) {
-    (void)signal, (void)info;
-    greg_t *ip = &((ucontext_t *)context)->uc_mcontext.gregs[REG_RIP];
-    uint8_t *at = (uint8_t *)*ip - 1;
-    size_t low = 0, high = instruction_count;
-    while (low < high) {
-        size_t middle = (low + high) / 2;
-        if (instructions[middle].at < at) low = middle + 1;
-        else high = middle;
-    }
-    if (low == instruction_count || instructions[low].at != at) abort();
-    *at = instructions[low].byte;
-    instructions[low].reached = 1;
-    reached_now[low] = 1;
-    reached_count++;
-    *ip -= 1;
-}
-
-/* The file has one address a line, rising. */
-static void set_breakpoints(const char *path) {
-    FILE *file = fopen(path, "r");
-    unsigned long at;
-    if (!file) abort();
-    while (fscanf(file, "%lx", &at) == 1) {
-        if (instruction_count == MOST_INSTRUCTIONS) abort();
-        instructions[instruction_count].at = (uint8_t *)at;
-        instructions[instruction_count++].byte = *(uint8_t *)at;
-    }
-    fclose(file);
-    struct sigaction action = {.sa_sigaction = met, .sa_flags = SA_SIGINFO};
-    sigaction(SIGTRAP, &action, NULL);
-    for (size_t i = 0; i < instruction_count; i++) {
-        uint8_t *page = (uint8_t *)((uintptr_t)instructions[i].at & -(uintptr_t)PAGE);
-        if (mprotect(page, PAGE, PROT_READ | PROT_WRITE | PROT_EXEC)) abort();
-        *instructions[i].at = 0xCC;
-    }
-}
 
 /* ---- What has been seen, as the library answered ---- */
 
 /* The greatest refusal number of the readers is 21, that of the walk 23. */
 enum { ANSWERS = 26, REFUSALS = 24 };
 static uint64_t calls[CALLS], answers[CALLS][ANSWERS], refusals[2][REFUSALS], accepted[2][32], numbers_found[9];
-static uint64_t walk_refusals[REFUSALS], large_totals;
+static uint64_t walk_refusals[REFUSALS], large_totals, write_refusals[REFUSALS], written[32];
 
 static void count(enum call call, uint64_t code, const uint64_t *out, size_t out_length) {
     calls[call]++;
@@ -180,6 +81,8 @@ static void count(enum call call, uint64_t code, const uint64_t *out, size_t out
     if (call == FIND_PATH && code == 1 && out_length > 1) numbers_found[out[1]]++;
     if (call == WALK && code == HS_REFUSED && out_length > HS_WALK_NUMBER) walk_refusals[out[HS_WALK_NUMBER]]++;
     if (call == WALK && out_length > HS_WALK_TOTAL) large_totals += out[HS_WALK_TOTAL] > UINT32_MAX;
+    if (call == WRITE_FILE && code == HS_REFUSED && out_length > HS_NUMBER) write_refusals[out[HS_NUMBER]]++;
+    if (call == WRITE_FILE && code == HS_ACCEPTED && out_length > HS_VERSION) written[out[HS_VERSION]]++;
     if (call <= READ_FILE && code == HS_REFUSED && out_length > HS_NUMBER) refusals[call][out[HS_NUMBER]]++;
     if (call <= READ_FILE && code == HS_ACCEPTED && out_length > HS_VERSION) accepted[call][out[HS_VERSION]]++;
 }
@@ -203,6 +106,10 @@ static void report(void) {
     fprintf(stderr, "seen: walk: totals past 32 bits: %lu; refusals", large_totals);
     for (int number = 0; number < REFUSALS; number++)
         if (walk_refusals[number]) fprintf(stderr, ", %d: %lu", number, walk_refusals[number]);
+    fputc('\n', stderr);
+    fprintf(stderr, "seen: write_file: version 17: %lu, version 23: %lu; refusals", written[17], written[23]);
+    for (int number = 0; number < REFUSALS; number++)
+        if (write_refusals[number]) fprintf(stderr, ", %d: %lu", number, write_refusals[number]);
     fputc('\n', stderr);
     fprintf(stderr, "seen: find_path: by number");
     for (int number = 0; number <= 8; number++) fprintf(stderr, ", %d: %lu", number, numbers_found[number]);
@@ -248,14 +155,93 @@ static void same_list(enum call call, const char *what, int one, int other) {
     if (memcmp(around(&lists[one]), around(&lists[other]), lists[one].bytes + MARGIN)) differ(call, what);
 }
 
+/* ---- What a file is written from ---- */
+
+/* The number at a place of the file, 0 where the file ends before it. */
+static uint64_t field(const struct input *in, size_t at, int width) {
+    return at + width <= in->length ? number(in->bytes + at, width) : 0;
+}
+
+/* Of so many bytes at an offset, those that lie in the file. */
+static size_t within(const struct input *in, size_t offset, size_t bytes) {
+    if (offset >= in->length) return 0;
+    return bytes < in->length - offset ? bytes : in->length - offset;
+}
+
+static void lay_copy(int list, const uint8_t *bytes, size_t length, int at_front) {
+    lay(&lists[list], length, at_front);
+    if (length) memcpy(lists[list].start, bytes, length);
+}
+
+/* A section, by the fields that have its offset and its size. */
+static void lay_section(int list, const struct input *in, size_t offset_field, size_t size_field) {
+    size_t offset = field(in, offset_field, 4), bytes = within(in, offset, field(in, size_field, 4));
+    lay_copy(list, in->bytes + offset, bytes, in->control[1] & 1);
+}
+
+/* The pair at one place of each entry, and another number where the last is to be odd. */
+static void lay_pairs(int list, const struct input *in, size_t offset_field, size_t entry, size_t place, int odd) {
+    size_t offset = field(in, offset_field, 4);
+    size_t count = within(in, offset, field(in, offset_field + 4, 4) * entry) / entry;
+    lay(&lists[list], 8 * count + (odd ? 4 : 0), in->control[1] & 1);
+    uint8_t *to = lists[list].start;
+    for (size_t i = 0; i < count; i++) memcpy(to + 8 * i, in->bytes + offset + i * entry + place, 8);
+    if (odd) memset(to + 8 * count, in->control[24], 4);
+}
+
+static size_t entries(int list) { return lists[list].bytes / 8; }
+
+/* The lists that a file is written from; gives the file's size. */
+static size_t lay_description(const struct input *in, int is_17) {
+    size_t entry = is_17 ? 20 : 32, flags = in->control[1];
+    lay_copy(NAME, in->bytes + 16, within(in, 16, 2 * (in->k % 64)) & -(size_t)2, flags & 1);
+    lay_pairs(METRICS, in, 84, entry, is_17 ? 8 : 12, flags & 32);
+    lay_pairs(TRACE, in, 92, 12, 0, flags & 64);
+    lay_section(STRINGS, in, 100, 104);
+    lay_section(VOLUMES, in, 108, 116);
+    return (is_17 ? 152 : 240) + entry * entries(METRICS) + 12 * entries(TRACE) + lists[STRINGS].bytes +
+           lists[VOLUMES].bytes;
+}
+
+/* The file's size, one byte fewer, one more, none, or any. */
+static size_t output_length(const struct input *in, size_t size) {
+    if (size > MOST_FILE - 1) size = MOST_FILE - 1;
+    switch (in->control[3] >> 4) {
+    case 3: return size - 1;
+    case 4: return size + 1;
+    case 5: return 0;
+    case 6: case 7: return number(in->control + 4, 2) % MOST_FILE;
+    default: return size;
+    }
+}
+
+static void write_both(const struct input *in, uint64_t *given, uint64_t *expected) {
+    static uint8_t kept[LISTS][ROOM];
+    int is_17 = field(in, 0, 4) == 17;
+    size_t length = output_length(in, lay_description(in, is_17)), head = is_17 ? 120 : 128;
+    lay_pair(OUTPUT, JUDGE_OUTPUT, length, in->control[1] & 4);
+    for (int list = NAME; list <= VOLUMES; list++) memcpy(kept[list], lists[list].start, lists[list].bytes);
+#define WRITE(function, table, output, out)                                                                                \
+    function(field(in, 0, 4), pointer(&lists[NAME]), lists[NAME].bytes / 2, field(in, 76, 4), field(in, head, 8),          \
+             field(in, head + 24, 4), pointer(&lists[METRICS]), lists[METRICS].bytes / 4, pointer(&lists[TRACE]),          \
+             lists[TRACE].bytes / 4, pointer(&lists[STRINGS]), lists[STRINGS].bytes, pointer(&lists[VOLUMES]),             \
+             lists[VOLUMES].bytes, field(in, 112, 4), pointer(&lists[table]), in->places, pointer(&lists[output]), length, \
+             pointer(&lists[out]), in->out_length)
+    *given = WRITE(hs_write_file, TABLE, OUTPUT, OUT);
+    *expected = WRITE(judge_write_file, JUDGE_TABLE, JUDGE_OUTPUT, JUDGE_OUT);
+    for (int list = NAME; list <= VOLUMES; list++)
+        if (memcmp(kept[list], lists[list].start, lists[list].bytes)) differ(WRITE_FILE, "a list was changed");
+}
+
 static void one_call(enum call call, const struct input *in, uint64_t i, uint64_t k) {
     int flags = in->control[1];
     size_t n = in->length, count_32 = n / 4, line = in->control[28] % 40, pairs = in->control[29] % 16;
-    lay_pair(TABLE, JUDGE_TABLE, call <= READ_FILE || call == WALK ? 4 * in->places : 0, flags & 2);
+    lay_pair(TABLE, JUDGE_TABLE, call <= READ_FILE || call >= WALK ? 4 * in->places : 0, flags & 2);
     lay_pair(OUT, JUDGE_OUT, 8 * in->out_length, flags & 4);
     lay_pair(LINE, JUDGE_LINE, line, flags & 4);
     lay_pair(PAIRS, JUDGE_PAIRS, 4 * pairs, flags & 2);
     lay_pair(ORDER, JUDGE_ORDER, call == WALK ? 4 * in->order_length : 0, flags & 4);
+    lay_pair(OUTPUT, JUDGE_OUTPUT, 0, flags & 4);
     size_t start_length = in->start_length, start_count = start_length / 4;
     const uint8_t *start_bytes = in->bytes + n - start_length;
     lay(&lists[START], call == HASH_SWAP ? 4 * start_count : start_length, flags & 1);
@@ -355,6 +341,7 @@ static void one_call(enum call call, const struct input *in, uint64_t i, uint64_
         given = hs_walk(file, n, table, p, pointer(&lists[ORDER]), w, out, o);
         expected = judge_walk(file, n, judge_table, p, pointer(&lists[JUDGE_ORDER]), w, judge_out, o);
         break;
+    case WRITE_FILE: write_both(in, &given, &expected); break;
     default: abort();
     }
     if (given != expected) {
@@ -366,6 +353,7 @@ static void one_call(enum call call, const struct input *in, uint64_t i, uint64_
     same_list(call, "line", LINE, JUDGE_LINE);
     same_list(call, "pairs", PAIRS, JUDGE_PAIRS);
     same_list(call, "order", ORDER, JUDGE_ORDER);
+    same_list(call, "output", OUTPUT, JUDGE_OUTPUT);
     if (n && memcmp(lists[FILE_LIST].start, in->bytes, n)) differ(call, "the file was changed");
     if (count_32 && memcmp(lists[NUMBERS].start, in->bytes, 4 * count_32)) differ(call, "the numbers were changed");
     if (start_length && memcmp(lists[START].start, start_bytes, lists[START].bytes)) differ(call, "the start was changed");

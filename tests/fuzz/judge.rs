@@ -16,6 +16,7 @@ use reference::head::{section, VOLUMES};
 use reference::readers::{read_file, read_prefix, Answer};
 use reference::search::{find_path, list_paths};
 use reference::walk::walk;
+use reference::writer::{self, Description};
 use reference::{hashes, queries};
 
 unsafe fn list<'a, T>(pointer: *const T, length: usize) -> &'a [T] {
@@ -96,6 +97,48 @@ pub unsafe extern "C" fn judge_walk(
     }
     write(out, out_length, &numbers);
     code
+}
+
+/// After a refusal nothing is written to the output.
+#[no_mangle]
+pub unsafe extern "C" fn judge_write_file(
+    version: u32,
+    name: *const u16,
+    name_length: usize,
+    stored_hash: u32,
+    run_time: u64,
+    run_count: u32,
+    metrics: *const u32,
+    metrics_length: usize,
+    trace: *const u32,
+    trace_length: usize,
+    strings: *const u8,
+    strings_length: usize,
+    volumes: *const u8,
+    volumes_length: usize,
+    volume_count: u32,
+    table: *mut u32,
+    places: usize,
+    output: *mut u8,
+    output_length: usize,
+    out: *mut u64,
+    out_length: usize,
+) -> u32 {
+    let described = Description {
+        version,
+        name: list(name, name_length),
+        stored_hash,
+        run_time,
+        run_count,
+        metrics: list(metrics, metrics_length),
+        trace: list(trace, trace_length),
+        strings: list(strings, strings_length),
+        volumes: list(volumes, volumes_length),
+        volume_count,
+    };
+    let written = writer::write(&described, places, output_length);
+    write(output, output_length, written.file.as_deref().unwrap_or(&[]));
+    give(&written.answer, table, places, out, out_length)
 }
 
 #[no_mangle]

@@ -1,8 +1,8 @@
 //! seeds FOLDER FILE..
 //!
 //! Writes inputs for the fuzzer to start from: the files given, and of each version sound files, a file damaged for
-//! each check that it can fail, and cuts; chains to walk; lines; and lists around the end of the table of powers. The
-//! same bytes every time.
+//! each check that it can fail, and cuts; chains to walk; files to write; lines; and lists around the end of the table
+//! of powers. The same bytes every time.
 
 use compare::generate::bare::with_blocks;
 use compare::generate::cuts::cuts;
@@ -21,11 +21,16 @@ const CATALOGUE_WRITE: u8 = 14;
 const HASH_POWERS: u8 = 17;
 const HASH_SWAP_BYTES: u8 = 20;
 const WALK: u8 = 21;
+const WRITE_FILE: u8 = 22;
 /// Slots as the trace count says, or one fewer; above them the same for the places of a walk's order.
 const EXACT: u8 = 0;
 const FEWER: u8 = 3;
 const ORDER_FEWER: u8 = FEWER << 4;
 const ORDER_MORE: u8 = 4 << 4;
+/// Bytes of the output for a file, one fewer and one more than it has; and odd last numbers in both of its tables.
+const OUTPUT_FEWER: u8 = 3 << 4;
+const OUTPUT_MORE: u8 = 4 << 4;
+const ODD_NUMBERS: u8 = 3 << 5;
 
 struct Seeds {
     folder: PathBuf,
@@ -35,6 +40,11 @@ struct Seeds {
 impl Seeds {
     /// The choices as harness.c takes them, then the bytes.
     fn add(&mut self, call: u8, places: u8, i: u64, k: u64, bytes: &[u8]) -> io::Result<()> {
+        let input = self.input(call, places, i, k, bytes);
+        self.save(input)
+    }
+
+    fn input(&self, call: u8, places: u8, i: u64, k: u64, bytes: &[u8]) -> Vec<u8> {
         let out_length = HS_READER_OUT as u8 + self.count as u8 % 4;
         let mut input = vec![call, self.count as u8 % 32, out_length, places & 0x0F, 0, 0, 0, 0];
         input.extend(i.to_le_bytes());
@@ -43,6 +53,10 @@ impl Seeds {
         input.extend([26 + self.count as u8 % 3, places & 0xF0 | self.count as u8 % 16]);
         input.extend((self.count as u16 % 64).to_le_bytes());
         input.extend(bytes);
+        input
+    }
+
+    fn save(&mut self, input: Vec<u8>) -> io::Result<()> {
         std::fs::write(self.folder.join(format!("seed-{:03}", self.count)), input)?;
         self.count += 1;
         Ok(())
@@ -81,6 +95,29 @@ impl Seeds {
             let file = with_blocks(list, &vec![blocks; list.len()]);
             for places in [EXACT, ORDER_FEWER, ORDER_MORE] {
                 self.add(WALK, places, 0, 0, &file)?;
+            }
+        }
+        Ok(())
+    }
+
+    /// What files of the two versions say, with an output that fits, a byte fewer and one more, and names around the
+    /// most units.
+    fn writes(&mut self, random: &mut Random) -> io::Result<()> {
+        for layout in LAYOUTS.iter().filter(|layout| layout.version < 26) {
+            for (output, odd, units) in [
+                (EXACT, 0, 30),
+                (OUTPUT_FEWER, 0, 30),
+                (OUTPUT_MORE, ODD_NUMBERS, 30),
+                (EXACT, ODD_NUMBERS, 29),
+                (OUTPUT_MORE, 0, 0),
+                (EXACT, 0, 63),
+            ] {
+                let counts = Counts { metrics: 3, trace: 5, volumes: 2 };
+                let sample = sound_of(random, layout, counts);
+                let mut input = self.input(WRITE_FILE, EXACT, 0, units, &sample.bytes);
+                input[1] |= odd;
+                input[3] |= output;
+                self.save(input)?;
             }
         }
         Ok(())
@@ -143,6 +180,7 @@ fn main() -> io::Result<()> {
     }
     seeds.versions(&mut Random::new(1))?;
     seeds.walks()?;
+    seeds.writes(&mut Random::new(3))?;
     seeds.lines()?;
     seeds.powers(&mut Random::new(2))
 }

@@ -8,6 +8,7 @@ pub mod misread;
 pub mod shapes;
 mod strings;
 mod volumes;
+pub mod writes;
 
 use crate::random::Random;
 use crate::reference::hashes;

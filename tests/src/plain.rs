@@ -4,6 +4,7 @@
 
 pub mod search;
 pub mod walk;
+pub mod writer;
 
 use hivesaddle::{Record, Refusal};
 

@@ -6,6 +6,7 @@ use crate::reference::hashes;
 use crate::reference::head::number_32;
 use crate::reference::layout::{forms_of, Layout, END};
 use crate::reference::search::hash_of;
+use hivesaddle::{Reference, TestFile, TestVolume};
 
 /// How much a file has to say.
 #[derive(Clone, Copy)]
@@ -36,6 +37,7 @@ impl Amounts {
 /// The latest run time. The others are a day apart.
 const RUN_TIME: u64 = 133_761_942_000_000_000;
 const A_DAY: u64 = 864_000_000_000;
+const RUN_COUNT: u32 = 42;
 
 /// The program that a file is about.
 pub struct Program {
@@ -96,6 +98,35 @@ pub fn file_of(program: &Program, version: u32, amounts: &Amounts) -> Vec<u8> {
     file
 }
 
+/// The same file through the crate's builder: without gaps, and with zeros
+/// where no reader looks.
+pub fn test_file(program: &Program, version: u32, amounts: &Amounts) -> TestFile {
+    let names: Vec<String> = (0..amounts.files).map(|i| name(program, i)).collect();
+    let path = names.get(PROGRAM_ENTRY).unwrap_or(&names[0]);
+    let hash = hash_of(version, &hashes::bytes(&units(path)));
+    let mut file = TestFile::new(version)
+        .name(program.name)
+        .hash(hash.wrapping_add(program.number))
+        .run_time(RUN_TIME)
+        .run_count(RUN_COUNT);
+    for (i, name) in names.iter().enumerate() {
+        let entries = chain(amounts.files, amounts.trace, i).len() as u32;
+        let blocks: Vec<u32> = (0..entries).map(|entry| 8 * entry).collect();
+        file = file.file(name).chain(&blocks);
+    }
+    (0..VOLUMES).fold(file, |file, volume| file.volume(test_volume(amounts, volume)))
+}
+
+fn test_volume(amounts: &Amounts, volume: usize) -> TestVolume {
+    TestVolume {
+        path: device(volume),
+        serial_number: serial_number(volume),
+        creation_time: creation_time(volume),
+        references: (0..reference_count(amounts, volume) as u64).map(reference).collect(),
+        directories: (0..directory_count(amounts, volume)).map(|k| directory(volume, k)).collect(),
+    }
+}
+
 /// A version 30 file as others of that version are: all of it from the metrics
 /// array on lies eight bytes earlier, so that the array starts at 296.
 pub fn another_form(file: &[u8]) -> Vec<u8> {
@@ -128,7 +159,7 @@ fn set_head(file: &mut [u8], layout: &Layout, program: &Program, names: &[String
     for i in 0..layout.time_count {
         set_64(file, layout.run_time + 8 * i, RUN_TIME - i as u64 * A_DAY);
     }
-    set_32(file, layout.run_count, 42);
+    set_32(file, layout.run_count, RUN_COUNT);
 }
 
 /// Sections start at a multiple of eight.
@@ -208,20 +239,50 @@ fn device(volume: usize) -> String {
     format!(r"\DEVICE\HARDDISKVOLUME{}", volume + 1)
 }
 
+fn serial_number(volume: usize) -> u32 {
+    0x5C0A_70E1 + volume as u32
+}
+
+fn creation_time(volume: usize) -> u64 {
+    129_000_000_000_000_000 + volume as u64
+}
+
+/// The first volume has most of what there is: so many ninths.
+fn share(volume: usize) -> usize {
+    if volume == 0 {
+        8
+    } else {
+        1
+    }
+}
+
+fn reference_count(amounts: &Amounts, volume: usize) -> usize {
+    (amounts.files + amounts.directories) * share(volume) / 9
+}
+
+fn reference(k: u64) -> Reference {
+    Reference { entry_index: 40 + 3 * k, sequence_number: 1 + (k % 3) as u16 }
+}
+
+fn directory_count(amounts: &Amounts, volume: usize) -> usize {
+    (amounts.directories * share(volume)).div_ceil(9)
+}
+
+fn directory(volume: usize, k: usize) -> String {
+    format!(r"{}\{}\{k:03}", device(volume), FOLDERS[k * 3 % 8])
+}
+
 /// The entries; then for each volume its path, references and directories.
 fn volumes(layout: &Layout, amounts: &Amounts) -> Vec<u8> {
     let entry = layout.volume_entry as usize;
     let mut section = vec![0; VOLUMES * entry];
     for volume in 0..VOLUMES {
         let at = volume * entry;
-        let creation_time = 129_000_000_000_000_000u64 + volume as u64;
-        section[at + 8..at + 16].copy_from_slice(&creation_time.to_le_bytes());
-        set_32(&mut section, at + 16, 0x5C0A_70E1 + volume as u32);
+        set_64(&mut section, at + 8, creation_time(volume));
+        set_32(&mut section, at + 16, serial_number(volume));
         add_path(&mut section, at, volume);
-        // The first volume has most of what there is.
-        let share = if volume == 0 { 8 } else { 1 };
-        add_references(&mut section, at, (amounts.files + amounts.directories) * share / 9);
-        add_directories(&mut section, at, volume, (amounts.directories * share).div_ceil(9));
+        add_references(&mut section, at, reference_count(amounts, volume));
+        add_directories(&mut section, at, volume, directory_count(amounts, volume));
     }
     section
 }
@@ -241,9 +302,8 @@ fn add_references(section: &mut Vec<u8>, at: usize, count: usize) {
     set_32(section, at + 24, 8 + 8 * count as u32);
     section.extend(3u32.to_le_bytes());
     section.extend((count as u32).to_le_bytes());
-    for k in 0..count as u64 {
-        let sequence_number = 1 + k % 3;
-        section.extend((sequence_number << 48 | (40 + 3 * k)).to_le_bytes());
+    for Reference { entry_index, sequence_number } in (0..count as u64).map(reference) {
+        section.extend((u64::from(sequence_number) << 48 | entry_index).to_le_bytes());
     }
 }
 
@@ -251,8 +311,7 @@ fn add_directories(section: &mut Vec<u8>, at: usize, volume: usize, count: usize
     let offset = section.len() as u32;
     set_32(section, at + 28, offset);
     set_32(section, at + 32, count as u32);
-    for k in 0..count {
-        let directory = format!(r"{}\{}\{k:03}", device(volume), FOLDERS[k * 3 % 8]);
+    for directory in (0..count).map(|k| directory(volume, k)) {
         section.extend((directory.encode_utf16().count() as u16).to_le_bytes());
         section.extend(ended(&directory));
     }
@@ -261,7 +320,8 @@ fn add_directories(section: &mut Vec<u8>, at: usize, volume: usize, count: usize
 #[cfg(test)]
 mod points {
     use super::*;
-    use crate::reference::readers::{read_file, Verdict};
+    use crate::reference::head::{section, STRINGS, VOLUMES};
+    use crate::reference::readers::{read_file, Record, Verdict};
 
     #[test]
     fn accepted_in_every_version_and_size() {
@@ -271,6 +331,29 @@ mod points {
                 let file = file(version, &amounts);
                 let verdict = read_file(&file, amounts.trace).verdict;
                 assert!(matches!(verdict, Verdict::Accepted(_)), "{version} {bytes} {verdict:?}");
+            }
+        }
+    }
+
+    /// The same but for the offsets, and what no reader looks at.
+    #[test]
+    fn the_builder_says_the_same() {
+        let amounts = Amounts::for_bytes(4_000);
+        for version in [17, 23] {
+            let (own, made) = (file(version, &amounts), test_file(&CHAMBER, version, &amounts));
+            let made = made.write().expect("a sound file");
+            let verdict = |file: &[u8]| match read_file(file, amounts.trace).verdict {
+                Verdict::Accepted(record) => Record { declared_size: 0, ..record },
+                other => panic!("{version} {other:?}"),
+            };
+            assert_eq!(verdict(&own), verdict(&made));
+            for which in [STRINGS, VOLUMES] {
+                let bytes = |file: &[u8]| {
+                    let section = section(file, which);
+                    file[section.start as usize..section.end() as usize].to_vec()
+                };
+                // References begin with another number in version 17.
+                assert!(version == 17 && which == VOLUMES || bytes(&own) == bytes(&made));
             }
         }
     }

@@ -20,14 +20,41 @@ static uint32_t *predecessors, *order;
 static uint64_t out[HS_READER_OUT];
 static uint32_t numbers[1000], pairs[64];
 static uint8_t line[HS_CATALOGUE_LINE_LENGTH];
+static const uint16_t name[] = {65, 66, 67};
+static uint32_t *metrics, *trace;
+static size_t metrics_length, trace_length, output_length;
+static uint8_t *output;
 
 static volatile uint32_t answer;
 
-/* A call through a pointer with as many arguments as the widest has. */
+/* A call through a pointer, with the arguments of a reader. Those that another call has on the stack count as its own. */
 static uint32_t nothing(const uint8_t *a, size_t b, uint32_t *c, size_t d, uint64_t *e, size_t f)
 {
     (void)a, (void)b, (void)c, (void)d, (void)e, (void)f;
     return 0;
+}
+
+/* The number at a place of the file, 0 where the file ends before it. */
+static uint32_t number(size_t at)
+{
+    return at + 4 > length ? 0 : file[at] | file[at + 1] << 8 | file[at + 2] << 16 | (uint32_t)file[at + 3] << 24;
+}
+
+/* A part of the file, as long as it is or empty where it does not lie in it. */
+static size_t part(size_t start, size_t bytes)
+{
+    return start > length || bytes > length - start ? 0 : bytes;
+}
+
+/* The pairs of an array whose offset and count stand in the head, for hs_write_file; how many numbers they are. */
+static size_t pairs_of(uint32_t *list, size_t field, size_t entry, size_t place)
+{
+    size_t start = number(field), count = part(start, number(field + 4) * entry) / entry;
+    for (size_t i = 0; i < count; i++) {
+        list[2 * i] = number(start + i * entry + place);
+        list[2 * i + 1] = number(start + i * entry + place + 4);
+    }
+    return 2 * count;
 }
 
 static uint32_t (*volatile nothing_called)(const uint8_t *, size_t, uint32_t *, size_t, uint64_t *, size_t) = nothing;
@@ -36,6 +63,13 @@ static void call_nothing(void) { answer = nothing_called(file, length, predecess
 static void read_file(void) { answer = hs_read_file(file, length, predecessors, places, out, HS_READER_OUT); }
 static void read_prefix(void) { answer = hs_read_prefix(file, length, predecessors, places, out, HS_READER_OUT); }
 static void walk(void) { answer = hs_walk(file, length, predecessors, places, order, places, out, HS_WALK_OUT); }
+static void write_file(void)
+{
+    size_t strings = part(number(100), number(104)), volumes = part(number(108), number(116));
+    answer = hs_write_file(number(0), name, 3, 1, 2, 3, metrics, metrics_length, trace, trace_length,
+                           strings ? file + number(100) : file, strings, volumes ? file + number(108) : file, volumes,
+                           number(112), predecessors, places, output, output_length, out, HS_READER_OUT);
+}
 static void places_needed(void) { answer = hs_places(file, length, out, HS_READER_OUT); }
 static void find_path(void) { answer = hs_find_path(file, length, out, HS_READER_OUT); }
 static void list_paths(void) { answer = (uint32_t)hs_list_paths(file, length, pairs, 64); }
@@ -65,6 +99,7 @@ static struct {
     {"hs_read_prefix", read_prefix, 0},
     {"hs_read_file", read_file, 0},
     {"hs_walk", walk, 0},
+    {"hs_write_file", write_file, 0},
     {"hs_places", places_needed, 0},
     {"hs_program_name", program_name, 0},
     {"hs_entry_name", entry_name, 0},
@@ -117,10 +152,18 @@ static void load(const char *path)
     file = malloc(length + 1);
     predecessors = malloc(places * sizeof *predecessors);
     order = malloc(places * sizeof *order);
-    if (file == NULL || predecessors == NULL || order == NULL || fread(file, 1, length, opened) != length) {
+    metrics = malloc(length + 8);
+    trace = malloc(length + 8);
+    output_length = length + 240;
+    output = malloc(output_length);
+    if (file == NULL || predecessors == NULL || order == NULL || metrics == NULL || trace == NULL || output == NULL ||
+        fread(file, 1, length, opened) != length) {
         perror(path);
         exit(2);
     }
+    int is_17 = number(0) == 17;
+    metrics_length = pairs_of(metrics, 84, is_17 ? 20 : 32, is_17 ? 8 : 12);
+    trace_length = pairs_of(trace, 92, 12, 0);
     fclose(opened);
 }
 
@@ -139,6 +182,9 @@ int main(int count, char **paths)
         free(file);
         free(predecessors);
         free(order);
+        free(metrics);
+        free(trace);
+        free(output);
     }
     printf("%d files\n", count - 1);
     for (size_t k = 1; k < CALLS; k++) {

@@ -23,6 +23,7 @@ use Rattle.claims.proofs.Times.{times}
 use Rattle.claims.proofs.WithoutNext.{without-next}
 use Rattle.walk.proofs.Once.{every-entry}
 use Rattle.claims.proofs.Walks.{walks-say}
+use Rattle.claims.proofs.Writer.{writers-say}
 use Rattle.claims.proofs.Places.{places-say}
 use Rattle.claims.proofs.EmptyPrograms.{empty-programs}
 use Rattle.claims.proofs.Examples.{examples}
@@ -64,6 +65,7 @@ claims =
       name-placed = λ o p i e. name-placed o p i (open-facts p .holds o e);
       volume-shown = λ o p i e. volume-shown-law o p i (open-sound p o (open-facts p .holds o e));
       path-placed = λ o p i e. path-placed o p i (open-facts p .holds o e);
+      writes = writers-say;
       empty-programs = empty-programs;
       examples = examples;
       points = points;

@@ -51,7 +51,7 @@ module _ (p : List ℕ) (o : Opening) (a : Allowed p o) where
   opened : run openPlan p ≡ decided (accept o)
   opened = open-complete p o facts
 
-  program-is : programPlace p ≡ placeAnswer.Shown (programAt o)
+  pub program-is : programPlace p ≡ placeAnswer.Shown (programAt o)
   program-is = rw started
 
   -- every entry lies in its section, and the section in the file
@@ -69,7 +69,7 @@ module _ (p : List ℕ) (o : Opening) (a : Allowed p o) where
       (omega (arith, metrics-there, open-shapes p o facts .metrics-len)) in
       record { below = l; in-section = t .0; in-file = t .1; name = a .names i l }
 
-  entry-is : (i : ℕ) → i < o .head .metrics .count → entryPlace p i ≡ placeAnswer.Shown (namePlace o p i)
+  pub entry-is : (i : ℕ) → i < o .head .metrics .count → entryPlace p i ≡ placeAnswer.Shown (namePlace o p i)
   entry-is i l = rw (opened, entry-shown-law o p i (open-sound p o facts) .1 (entry-is-shown i l))
 
   volumes-there : length (part (o .head .volumes) p) ≡ o .head .volumes .len

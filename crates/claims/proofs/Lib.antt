@@ -9,6 +9,7 @@ pub mod OneHash
 pub mod Times
 pub mod WithoutNext
 pub mod Walks
+pub mod Writer
 pub mod EveryName
 pub mod Examples
 pub mod Places

@@ -38,6 +38,7 @@ use Rattle.claims.specs.Times.{Times}
 use Rattle.claims.specs.WithoutNext.{WithoutNext}
 use Rattle.claims.specs.Places.{PlacesSay}
 use Rattle.claims.specs.Walks.{WalksSay}
+use Rattle.claims.specs.Writer.{WritersSay}
 use Rattle.claims.specs.EmptyPrograms.{EmptyPrograms}
 use Rattle.claims.specs.Examples.{Examples}
 use Rattle.claims.specs.Points.{Points}
@@ -142,6 +143,10 @@ pub record Claims : Type 1 where
   pub path-placed : (o : Opening) (p : List ℕ) (i : ℕ) → Opens p o → VolumeShown o p i
       → (volumeFacts o p i .path .at + volumeFacts o p i .path .len ≤ o .head .volumes .end)
       × (volumeFacts o p i .path .at + volumeFacts o p i .path .len ≤ length p)
+  -- ---- test files on demand
+  -- Request 101: after a success the place has the laid-out file and then what it held, the whole-file reader gives the same record and
+  -- working buffer on it, its program name and its metrics entries are shown as they were given; what the reader refuses is refused alike.
+  pub writes : WritersSay
   -- ---- that the promises say something, and can be kept
   -- "What the contracts have to settle": no empty program meets the readers' promises.
   pub empty-programs : EmptyPrograms

@@ -5,6 +5,7 @@ pub mod OneHash
 pub mod Times
 pub mod WithoutNext
 pub mod Walks
+pub mod Writer
 pub mod Claims
 pub mod EmptyPrograms
 pub mod EveryName

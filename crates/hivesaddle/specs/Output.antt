@@ -10,6 +10,8 @@ use Rattle.reader.specs.Verdict.{Acceptable, Values, answerValues, bufferAfter}
 use Rattle.reader.specs.declared.verdict.Acceptance.{Acceptance}
 use Rattle.reader.specs.Checks.{prefixAnswer, fileAnswer}
 use Rattle.walk.specs.Walk as walk
+use Rattle.writer.specs.LaidOut.{Description}
+use Rattle.writer.specs.Writes.{writable, writeAnswer, fileFor, outputAfter}
 use Rattle.catalogue.specs.declared.Fields.{Fields}
 use Rattle.catalogue.specs.Line.{canWrite, lineOf}
 
@@ -88,3 +90,8 @@ pub record WalkOut (p buffer order : List ℕ) (code : ℕ) (buffer′ order′ 
   pub said : Answered (walkSaid (walk.decisionValues (walk.walked p (length buffer) (length order)))) code out out′
   pub placed : order′ ≡ walk.orderAfter (walk.walked p (length buffer) (length order)) order
   pub places : buffer′ ≡ walk.bufferAfter (walk.walked p (length buffer) (length order)) (length buffer)
+
+-- ---- the writer: what a reader says, and the place afterwards
+pub record WriteOut (version : ℕ) (d : Description) (buffer output : List ℕ) (code : ℕ) (buffer′ output′ out out′ : List ℕ) : Type 0 where
+  pub said : ReadOut (writeAnswer version d (length buffer) (length output)) (length buffer) code buffer′ out out′
+  pub placed : output′ ≡ outputAfter (writeAnswer version d (length buffer) (length output)) (fileFor (writable version) d) output

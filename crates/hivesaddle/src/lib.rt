@@ -9,7 +9,8 @@ ghost use Rattle.query.specs.Queries.{placeSaid, programPlace, entryPlace, volu
 ghost use Rattle.query.specs.Queries.{referenceAsked, referenceSaid, placesNeeded, placesSaid};
 ghost use Rattle.path_search.specs.Search.{pathFound, pathSaid, ListsPaths};
 ghost use Rattle.walk.specs.Walk as walk;
-ghost use Rattle.hivesaddle.specs.Output.{walkSaid, WalkOut};
+ghost use Rattle.writer.specs.LaidOut.{description};
+ghost use Rattle.hivesaddle.specs.Output.{walkSaid, WalkOut, WriteOut};
 ghost use Rattle.hivesaddle.specs.Output.{Answered, overlay, lineValues, fieldsOf, LineWriting, verdictValues, valuesWith, PrefixOut, FileOut};
 use catalogue::Fields;
 use catalogue::ReadLine;
@@ -260,6 +261,46 @@ pub extern "C" fn hs_read_file(file: &[u8], predecessors: &mut [u32], out: &mut 
     ensures { λ r. ⌜ FileOut (now (file .entry)) (now (predecessors .entry)) r (now (predecessors .exit)) (now (out .entry)) (now (out .exit)) ⌝ }
 {
     let v = reader::read_file(file, predecessors);
+    put_verdict(v, out)
+}
+
+// The writer of test files: 0 written, 1 refused; `out` as the readers'.
+#[no_mangle]
+pub extern "C" fn hs_write_file(
+    version: u32,
+    name: &[u16],
+    stored_hash: u32,
+    run_time: u64,
+    run_count: u32,
+    metrics: &[u32],
+    trace: &[u32],
+    strings: &[u8],
+    volumes: &[u8],
+    volume_count: u32,
+    predecessors: &mut [u32],
+    output: &mut [u8],
+    out: &mut [u64],
+) -> u32
+    ensures { λ r.
+        ⌜ WriteOut version
+        (description (now (name .entry)) «stored_hash» «run_time» «run_count» (now (metrics .entry)) (now (trace .entry)) (now (strings .entry))
+        (now (volumes .entry)) «volume_count») (now (predecessors .entry)) (now (output .entry)) r (now (predecessors .exit)) (now (output .exit))
+        (now (out .entry)) (now (out .exit)) ⌝ }
+{
+    let v = writer::write_file(
+        version,
+        name,
+        stored_hash,
+        run_time,
+        run_count,
+        metrics,
+        trace,
+        strings,
+        volumes,
+        volume_count,
+        predecessors,
+        output,
+    );
     put_verdict(v, out)
 }
 

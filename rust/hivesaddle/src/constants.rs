@@ -1,12 +1,13 @@
 //! The numbers of `include/hivesaddle.h`, under the names that they have
 //! there; `tests/header.rs` holds the two together.
 
-/// What both readers give back, and the walk the first two of them.
+/// What both readers give back, and the walk and the writer the first two of
+/// them.
 pub const HS_ACCEPTED: u32 = 0;
 pub const HS_REFUSED: u32 = 1;
 pub const HS_WANTED: u32 = 2;
 
-/// Where each number stands in the readers' `out`.
+/// Where each number stands in the readers' `out`, which is the writer's too.
 pub const HS_NUMBER: usize = 0;
 pub const HS_INDEX: usize = 1;
 pub const HS_BYTES_WANTED: usize = 2;

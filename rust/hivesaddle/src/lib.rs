@@ -1,9 +1,10 @@
 //! Safe calls into the proved reader of Windows Prefetch (SCCA) files, versions
-//! 17, 23, 26 and 30, uncompressed.
+//! 17, 23, 26 and 30, uncompressed, and its writer of test files, versions 17
+//! and 23.
 //!
 //! Every function takes any bytes, any index and any buffer length and comes
-//! to an end. Nothing is allocated, but by [`read_file_alloc`] and
-//! [`list_paths_alloc`].
+//! to an end. Nothing is allocated, but by [`read_file_alloc`],
+//! [`list_paths_alloc`], [`write_file_alloc`] and [`TestFile`].
 //!
 //! Numbers in a file are little-endian. A text is UTF-16 units kept as they
 //! stand, and is handed over as bytes, low byte first.
@@ -14,7 +15,9 @@ mod hashes;
 mod queries;
 pub mod raw;
 mod readers;
+mod test_file;
 mod walk;
+mod writer;
 
 pub use catalogue::{
     catalogue_read, catalogue_write, CatalogueFields, CATALOGUE_LINE_LENGTH,
@@ -29,7 +32,9 @@ pub use queries::{
     FoundPath, Reference, Volume,
 };
 pub use readers::{read_file, read_file_alloc, read_prefix, FileContents, Record, Verdict};
+pub use test_file::{TestFile, TestVolume};
 pub use walk::{walk, Walk};
+pub use writer::{write_file, write_file_alloc, Description};
 
 /// What a slot of `predecessors` holds where it has no entry, and every slot
 /// after an answer that is no acceptance.
@@ -43,7 +48,7 @@ pub struct Refusal {
     pub number: u32,
     /// The section, entry or volume at fault; 0 where there is none to name.
     pub index: u64,
-    /// Where the field at fault stands in the file; 0 for 18, 19, 23 and 25,
-    /// which are about no field of a file.
+    /// Where the field at fault stands in the file; 0 for 18, 19, 20, 23 and
+    /// 25, which are about no field of a file.
     pub offset: u64,
 }

@@ -87,6 +87,31 @@ extern "C" {
         out: *mut u64,
         out_length: usize,
     ) -> u32;
+    /// [`HS_ACCEPTED`] where it wrote, or [`HS_REFUSED`]. `out`: as of the
+    /// readers.
+    pub fn hs_write_file(
+        version: u32,
+        name: *const u16,
+        name_length: usize,
+        stored_hash: u32,
+        run_time: u64,
+        run_count: u32,
+        metrics: *const u32,
+        metrics_length: usize,
+        trace: *const u32,
+        trace_length: usize,
+        strings: *const u8,
+        strings_length: usize,
+        volumes: *const u8,
+        volumes_length: usize,
+        volume_count: u32,
+        predecessors: *mut u32,
+        places: usize,
+        output: *mut u8,
+        output_length: usize,
+        out: *mut u64,
+        out_length: usize,
+    ) -> u32;
     /// 1 for a yes and 0 for a no. `out`: the slots of
     /// `predecessors` that both need.
     pub fn hs_places(file: *const u8, length: usize, out: *mut u64, out_length: usize) -> u32;

@@ -195,7 +195,7 @@ pub fn read_file_alloc(file: &[u8]) -> Result<FileContents, Refusal> {
     Ok(FileContents { record, predecessors })
 }
 
-fn verdict(answer: u32, out: &[u64; HS_READER_OUT]) -> Verdict {
+pub(crate) fn verdict(answer: u32, out: &[u64; HS_READER_OUT]) -> Verdict {
     match answer {
         HS_ACCEPTED => Verdict::Accepted(record(out)),
         HS_REFUSED => {

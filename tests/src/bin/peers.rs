@@ -2,15 +2,16 @@
 //!
 //! Writes files for the comparison with other readers, the same bytes every
 //! time: sound/ has each version in three sizes, in the order and at the
-//! offsets that Windows uses; damaged/ has copies of small sound files of
-//! versions 23 and 30, each aimed at the refusal that its name starts with.
+//! offsets that Windows uses; written/ has those of versions 17 and 23 as the
+//! library writes them; damaged/ has copies of small sound files of versions 23
+//! and 30, each aimed at the refusal that its name starts with.
 
 use compare::generate::damage::{directory_ends, volume_start};
 use compare::generate::{set_16, set_32};
 use compare::reference::checks::{entry_start, name_of_entry};
 use compare::reference::head::*;
 use compare::reference::layout::END;
-use compare::typical::{self, another_form, Amounts};
+use compare::typical::{self, another_form, test_file, Amounts, CHAMBER};
 use std::io;
 use std::path::Path;
 use std::process::ExitCode;
@@ -23,7 +24,10 @@ fn main() -> ExitCode {
         return ExitCode::from(2);
     };
     let folder = Path::new(&folder);
-    match write_sound(&folder.join("sound")).and_then(|()| write_damaged(&folder.join("damaged"))) {
+    let written = write_sound(&folder.join("sound"))
+        .and_then(|()| write_written(&folder.join("written")))
+        .and_then(|()| write_damaged(&folder.join("damaged")));
+    match written {
         Ok(()) => ExitCode::SUCCESS,
         Err(error) => {
             eprintln!("peers: {}: {error}", folder.display());
@@ -33,12 +37,28 @@ fn main() -> ExitCode {
 }
 
 /// 150 KB, 1.6 MB and 16 MB, roughly.
+const SIZES: [(&str, usize); 3] = [("a", 150_000), ("b", 1_600_000), ("c", 16_000_000)];
+
 fn write_sound(folder: &Path) -> io::Result<()> {
     std::fs::create_dir_all(folder)?;
-    for (name, bytes) in [("a", 150_000), ("b", 1_600_000), ("c", 16_000_000)] {
+    for (name, bytes) in SIZES {
         for version in [17, 23, 26, 30] {
             let file = typical::file(version, &Amounts::for_bytes(bytes));
             std::fs::write(folder.join(format!("{name}-{version}.pf")), file)?;
+        }
+    }
+    Ok(())
+}
+
+/// By the builder of the crate: without gaps, and with zeros where no field is
+/// that the writer has. The smallest has one file.
+fn write_written(folder: &Path) -> io::Result<()> {
+    std::fs::create_dir_all(folder)?;
+    for (name, bytes) in SIZES.into_iter().chain([("d", 1_000), ("e", 3_000)]) {
+        for version in [17, 23] {
+            let file = test_file(&CHAMBER, version, &Amounts::for_bytes(bytes)).write();
+            let path = folder.join(format!("{name}-{version}.pf"));
+            std::fs::write(path, file.expect("a sound file"))?;
         }
     }
     Ok(())

@@ -3,14 +3,15 @@
 //! Writes the sample files of the examples, the same bytes every time: a small
 //! sound file, one of version 26 that a media program left with a /prefetch
 //! number, one of version 30 and the same with another head form, one of about
-//! 150 KB, and copies of that one, each with a fault.
+//! 150 KB, and copies of that one, each with a fault. Those of version 23 come
+//! from the crate's builder of test files.
 
 use compare::generate::damage::volume_start;
 use compare::generate::{set_16, set_32};
 use compare::reference::checks::{entry_start, name_of_entry};
 use compare::reference::head::{known_layout, section, STRINGS};
 use compare::reference::trace;
-use compare::typical::{self, another_form, Amounts, PLAYER, TYPICAL};
+use compare::typical::{self, another_form, test_file, Amounts, CHAMBER, PLAYER, TYPICAL};
 use std::io;
 use std::path::Path;
 use std::process::ExitCode;
@@ -34,12 +35,12 @@ fn main() -> ExitCode {
 
 fn write_all(folder: &Path) -> io::Result<()> {
     std::fs::create_dir_all(folder)?;
-    std::fs::write(folder.join("small.pf"), typical::file(VERSION, &SMALL))?;
+    std::fs::write(folder.join("small.pf"), sound(&SMALL))?;
     std::fs::write(folder.join("player.pf"), typical::file_of(&PLAYER, 26, &SMALL))?;
     let unpacked = typical::file(30, &SMALL);
     std::fs::write(folder.join("unpacked.pf"), &unpacked)?;
     std::fs::write(folder.join("form.pf"), another_form(&unpacked))?;
-    let good = typical::file(VERSION, &TYPICAL);
+    let good = sound(&TYPICAL);
     std::fs::write(folder.join("good.pf"), &good)?;
     std::fs::write(folder.join("cut.pf"), &good[..100_000])?;
     let faults: [(&str, fn(&mut [u8])); 6] = [
@@ -56,6 +57,10 @@ fn write_all(folder: &Path) -> io::Result<()> {
         std::fs::write(folder.join(name), file)?;
     }
     Ok(())
+}
+
+fn sound(amounts: &Amounts) -> Vec<u8> {
+    test_file(&CHAMBER, VERSION, amounts).write().expect("a sound file")
 }
 
 fn wrong_version(file: &mut [u8]) {

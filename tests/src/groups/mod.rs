@@ -16,6 +16,8 @@ mod readers;
 mod version_30;
 mod volumes;
 mod walks;
+mod write_points;
+pub mod writes;
 
 /// What a run is asked for.
 pub struct Run {
@@ -45,5 +47,6 @@ pub const GROUPS: &[Group] = &[
     ("queries", queries::run),
     ("version_30", version_30::run),
     ("walks", walks::run),
+    ("writes", writes::run),
     ("listing", listing::run),
 ];

@@ -14,3 +14,4 @@ pub mod search;
 pub mod trace;
 pub mod volumes;
 pub mod walk;
+pub mod writer;

@@ -33,6 +33,11 @@
 //! walk alone, which is that of the library less its whole-file reader, and the
 //! whole of both.
 //!
+//! bench write
+//!
+//! The writer on what files as Windows has them say, of 150 KB and 16 MB,
+//! beside that of `plain`.
+//!
 //! The two run turn and turn about on the same input, and medians are shown.
 
 mod hashes;
@@ -43,6 +48,7 @@ mod search;
 mod timing;
 mod trace;
 mod walk;
+mod write;
 
 use std::process::ExitCode;
 
@@ -55,8 +61,9 @@ fn main() -> ExitCode {
         Some("overlap") => overlap::run(),
         Some("search") => search::run(),
         Some("walk") => walk::run(),
+        Some("write") => write::run(),
         _ => {
-            eprintln!("bench hashes | powers | readers | trace | overlap | search | walk");
+            eprintln!("bench hashes | powers | readers | trace | overlap | search | walk | write");
             return ExitCode::from(2);
         }
     }

@@ -1,0 +1,15 @@
+pub mod Facts
+pub mod Bytes
+pub mod Spread
+pub mod Patch
+pub mod Entries
+pub mod Behind
+pub mod Planning
+pub mod Deciding
+pub mod Name
+pub mod Head
+pub mod Laid
+pub mod Sections
+pub mod Runs
+pub mod Whole
+pub mod Answering

@@ -1,0 +1,75 @@
+-- The first i bytes are there after i turns.
+use mathlib.Core.Path.{_≡_, refl, sym, ap, _∙_}
+use mathlib.Core.List.{[], _∷_}
+use Prim.Native.Nat.{ℕ, _+_, _-_, _≤_}
+use native.Mathlib.Omega.{arith}
+use lib.ListN.{length, take, length-take}
+use lib.Seq.{take-all}
+use Rattle.writer.specs.Private.{patch}
+use Rattle.writer.proofs.Patch.{patch-none, patch-one, then-laid, laid-long, bytes-more}
+use borrow.Author.Needs.{needs}
+use Rattle.writer.proofs.put_bytes.Statement.{statement}
+use Rattle.writer.proofs.put_bytes.Tie as tie
+
+abbrev Inv-loop : tie.InvT-loop
+Inv-loop output₀ at bytes i₀ output i =
+    (i ≤ length bytes) × (output ≡ patch output₀ at (take i bytes))
+
+abbrev μ-loop : tie.MeasureT-loop
+μ-loop output₀ at bytes i₀ output i =
+    length bytes - i
+
+long : (c : tie.At-loop Inv-loop μ-loop) → length (c .loop .output) ≡ length (c .before .args .output .now)
+long c = laid-long _ _ _ _ (c .loop .inv .1) (omega (arith, length-take (c .loop .i) (c .before .args .bytes .now), c .before .pre))
+
+loop-holds : tie.Need-loop-holds Inv-loop μ-loop
+loop-holds c = (omega arith, sym (patch-none _ _))
+
+shared-slice-read-output : tie.Need-shared-slice-read-output Inv-loop μ-loop
+shared-slice-read-output c = search needs
+
+add-output : tie.Need-add-output Inv-loop μ-loop
+add-output c = let b = c .before .before in omega (arith, b .before .pre, b .before .good)
+
+slice-write-output : tie.Need-slice-write-output Inv-loop μ-loop
+slice-write-output c = let b = c .before .before in omega (arith, b .before .pre, long b)
+
+add-i : tie.Need-add-i Inv-loop μ-loop
+add-i c = search needs
+
+loop-less : tie.Need-loop-less Inv-loop μ-loop
+loop-less c = search needs
+
+loop-again : tie.Need-loop-again Inv-loop μ-loop
+loop-again c =
+    let b = c .before .before in
+    let n = length-take (b .loop .i) (b .before .args .bytes .now) in (
+      omega arith,
+      then-laid _ _ _ _ _ _ _ (b .before .args .at + b .loop .i) (b .loop .inv .1) (patch-one _ _ _ (omega (arith, b .before .pre, long b)))
+          (omega (arith, n)) (omega (arith, n, b .before .pre))
+          (bytes-more (b .before .args .bytes .now) (b .loop .i) (omega arith)),
+    )
+
+same-length : tie.Need-same-length Inv-loop μ-loop
+same-length c = long (c .before)
+
+returns : tie.Need-returns Inv-loop μ-loop
+returns c =
+    c .before .loop .inv .1 ∙ ap (patch (c .before .before .args .output .now) (c .before .before .args .at)) (take-all (c .before .loop .i)
+    (c .before .before .args .bytes .now) (omega arith))
+
+pub put-bytes-spec : {M : Type 1} → statement M
+put-bytes-spec =
+    tie.close
+    (tie.spec
+    Inv-loop
+    μ-loop
+    loop-holds
+    shared-slice-read-output
+    add-output
+    slice-write-output
+    add-i
+    loop-less
+    loop-again
+    same-length
+    returns)

@@ -1,0 +1,30 @@
+-- Zeros, and the number behind them.
+use mathlib.Core.Path.{refl}
+use Prim.Native.Nat.{ℕ, _-_}
+use native.Mathlib.Omega.{arith}
+use lib.ListN.{length-replicate}
+use Rattle.writer.proofs.Patch.{then-laid}
+use borrow.Author.Needs.{needs}
+use Rattle.writer.proofs.put_field.Statement.{statement}
+use Rattle.writer.proofs.put_field.Tie as tie
+
+put-zeros-requires : tie.Need-put-zeros-requires
+put-zeros-requires c κs = search needs
+
+put-u32-requires : tie.Need-put-u32-requires
+put-u32-requires c κs = search needs
+
+same-length : tie.Need-same-length
+same-length c = search needs
+
+returns : tie.Need-returns
+returns c =
+    let put = c .before .before in
+    let zeros = put .before .before .before .before in
+    let start = zeros .before .before .before in
+    let n = length-replicate {A = ℕ} (start .args .at - start .args .from) 0 in
+    then-laid _ _ _ _ _ _ _ _ (zeros .put-zeros .ensures) (put .put-u32 .ensures) (omega (arith, n, start .pre .0))
+    (omega (arith, n, start .pre .0, start .pre .1)) refl
+
+pub put-field-spec : {M : Type 1} → statement M
+put-field-spec = tie.close (tie.spec put-zeros-requires put-u32-requires same-length returns)

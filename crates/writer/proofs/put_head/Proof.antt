@@ -1,0 +1,95 @@
+-- Three numbers, the name, the fields behind it, and zeros.
+use mathlib.Core.Path.{_≡_, refl, _∙_}
+use mathlib.Core.List.{[]}
+use Prim.Native.Nat.{_+_, _*_, _≤_}
+use native.Mathlib.Omega.{arith}
+use lib.ListN.{length, take, length-take}
+use Rattle.writer.specs.LaidOut.{unitBytes}
+use Rattle.writer.proofs.Bytes.{length-units}
+use Rattle.writer.proofs.Patch.{four-laid}
+use Rattle.writer.proofs.Behind.{first-ordered, first-long, behind-long, head-pieces}
+use borrow.Author.Needs.{needs}
+use Rattle.writer.proofs.put_head.Statement.{statement}
+use Rattle.writer.proofs.put_head.Tie as tie
+
+slice-aggregate-put-numbers : tie.Need-slice-aggregate-put-numbers
+slice-aggregate-put-numbers c = search needs
+
+slice-aggregate-put-numbers-2 : tie.Need-slice-aggregate-put-numbers-2
+slice-aggregate-put-numbers-2 c = search needs
+
+put-numbers-requires : tie.Need-put-numbers-requires
+put-numbers-requires c κs =
+    let s = c .before .before .before .before .before in
+    (refl, first-ordered (s .args .l) (s .pre .0) (s .args .p) (s .args .g) (s .args .version) [] (omega arith) _ (s .pre .1))
+
+put-units-requires : tie.Need-put-units-requires
+put-units-requires c κs = search needs
+
+mul-put-fields : tie.Need-mul-put-fields
+mul-put-fields c = search needs
+
+add-put-fields : tie.Need-add-put-fields
+add-put-fields c = search needs
+
+put-fields-requires : tie.Need-put-fields-requires
+put-fields-requires c κs = search needs
+
+cast-put-zeros : tie.Need-cast-put-zeros
+cast-put-zeros c = search needs
+
+add-put-zeros : tie.Need-add-put-zeros
+add-put-zeros c = search needs
+
+cast-put-zeros-2 : tie.Need-cast-put-zeros-2
+cast-put-zeros-2 c = search needs
+
+put-zeros-requires : tie.Need-put-zeros-requires
+put-zeros-requires c κs =
+    let fields = c .before .before .before .before .before in
+    let units = fields .before .before .before .before in
+    let numbers = units .before .before .before .before in
+    let s = numbers .before .before .before .before .before .before in (
+      omega (arith, s .pre .0 .head, s .pre .0 .section),
+      omega
+          (arith, fields .put-fields .kept .0, units .put-units .kept .0, numbers .put-numbers .kept .0, s .pre .1),
+    )
+
+same-length : tie.Need-same-length
+same-length c = search needs
+
+returns : tie.Need-returns
+returns c =
+    let zeros = c .before .before in
+    let fields = zeros .before .before .before .before .before .before in
+    let units = fields .before .before .before .before in
+    let numbers = units .before .before .before .before in
+    let s = numbers .before .before .before .before .before .before in
+    let w = s .pre .0 in
+    let us = take (s .args .units) (s .args .name .now) in
+    let few : length us ≡ s .args .units = length-take (s .args .units) (s .args .name .now) ∙ omega arith in
+    let at-most : length us ≤ 30 = omega arith in
+    let x = first-long (s .args .l) w (s .args .p) (s .args .g) (s .args .version) us at-most in
+    let y = length-units us in
+    let z = rw few at (behind-long (s .args .l) w (s .args .p) (s .args .g) (s .args .version) us at-most) in
+    let whole = rw few at (head-pieces (s .args .l) w (s .args .p) (s .args .g) (s .args .version) us at-most) in
+    four-laid _ _ _ _ _ _ _ _ _ _ _ _ _ _ (numbers .put-numbers .ensures) (units .put-units .ensures) (fields .put-fields .ensures) (zeros .put-zeros .ensures)
+    (omega (arith, x)) (omega (arith, y)) (omega (arith, z, w .run-time, w .run-count)) (omega (arith, w .head, w .section, s .pre .1)) whole
+
+pub put-head-spec : {M : Type 1} → statement M
+put-head-spec =
+    tie.close
+    (tie.spec
+    slice-aggregate-put-numbers
+    slice-aggregate-put-numbers-2
+    put-numbers-requires
+    put-units-requires
+    mul-put-fields
+    add-put-fields
+    put-fields-requires
+    cast-put-zeros
+    add-put-zeros
+    cast-put-zeros-2
+    put-zeros-requires
+    same-length
+    returns)

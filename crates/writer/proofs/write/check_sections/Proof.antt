@@ -1,0 +1,90 @@
+-- 7 and 8, and the rest where they pass.
+use Rattle.sections.proofs.Cases.{places-met, entries-met}
+use Rattle.writer.proofs.Deciding.{too-few, too-crowded, tables-decide}
+use borrow.Author.Needs.{needs}
+use Rattle.writer.proofs.write.check_sections.Statement.{statement}
+use Rattle.writer.proofs.write.check_sections.Tie as tie
+
+places-fault-requires : tie.Need-places-fault-requires
+places-fault-requires c κs = search needs
+
+enum-known-i : tie.Need-enum-known-i
+enum-known-i c = search needs
+
+refuse-requires : tie.Need-refuse-requires
+refuse-requires c κs = search needs
+
+returns : tie.Need-returns
+returns c =
+    let arm = c .before .before in
+    let places = arm .before .before in
+    let s = places .before .before .before .before .before .before in
+    too-few (s .args .l) (s .args .p) (s .args .g) _ _ _ _ _ (s .pre) _ _ _ _ _ (places .places-fault .ensures) (arm .i .given .1) (c .refuse .ensures)
+
+enum-told : tie.Need-enum-told
+enum-told c = search needs
+
+entries-fault-requires : tie.Need-entries-fault-requires
+entries-fault-requires c κs = search needs
+
+enum-known-i-2 : tie.Need-enum-known-i-2
+enum-known-i-2 c = search needs
+
+refuse-requires-2 : tie.Need-refuse-requires-2
+refuse-requires-2 c κs = search needs
+
+returns-2 : tie.Need-returns-2
+returns-2 c =
+    let arm = c .before .before in
+    let entries = arm .before .before in
+    let told = entries .before in
+    let places = told .before .before in
+    let s = places .before .before .before .before .before .before in
+    too-crowded (s .args .l) (s .args .p) (s .args .g) _ _ _ _ _ (s .pre) _ _ _ _ _ _ (places .places-fault .ensures) (told .enum-told .given .1)
+    (entries .entries-fault .ensures) (arm .i2 .given .1) (c .refuse2 .ensures)
+
+enum-told-2 : tie.Need-enum-told-2
+enum-told-2 c = search needs
+
+check-tables-requires : tie.Need-check-tables-requires
+check-tables-requires c κs =
+    let fits = c .before in
+    let entries = fits .before .before in
+    let told = entries .before in
+    let places = told .before .before in (
+      places-met _ _ _ (places .places-fault .ensures) (told .enum-told .given .1),
+      entries-met _ _ _ _ (entries .entries-fault .ensures)
+          (fits .enum-told2 .given .1),
+    )
+
+same-length : tie.Need-same-length
+same-length c = search needs
+
+returns-3 : tie.Need-returns-3
+returns-3 c =
+    let tables = c .before .before in
+    let fits = tables .before .before in
+    let entries = fits .before .before in
+    let told = entries .before in
+    let places = told .before .before in
+    let s = places .before .before .before .before .before .before in
+    tables-decide (s .args .l) (s .args .p) (s .args .g) _ _ _ _ _ (s .pre) _ _ _ _ (places .places-fault .ensures) (told .enum-told .given .1)
+    (entries .entries-fault .ensures) (fits .enum-told2 .given .1) (tables .check-tables .ensures)
+
+pub check-sections-spec : {M : Type 1} → statement M
+check-sections-spec =
+    tie.close
+    (tie.spec
+    places-fault-requires
+    enum-known-i
+    refuse-requires
+    returns
+    enum-told
+    entries-fault-requires
+    enum-known-i-2
+    refuse-requires-2
+    returns-2
+    enum-told-2
+    check-tables-requires
+    same-length
+    returns-3)

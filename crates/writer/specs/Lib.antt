@@ -1,0 +1,3 @@
+pub mod LaidOut
+pub mod Writes
+pub mod Private
