@@ -1,5 +1,5 @@
 /* Hivesaddle: a reader of Windows Prefetch (SCCA) files, versions 17, 23, 26 and 30, uncompressed, and a writer of
- * files of versions 17 and 23 to test with.
+ * files of versions 17 and 23 to test with. It also looks up in a temperature recording what a board had at each start.
  *
  * Link with libhivesaddle.a. It needs memcpy and memset and nothing else: it allocates nothing, keeps nothing between
  * calls, and does no input or output. Calls with different lists may run at the same time.
@@ -78,7 +78,7 @@ enum hs_reader_out {
     HS_READER_OUT = 22 /* length of an out that holds them all */
 };
 
-/* In a slot of predecessors: no entry. */
+/* In a slot of predecessors: no entry. In every place of the replay's work afterwards. */
 #define HS_NONE 4294967295u
 
 uint32_t hs_read_prefix(const uint8_t *file, size_t length, uint32_t *predecessors, size_t places, uint64_t *out,
@@ -133,6 +133,7 @@ uint32_t hs_places(const uint8_t *file, size_t length, uint64_t *out, size_t out
  *  18                hs_catalogue_read only: not a catalogue line
  *  19                hs_catalogue_write only: fields that form no line, or an output below 27 bytes
  *  20                hs_write_file only: output is shorter than the file                  0                    0
+ *  22                hs_replay only: a line of the recording is no reading
  *  23                hs_walk only: order has fewer places than there are trace entries    0                    0
  *  25                hs_hash_swap and hs_hash_swap_bytes only: p exceeds the length of old
  *
@@ -296,6 +297,36 @@ uint32_t hs_catalogue_read(const uint8_t *line, size_t length, uint64_t *out, si
 /* 0 with the line in the first 27 bytes of output, the rest left alone; or 19 with nothing written. */
 uint32_t hs_catalogue_write(uint32_t size, uint32_t stored_hash, uint32_t run_count, uint32_t version, uint8_t *output,
                             size_t length);
+
+/* ---- The replay of a recording ----
+ *
+ * A recording has one reading a line: 22 digits 0-9 A-F and a line feed, being a run time (16), a board number (2) and a
+ * temperature in tenths of a degree (4), most significant digit first. The temperature is 16 bits two's complement: FF38
+ * is 20.0 below zero, 0514 is 130.0 above. Times are unsigned.
+ *
+ * hs_replay answers each program start, a run time and a board, in the order of the starts: with the reading of that board
+ * whose time is the greatest not after the start's, the one later in the recording among equal times, or with none.
+ * Readings may be out of time order, and starts may repeat. Start k is times[k] and boards[k]; there are as many as the
+ * shorter of the two lists has.
+ *
+ * answers takes HS_ANSWER_LENGTH numbers for each start: 1, time, board, temperature as its 16 bits stand (0 to 65,535;
+ * (int16_t)(uint16_t) makes tenths of it), or four zeros for none. As many whole answers as fit are written. All else of
+ * it is left alone, also one to three last numbers that hold no whole answer.
+ *
+ * work takes one place for each start, to hold their order. With fewer the recording is gone through more than once, once
+ * for each so many starts, and without any once for each start. Its length changes no answer. Afterwards each of its places
+ * holds HS_NONE, whatever the answer.
+ *
+ * Gives 0, or 22 where a line is no reading, a last one without its line feed too. Then out has the number of the first such
+ * line, from 1, and every answer is none. An empty line, a carriage return and a lowercase digit are bad; a recording of no
+ * bytes has no line and is good.
+ * out: line number, 0 where all lines are good. */
+#define HS_ANSWER_LENGTH 4
+#define HS_READING_LINE_LENGTH 23
+
+uint32_t hs_replay(const uint8_t *recording, size_t length, const uint64_t *times, size_t times_length,
+                   const uint8_t *boards, size_t boards_length, uint32_t *work, size_t work_length, uint64_t *answers,
+                   size_t answers_length, uint64_t *out, size_t out_length);
 
 #ifdef __cplusplus
 }

@@ -3,10 +3,12 @@
  *
  *   0      the call, CALLS and above: all of them
  *   1      bits 0 to 2: file, table and out lie behind or before a page that cannot be touched; 3, 4: pointer of an empty
- *          list; 5, 6: an odd last number in the metrics and the trace of a file to be written
+ *          list; 5, 6: an odd last number in the metrics and the trace of a file to be written; 7: a recording is given
+ *          as bytes, eleven for each line
  *   2      length of out, 0 to 3 more than the readers write
  *   3      low four bits: slots, as the file's trace count says, one fewer, one more, none, or as bytes 4, 5 say; high
- *          four: bytes of the output for a file, chosen likewise by its size
+ *          four: bytes of the output for a file, chosen likewise by its size. Of a replay the low four choose the places
+ *          of work, by the number of starts
  *   4      slots, or bytes of that output, 2 bytes
  *   6      2 bytes: 0 for the whole file, else a cut behind that many bytes less one
  *   8, 16  i and k; the four fields of a line to be written; of a swap, p and the old hash; k is how many units the name
@@ -14,8 +16,9 @@
  *   24     seed of the noise
  *   28     length of the output for a line, 0 to 39
  *   29     low four bits: length of the list of pairs, 0 to 15; high four: places for the order of a walk, chosen
- *          as the slots are, with bytes 4, 5 for any
- *   30     2 bytes: how many of the file's last bytes are the start of a swap
+ *          as the slots are, with bytes 4, 5 for any, or numbers for the answers of a replay
+ *   30     2 bytes: how many of the file's last bytes are the start of a swap, or the starts of a replay, nine for each;
+ *          what stands before them is its recording. Bits 0, 1 of i: 2, 3: half as many boards, or times
  *
  * A file is written from what the file says: the fields of its head, and of its sections what lies in its bytes.
  */
@@ -54,35 +57,38 @@ uint32_t judge_hash_swap(uint32_t, const uint32_t *, size_t, uint64_t, const uin
 uint32_t judge_hash_swap_bytes(uint32_t, const uint8_t *, size_t, uint64_t, const uint8_t *, size_t, uint64_t *, size_t);
 uint32_t judge_catalogue_read(const uint8_t *, size_t, uint64_t *, size_t);
 uint32_t judge_catalogue_write(uint32_t, uint32_t, uint32_t, uint32_t, uint8_t *, size_t);
+uint32_t judge_replay(const uint8_t *, size_t, const uint64_t *, size_t, const uint8_t *, size_t, uint32_t *, size_t,
+                      uint64_t *, size_t, uint64_t *, size_t);
 
 enum call {
     READ_PREFIX, READ_FILE, PROGRAM_NAME, ENTRY_NAME, VOLUME, REFERENCE, FIND_PATH, HASH_XP, HASH_VISTA, HASH_2008,
     HASH_XP_BYTES, HASH_VISTA_BYTES, HASH_2008_BYTES, CATALOGUE_READ, CATALOGUE_WRITE, PLACES, LIST_PATHS,
-    HASH_POWERS, HASH_POWERS_BYTES, HASH_SWAP, HASH_SWAP_BYTES, WALK, WRITE_FILE, CALLS
+    HASH_POWERS, HASH_POWERS_BYTES, HASH_SWAP, HASH_SWAP_BYTES, WALK, WRITE_FILE, REPLAY, CALLS
 };
 static const char *const names[CALLS] = {
     "read_prefix", "read_file", "program_name", "entry_name", "volume", "reference", "find_path", "hash_xp", "hash_vista",
     "hash_2008", "hash_xp_bytes", "hash_vista_bytes", "hash_2008_bytes", "catalogue_read", "catalogue_write", "places",
-    "list_paths", "hash_powers", "hash_powers_bytes", "hash_swap", "hash_swap_bytes", "walk", "write_file"
+    "list_paths", "hash_powers", "hash_powers_bytes", "hash_swap", "hash_swap_bytes", "walk", "write_file", "replay"
 };
 
 /* ---- What has been seen, as the library answered ---- */
 
 /* The greatest refusal number of the readers is 21, that of the walk 23. */
-enum { ANSWERS = 26, REFUSALS = 24 };
-static uint64_t calls[CALLS], answers[CALLS][ANSWERS], refusals[2][REFUSALS], accepted[2][32], numbers_found[9];
-static uint64_t walk_refusals[REFUSALS], large_totals, write_refusals[REFUSALS], written[32];
+enum { CODES = 26, REFUSALS = 24 };
+static uint64_t calls[CALLS], answers[CALLS][CODES], refusals[2][REFUSALS], accepted[2][32], numbers_found[9];
+static uint64_t walk_refusals[REFUSALS], large_totals, write_refusals[REFUSALS], written[32], readings_found, bad_later;
 
 static void count(enum call call, uint64_t code, const uint64_t *out, size_t out_length) {
     calls[call]++;
     if ((call >= HASH_XP && call <= HASH_2008_BYTES) || call == HASH_POWERS || call == HASH_POWERS_BYTES) return;
-    if (call == LIST_PATHS && code >= ANSWERS) code = ANSWERS - 1; /* that many pairs, or more */
+    if (call == LIST_PATHS && code >= CODES) code = CODES - 1; /* that many pairs, or more */
     answers[call][code]++;
     if (call == FIND_PATH && code == 1 && out_length > 1) numbers_found[out[1]]++;
     if (call == WALK && code == HS_REFUSED && out_length > HS_WALK_NUMBER) walk_refusals[out[HS_WALK_NUMBER]]++;
     if (call == WALK && out_length > HS_WALK_TOTAL) large_totals += out[HS_WALK_TOTAL] > UINT32_MAX;
     if (call == WRITE_FILE && code == HS_REFUSED && out_length > HS_NUMBER) write_refusals[out[HS_NUMBER]]++;
     if (call == WRITE_FILE && code == HS_ACCEPTED && out_length > HS_VERSION) written[out[HS_VERSION]]++;
+    if (call == REPLAY && code == 22 && out_length > 0) bad_later += out[0] > 1;
     if (call <= READ_FILE && code == HS_REFUSED && out_length > HS_NUMBER) refusals[call][out[HS_NUMBER]]++;
     if (call <= READ_FILE && code == HS_ACCEPTED && out_length > HS_VERSION) accepted[call][out[HS_VERSION]]++;
 }
@@ -90,7 +96,7 @@ static void count(enum call call, uint64_t code, const uint64_t *out, size_t out
 static void report(void) {
     for (int call = 0; call < CALLS; call++) {
         fprintf(stderr, "seen: %s: %lu calls", names[call], calls[call]);
-        for (int code = 0; code < ANSWERS; code++)
+        for (int code = 0; code < CODES; code++)
             if (answers[call][code]) fprintf(stderr, ", %d: %lu", code, answers[call][code]);
         fputc('\n', stderr);
     }
@@ -111,6 +117,7 @@ static void report(void) {
     for (int number = 0; number < REFUSALS; number++)
         if (write_refusals[number]) fprintf(stderr, ", %d: %lu", number, write_refusals[number]);
     fputc('\n', stderr);
+    fprintf(stderr, "seen: replay: readings found: %lu; bad lines behind the first: %lu\n", readings_found, bad_later);
     fprintf(stderr, "seen: find_path: by number");
     for (int number = 0; number <= 8; number++) fprintf(stderr, ", %d: %lu", number, numbers_found[number]);
     fputc('\n', stderr);
@@ -233,10 +240,76 @@ static void write_both(const struct input *in, uint64_t *given, uint64_t *expect
         if (memcmp(kept[list], lists[list].start, lists[list].bytes)) differ(WRITE_FILE, "a list was changed");
 }
 
+/* ---- What is replayed ---- */
+
+/* By some number: as it is, one fewer, one more, none, or any to the most. */
+static size_t chosen(uint8_t choice, const uint8_t *control, size_t exact, size_t most) {
+    switch (choice % 8) {
+    case 0: case 1: case 2: return exact;
+    case 3: return exact ? exact - 1 : 0;
+    case 4: return exact + 1;
+    case 5: return 0;
+    default: return number(control + 4, 2) % (most + 1);
+    }
+}
+
+/* The bytes as they are, or each eleven of them as a line of digits. */
+static void lay_recording(const struct input *in, size_t bytes) {
+    size_t lines = bytes / 11 < MOST_FILE / HS_READING_LINE_LENGTH ? bytes / 11 : MOST_FILE / HS_READING_LINE_LENGTH;
+    if (!(in->control[1] & 128)) {
+        lay_copy(RECORDING, in->bytes, bytes, in->control[1] & 1);
+        return;
+    }
+    lay(&lists[RECORDING], lines * HS_READING_LINE_LENGTH, in->control[1] & 1);
+    uint8_t *to = lists[RECORDING].start;
+    for (size_t i = 0; i < 11 * lines; i++) {
+        *to++ = "0123456789ABCDEF"[in->bytes[i] >> 4];
+        *to++ = "0123456789ABCDEF"[in->bytes[i] & 15];
+        if (i % 11 == 10) *to++ = '\n';
+    }
+}
+
+/* Time and board, most significant byte first as the lines have them. Gives how many starts there are. */
+static size_t lay_starts(const struct input *in, uint64_t i, const uint8_t *bytes) {
+    size_t starts = in->start_length / 9 < MOST_STARTS ? in->start_length / 9 : MOST_STARTS;
+    size_t times = i % 4 == 3 ? starts / 2 : starts, boards = i % 4 == 2 ? starts / 2 : starts;
+    lay(&lists[TIMES], 8 * times, in->control[1] & 2);
+    lay(&lists[BOARDS], boards, in->control[1] & 4);
+    for (size_t k = 0; k < times; k++) {
+        uint64_t time = 0;
+        for (size_t j = 0; j < 8; j++) time = 256 * time + bytes[9 * k + j];
+        memcpy(lists[TIMES].start + 8 * k, &time, 8);
+    }
+    for (size_t k = 0; k < boards; k++) lists[BOARDS].start[k] = bytes[9 * k + 8];
+    return times < boards ? times : boards;
+}
+
+static void replay_both(const struct input *in, uint64_t i, uint64_t *given, uint64_t *expected) {
+    static uint8_t kept[LISTS][ROOM];
+    size_t recording = in->length - in->start_length, starts = lay_starts(in, i, in->bytes + recording);
+    size_t work = chosen(in->control[3], in->control, starts, MOST_PLACES);
+    size_t numbers = chosen(in->control[29] >> 4, in->control, 4 * starts, 4 * MOST_STARTS);
+    lay_recording(in, recording);
+    lay_pair(WORK, JUDGE_WORK, 4 * work, in->control[1] & 2);
+    lay_pair(ANSWERS, JUDGE_ANSWERS, 8 * numbers, in->control[1] & 4);
+    for (int list = RECORDING; list <= BOARDS; list++) memcpy(kept[list], lists[list].start, lists[list].bytes);
+#define REPLAY_BY(function, work_list, answers_list, out)                                                                \
+    function(pointer(&lists[RECORDING]), lists[RECORDING].bytes, pointer(&lists[TIMES]), lists[TIMES].bytes / 8,           \
+             pointer(&lists[BOARDS]), lists[BOARDS].bytes, pointer(&lists[work_list]), work, pointer(&lists[answers_list]), \
+             numbers, pointer(&lists[out]), in->out_length)
+    *given = REPLAY_BY(hs_replay, WORK, ANSWERS, OUT);
+    *expected = REPLAY_BY(judge_replay, JUDGE_WORK, JUDGE_ANSWERS, JUDGE_OUT);
+    same_list(REPLAY, "work", WORK, JUDGE_WORK);
+    same_list(REPLAY, "answers", ANSWERS, JUDGE_ANSWERS);
+    for (int list = RECORDING; list <= BOARDS; list++)
+        if (memcmp(kept[list], lists[list].start, lists[list].bytes)) differ(REPLAY, "a list was changed");
+    for (size_t k = 0; k < starts && 4 * k + 3 < numbers; k++) readings_found += ((uint64_t *)lists[ANSWERS].start)[4 * k];
+}
+
 static void one_call(enum call call, const struct input *in, uint64_t i, uint64_t k) {
     int flags = in->control[1];
     size_t n = in->length, count_32 = n / 4, line = in->control[28] % 40, pairs = in->control[29] % 16;
-    lay_pair(TABLE, JUDGE_TABLE, call <= READ_FILE || call >= WALK ? 4 * in->places : 0, flags & 2);
+    lay_pair(TABLE, JUDGE_TABLE, call <= READ_FILE || call == WALK || call == WRITE_FILE ? 4 * in->places : 0, flags & 2);
     lay_pair(OUT, JUDGE_OUT, 8 * in->out_length, flags & 4);
     lay_pair(LINE, JUDGE_LINE, line, flags & 4);
     lay_pair(PAIRS, JUDGE_PAIRS, 4 * pairs, flags & 2);
@@ -342,6 +415,7 @@ static void one_call(enum call call, const struct input *in, uint64_t i, uint64_
         expected = judge_walk(file, n, judge_table, p, pointer(&lists[JUDGE_ORDER]), w, judge_out, o);
         break;
     case WRITE_FILE: write_both(in, &given, &expected); break;
+    case REPLAY: replay_both(in, i, &given, &expected); break;
     default: abort();
     }
     if (given != expected) {
@@ -379,19 +453,6 @@ static void all_calls(const struct input *in) {
     }
 }
 
-/* Slots for the table, or places for the order. */
-static size_t places(uint8_t choice, const uint8_t *control, const uint8_t *bytes, size_t length) {
-    size_t traces = length >= 100 ? number(bytes + 96, 4) : 0;
-    if (traces > MOST_PLACES) traces = MOST_PLACES;
-    switch (choice % 8) {
-    case 0: case 1: case 2: return traces;
-    case 3: return traces ? traces - 1 : 0;
-    case 4: return traces + 1;
-    case 5: return 0;
-    default: return number(control + 4, 2) % (MOST_PLACES + 1);
-    }
-}
-
 int LLVMFuzzerTestOneInput(const uint8_t *data, size_t size) {
     uint8_t control[CONTROL] = {0};
     size_t head = size < CONTROL ? size : CONTROL;
@@ -401,8 +462,10 @@ int LLVMFuzzerTestOneInput(const uint8_t *data, size_t size) {
     size_t cut = number(control + 6, 2);
     if (cut && cut - 1 < in.length) in.length = cut - 1;
     in.out_length = control[2] % (HS_READER_OUT + 4);
-    in.places = places(control[3], control, in.bytes, in.length);
-    in.order_length = places(control[29] >> 4, control, in.bytes, in.length);
+    size_t traces = in.length >= 100 ? number(in.bytes + 96, 4) : 0;
+    if (traces > MOST_PLACES) traces = MOST_PLACES;
+    in.places = chosen(control[3], control, traces, MOST_PLACES);
+    in.order_length = chosen(control[29] >> 4, control, traces, MOST_PLACES);
     in.i = number(control + 8, 8);
     in.k = number(control + 16, 8);
     in.start_length = number(control + 30, 2) % (in.length + 1);

@@ -10,10 +10,11 @@ mod numbers;
 #[path = "../src/reference/mod.rs"]
 mod reference;
 
-use numbers::{numbers_of, walk_numbers};
+use numbers::{numbers_of, replay_numbers, walk_numbers};
 use reference::catalogue::{self, Fields};
 use reference::head::{section, VOLUMES};
 use reference::readers::{read_file, read_prefix, Answer};
+use reference::replay::{replay, starts_of};
 use reference::search::{find_path, list_paths};
 use reference::walk::walk;
 use reference::writer::{self, Description};
@@ -350,4 +351,29 @@ pub unsafe extern "C" fn judge_catalogue_write(
         }
         _ => 19,
     }
+}
+
+/// As many whole answers as fit.
+#[no_mangle]
+pub unsafe extern "C" fn judge_replay(
+    recording: *const u8,
+    length: usize,
+    times: *const u64,
+    times_length: usize,
+    boards: *const u8,
+    boards_length: usize,
+    work: *mut u32,
+    work_length: usize,
+    answers: *mut u64,
+    answers_length: usize,
+    out: *mut u64,
+    out_length: usize,
+) -> u32 {
+    let starts = starts_of(list(times, times_length), list(boards, boards_length));
+    let replayed = replay(list(recording, length), &starts);
+    let (code, line, numbers) = replay_numbers(&replayed, starts.len());
+    write(work, work_length, &vec![constants::HS_NONE; work_length]);
+    write(answers, answers_length / 4 * 4, &numbers);
+    write(out, out_length, &line);
+    code
 }

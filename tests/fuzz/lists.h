@@ -3,7 +3,8 @@
 #include <stdlib.h>
 #include <sys/mman.h>
 
-enum { PAGE = 4096, ROOM = 8 * PAGE, MARGIN = 32, CONTROL = 32, MOST_PLACES = 4096, MOST_FILE = ROOM - MARGIN };
+enum { PAGE = 4096, ROOM = 8 * PAGE, MARGIN = 32, CONTROL = 32, MOST_PLACES = 4096, MOST_STARTS = 500 };
+enum { MOST_FILE = ROOM - MARGIN };
 
 struct list {
     uint8_t *room; /* ROOM bytes */
@@ -12,7 +13,8 @@ struct list {
 };
 enum {
     FILE_LIST, NUMBERS, START, TABLE, JUDGE_TABLE, OUT, JUDGE_OUT, LINE, JUDGE_LINE, PAIRS, JUDGE_PAIRS, ORDER,
-    JUDGE_ORDER, OUTPUT, JUDGE_OUTPUT, NAME, METRICS, TRACE, STRINGS, VOLUMES, LISTS
+    JUDGE_ORDER, OUTPUT, JUDGE_OUTPUT, NAME, METRICS, TRACE, STRINGS, VOLUMES, RECORDING, TIMES, BOARDS, WORK, JUDGE_WORK,
+    ANSWERS, JUDGE_ANSWERS, LISTS
 };
 static struct list lists[LISTS];
 static int empty_pointer;

@@ -1,12 +1,13 @@
 //! seeds FOLDER FILE..
 //!
 //! Writes inputs for the fuzzer to start from: the files given, and of each version sound files, a file damaged for
-//! each check that it can fail, and cuts; chains to walk; files to write; lines; and lists around the end of the table
-//! of powers. The same bytes every time.
+//! each check that it can fail, and cuts; chains to walk; files to write; lines; lists around the end of the table of
+//! powers; and recordings with starts. The same bytes every time.
 
 use compare::generate::bare::with_blocks;
 use compare::generate::cuts::cuts;
 use compare::generate::damage::{aims_of, damage};
+use compare::generate::recordings::{any_case, spoil, Case};
 use compare::generate::{sound_of, Counts, Sample};
 use compare::random::Random;
 use compare::reference::layout::{END, LAYOUTS};
@@ -22,6 +23,7 @@ const HASH_POWERS: u8 = 17;
 const HASH_SWAP_BYTES: u8 = 20;
 const WALK: u8 = 21;
 const WRITE_FILE: u8 = 22;
+const REPLAY: u8 = 23;
 /// Slots as the trace count says, or one fewer; above them the same for the places of a walk's order.
 const EXACT: u8 = 0;
 const FEWER: u8 = 3;
@@ -31,6 +33,8 @@ const ORDER_MORE: u8 = 4 << 4;
 const OUTPUT_FEWER: u8 = 3 << 4;
 const OUTPUT_MORE: u8 = 4 << 4;
 const ODD_NUMBERS: u8 = 3 << 5;
+/// The recording as bytes.
+const AS_BYTES: u8 = 1 << 7;
 
 struct Seeds {
     folder: PathBuf,
@@ -168,6 +172,43 @@ impl Seeds {
         }
         Ok(())
     }
+
+    /// As text and as bytes, with places for each start, one fewer and one more; and bad lines.
+    fn replays(&mut self, random: &mut Random) -> io::Result<()> {
+        for places in [EXACT, FEWER, 4, 5, ORDER_FEWER, ORDER_MORE] {
+            for i in 0..4 {
+                let case = any_case(random, 20, 12);
+                let readings = case.readings.iter().flat_map(|reading| {
+                    let time = reading.time.to_be_bytes().to_vec();
+                    [time, vec![reading.board], reading.temperature.to_be_bytes().to_vec()].concat()
+                });
+                self.replay(places, i, AS_BYTES, readings.collect(), &case)?;
+                let mut recording = case.recording();
+                self.replay(places, i, 0, recording.clone(), &case)?;
+                spoil(random, &mut recording);
+                self.replay(places, i, 0, recording, &case)?;
+            }
+        }
+        Ok(())
+    }
+
+    fn replay(
+        &mut self,
+        places: u8,
+        i: u64,
+        form: u8,
+        mut bytes: Vec<u8>,
+        case: &Case,
+    ) -> io::Result<()> {
+        for start in &case.starts {
+            bytes.extend(start.time.to_be_bytes());
+            bytes.push(start.board);
+        }
+        let mut input = self.input(REPLAY, places, i, 0, &bytes);
+        input[1] |= form;
+        input[30..32].copy_from_slice(&(9 * case.starts.len() as u16).to_le_bytes());
+        self.save(input)
+    }
 }
 
 fn main() -> io::Result<()> {
@@ -182,5 +223,6 @@ fn main() -> io::Result<()> {
     seeds.walks()?;
     seeds.writes(&mut Random::new(3))?;
     seeds.lines()?;
-    seeds.powers(&mut Random::new(2))
+    seeds.powers(&mut Random::new(2))?;
+    seeds.replays(&mut Random::new(4))
 }

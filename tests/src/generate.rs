@@ -5,6 +5,7 @@ pub mod bare;
 pub mod cuts;
 pub mod damage;
 pub mod misread;
+pub mod recordings;
 pub mod shapes;
 mod strings;
 mod volumes;

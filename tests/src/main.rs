@@ -1,7 +1,8 @@
 //! cargo run --release --offline --bin compare -- [--seed N] [--scale N] [group ...]
 //!
 //! Runs the named groups, or all of them. The group `listing` runs the program
-//! that HIVESADDLE_PROGRAM names, and is left out of all where none is named.
+//! that HIVESADDLE_PROGRAM names, and is left out of all where none is named;
+//! `replays` runs that of HIVESADDLE_REPLAY and leaves that part out.
 //! The last line is `N passed, M failed`, where N and M count comparisons.
 
 use compare::groups::{listing, Group, Run, GROUPS};

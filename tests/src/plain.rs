@@ -2,6 +2,7 @@
 //! allocated and no section is looked at more often than the checks need. It
 //! is what the benchmarks hold the library to.
 
+pub mod replay;
 pub mod search;
 pub mod walk;
 pub mod writer;

@@ -25,6 +25,14 @@ static uint32_t *metrics, *trace;
 static size_t metrics_length, trace_length, output_length;
 static uint8_t *output;
 
+/* Starts of all boards, and readings of them out of order; the last line is bad in every other call. */
+#define STARTS 300
+#define READINGS 700
+static uint64_t times[STARTS], answers[HS_ANSWER_LENGTH * STARTS];
+static uint8_t boards[STARTS], recording[READINGS * HS_READING_LINE_LENGTH + 1];
+static uint32_t work[STARTS];
+static size_t recording_length;
+
 static volatile uint32_t answer;
 
 /* A call through a pointer, with the arguments of a reader. Those that another call has on the stack count as its own. */
@@ -87,6 +95,16 @@ static void hash_powers(void) { answer = hs_hash_powers(numbers, 1000); }
 static void hash_powers_bytes(void) { answer = hs_hash_powers_bytes(file, length); }
 static void hash_swap(void) { answer = hs_hash_swap(1, numbers, 1000, 46, numbers, 48, out, HS_READER_OUT); }
 static void hash_swap_bytes(void) { answer = hs_hash_swap_bytes(1, file, length, 46, file, 48, out, HS_READER_OUT); }
+static void replay(void)
+{
+    answer = hs_replay(recording, recording_length, times, STARTS, boards, STARTS, work, STARTS, answers,
+                       HS_ANSWER_LENGTH * STARTS, out, HS_READER_OUT);
+}
+static void replay_in_blocks(void)
+{
+    answer = hs_replay(recording, recording_length, times, STARTS, boards, STARTS, work, STARTS / 7, answers,
+                       HS_ANSWER_LENGTH * STARTS, out, HS_READER_OUT);
+}
 static void catalogue_write(void) { answer = hs_catalogue_write(148, 65, 1, 17, line, sizeof line); }
 static void catalogue_read(void) { answer = hs_catalogue_read(line, sizeof line, out, HS_READER_OUT); }
 
@@ -117,6 +135,8 @@ static struct {
     {"hs_hash_powers_bytes", hash_powers_bytes, 0},
     {"hs_hash_swap", hash_swap, 0},
     {"hs_hash_swap_bytes", hash_swap_bytes, 0},
+    {"hs_replay", replay, 0},
+    {"hs_replay with fewer places", replay_in_blocks, 0},
     {"hs_catalogue_write", catalogue_write, 0},
     {"hs_catalogue_read", catalogue_read, 0},
 };
@@ -167,11 +187,25 @@ static void load(const char *path)
     fclose(opened);
 }
 
+static void make_recording(void)
+{
+    for (unsigned i = 0; i < STARTS; i++) {
+        times[i] = i * 7919 % 1000;
+        boards[i] = (uint8_t)i;
+    }
+    for (unsigned i = 0; i < READINGS; i++) {
+        snprintf((char *)recording + i * HS_READING_LINE_LENGTH, HS_READING_LINE_LENGTH + 1, "%016X%02X%04X\n",
+                 i * 104729 % 1000, i % 256, i * 31 % 65536);
+    }
+}
+
 int main(int count, char **paths)
 {
+    make_recording();
     /* The first turn of each resolves symbols and is not counted. */
     for (int i = 1; i < count; i++) {
         load(paths[i]);
+        recording_length = READINGS * HS_READING_LINE_LENGTH - (size_t)(i % 2);
         for (size_t k = 0; k < CALLS; k++) {
             used_by(calls[k].call);
             size_t bytes = used_by(calls[k].call);

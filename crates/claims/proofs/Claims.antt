@@ -22,6 +22,9 @@ use Rattle.claims.proofs.Powers.{powers}
 use Rattle.claims.proofs.Times.{times}
 use Rattle.claims.proofs.WithoutNext.{without-next}
 use Rattle.walk.proofs.Once.{every-entry}
+use Rattle.readings.proofs.BestReading.{best-reading}
+use Rattle.readings.proofs.Points.{recording-points}
+use Rattle.readings.proofs.Feeding.{pieces-agree}
 use Rattle.claims.proofs.Walks.{walks-say}
 use Rattle.claims.proofs.Writer.{writers-say}
 use Rattle.claims.proofs.Places.{places-say}
@@ -51,6 +54,9 @@ claims =
       chains-ends = λ s l. chains-ends (l .at) s (l .count) (l .short) (l .passes);
       every-entry = λ s l. every-entry (l .at) s (l .count) (l .short) (l .passes);
       walks = walks-say;
+      best-reading = best-reading;
+      pieces-agree = pieces-agree;
+      recording-points = recording-points;
       cycles = cycle-law;
       round-trip = round-trip;
       decimal-is = decimal-law;

@@ -23,6 +23,10 @@ use Rattle.reader.specs.Checks.{nextsIn, prefixAnswer, ReadsPrefix, ReadsFile}
 use Rattle.reader.specs.Allowed.{Allowed, AcceptedExactly}
 use Rattle.reader.specs.Early.{EarlyStands}
 use Rattle.walk.specs.EveryEntry.{EveryEntry}
+use Rattle.readings.specs.declared.Reading.{Reading}
+use Rattle.readings.specs.BestReading.{BestReading}
+use Rattle.readings.specs.Points.{RecordingPoints}
+use Rattle.readings.specs.Feeding.{PiecesAgree}
 use Rattle.query.specs.Queries.{entryShown, volumeShown, volumeFacts}
 use Rattle.query.specs.Shown.{EntryShown, NamePlaced, VolumeShown}
 use Rattle.path_search.specs.declared.PathAnswer.the-variants.{Entry, NoPath}
@@ -127,6 +131,14 @@ pub record Claims : Type 1 where
   pub numbers : Numbers
   -- Request 109: the powers of 37 give the Vista hash, and a swapped start the hash of the joined list.
   pub powers : Powers
+  -- ---- the replay
+  -- Request 110: the answer for a start is a reading of its board not after it, none such is later in time, and among equal times
+  -- none is later in the file; none exactly when there is no such reading.
+  pub best-reading : (time board : ℕ) (rs : List Reading) → BestReading time board rs
+  -- "How the steps fall changes nothing": feeding pieces, however the bytes are cut, gives what the whole gives.
+  pub pieces-agree : PiecesAgree
+  -- The lines and the temperatures that the request names.
+  pub recording-points : RecordingPoints
   -- ---- the path search and the queries, in words
   -- "Path search", with request 105: the least number for which any metrics entry that can be shown matches, and then the first such
   -- entry, or none; and none on bytes that don't pass checks 1 to 6.

@@ -12,6 +12,9 @@ use Rattle.reader.specs.Checks.{prefixAnswer, fileAnswer}
 use Rattle.walk.specs.Walk as walk
 use Rattle.writer.specs.LaidOut.{Description}
 use Rattle.writer.specs.Writes.{writable, writeAnswer, fileFor, outputAfter}
+use Rattle.trace.specs.Links.{filled}
+use Rattle.readings.specs.Recording.{recorded}
+use Rattle.readings.specs.Replay.{sayingOf, answersAfter, answerCount}
 use Rattle.catalogue.specs.declared.Fields.{Fields}
 use Rattle.catalogue.specs.Line.{canWrite, lineOf}
 
@@ -95,3 +98,9 @@ pub record WalkOut (p buffer order : List ℕ) (code : ℕ) (buffer′ order′ 
 pub record WriteOut (version : ℕ) (d : Description) (buffer output : List ℕ) (code : ℕ) (buffer′ output′ out out′ : List ℕ) : Type 0 where
   pub said : ReadOut (writeAnswer version d (length buffer) (length output)) (length buffer) code buffer′ out out′
   pub placed : output′ ≡ outputAfter (writeAnswer version d (length buffer) (length output)) (fileFor (writable version) d) output
+
+-- ---- the replay: 0, or 22; the number of the first bad line, or 0; the answers and the working list afterwards
+pub record ReplayOut (recording times boards work answers : List ℕ) (code : ℕ) (work′ answers′ out out′ : List ℕ) : Type 0 where
+  pub said : Answered (sayingOf (recorded recording)) code out out′
+  pub given : answers′ ≡ answersAfter (recorded recording) times boards (answerCount times boards (length answers)) answers
+  pub working : work′ ≡ filled (length work)

@@ -10,7 +10,8 @@ ghost use Rattle.query.specs.Queries.{referenceAsked, referenceSaid, placesNeed
 ghost use Rattle.path_search.specs.Search.{pathFound, pathSaid, ListsPaths};
 ghost use Rattle.walk.specs.Walk as walk;
 ghost use Rattle.writer.specs.LaidOut.{description};
-ghost use Rattle.hivesaddle.specs.Output.{walkSaid, WalkOut, WriteOut};
+ghost use Rattle.hivesaddle.specs.Output.{walkSaid, WalkOut, WriteOut, ReplayOut};
+ghost use Rattle.readings.specs.Replay.{saidOf};
 ghost use Rattle.hivesaddle.specs.Output.{Answered, overlay, lineValues, fieldsOf, LineWriting, verdictValues, valuesWith, PrefixOut, FileOut};
 use catalogue::Fields;
 use catalogue::ReadLine;
@@ -26,6 +27,7 @@ use query::VolumeFacts;
 use reader::Acceptance;
 use reader::RunTimes;
 use reader::Verdict;
+use readings::ReplayAnswer;
 use volumes::Reference;
 use walk::WalkAnswer;
 
@@ -335,6 +337,39 @@ pub extern "C" fn hs_walk(
 {
     let answer = walk::walk(file, predecessors, order);
     put_walk(answer, out)
+}
+
+fn put_replay(answer: ReplayAnswer, out: &mut [u64]) -> u32
+    ensures { λ r. ⌜ Answered (saidOf answer) r (now (out .entry)) (now (out .exit)) ⌝ }
+{
+    match answer {
+        ReplayAnswer::Replayed => {
+            put_one(out, 0);
+            0
+        }
+        ReplayAnswer::Refused(line) => {
+            put_one(out, line);
+            22
+        }
+    }
+}
+
+// The best reading for each start: 0, or 22 and the number of the first bad line.
+#[no_mangle]
+pub extern "C" fn hs_replay(
+    recording: &[u8],
+    times: &[u64],
+    boards: &[u8],
+    work: &mut [u32],
+    answers: &mut [u64],
+    out: &mut [u64],
+) -> u32
+    ensures { λ r.
+        ⌜ ReplayOut (now (recording .entry)) (now (times .entry)) (now (boards .entry)) (now (work .entry)) (now (answers .entry)) r
+        (now (work .exit)) (now (answers .exit)) (now (out .entry)) (now (out .exit)) ⌝ }
+{
+    let answer = readings::replay(recording, times, boards, work, answers);
+    put_replay(answer, out)
 }
 
 fn put_one(out: &mut [u64], a: u64)

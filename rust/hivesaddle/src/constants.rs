@@ -42,9 +42,14 @@ pub const HS_WALK_TOTAL: usize = 4;
 /// The length of an `out` that holds them all.
 pub const HS_WALK_OUT: usize = 5;
 
-/// In a slot of `predecessors`: no entry.
+/// In a slot of `predecessors`: no entry. In every place of the replay's `work`
+/// afterwards.
 pub const HS_NONE: u32 = 4294967295;
 
 /// Bytes of a line with its line feed: as it is written, and as old ones are.
 pub const HS_CATALOGUE_LINE_LENGTH: usize = 27;
 pub const HS_CATALOGUE_OLD_LINE_LENGTH: usize = 25;
+
+/// Numbers of an answer of the replay, and bytes of a reading with its line feed.
+pub const HS_ANSWER_LENGTH: usize = 4;
+pub const HS_READING_LINE_LENGTH: usize = 23;

@@ -1,10 +1,11 @@
 //! Safe calls into the proved reader of Windows Prefetch (SCCA) files, versions
 //! 17, 23, 26 and 30, uncompressed, and its writer of test files, versions 17
-//! and 23.
+//! and 23. And a replay of temperature recordings against program starts.
 //!
 //! Every function takes any bytes, any index and any buffer length and comes
 //! to an end. Nothing is allocated, but by [`read_file_alloc`],
-//! [`list_paths_alloc`], [`write_file_alloc`] and [`TestFile`].
+//! [`list_paths_alloc`], [`write_file_alloc`], [`TestFile`], [`replay()`] and
+//! [`Replay`].
 //!
 //! Numbers in a file are little-endian. A text is UTF-16 units kept as they
 //! stand, and is handed over as bytes, low byte first.
@@ -15,6 +16,7 @@ mod hashes;
 mod queries;
 pub mod raw;
 mod readers;
+mod replay;
 mod test_file;
 mod walk;
 mod writer;
@@ -32,12 +34,14 @@ pub use queries::{
     FoundPath, Reference, Volume,
 };
 pub use readers::{read_file, read_file_alloc, read_prefix, FileContents, Record, Verdict};
+pub use replay::{replay, replay_into, BadLine, Reading, Replay, Start};
 pub use test_file::{TestFile, TestVolume};
 pub use walk::{walk, Walk};
 pub use writer::{write_file, write_file_alloc, Description};
 
 /// What a slot of `predecessors` holds where it has no entry, and every slot
-/// after an answer that is no acceptance.
+/// after an answer that is no acceptance; and each place of `work` after a
+/// replay.
 pub const NONE: u32 = raw::HS_NONE;
 
 /// A numbered refusal, what it is about, and where in the file to look. The

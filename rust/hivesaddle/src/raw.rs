@@ -162,3 +162,22 @@ extern "C" {
         pairs_length: usize,
     ) -> u64;
 }
+
+extern "C" {
+    /// 0 or 22. `answers`: [`HS_ANSWER_LENGTH`] numbers for each start, as many
+    /// whole answers as fit. `out`: line number.
+    pub fn hs_replay(
+        recording: *const u8,
+        length: usize,
+        times: *const u64,
+        times_length: usize,
+        boards: *const u8,
+        boards_length: usize,
+        work: *mut u32,
+        work_length: usize,
+        answers: *mut u64,
+        answers_length: usize,
+        out: *mut u64,
+        out_length: usize,
+    ) -> u32;
+}

@@ -1,10 +1,11 @@
-//! The numbers that a verdict of the reference stands for, or a walk, in the
-//! order of `out`. The fuzzer's judge has this file too, so it takes the
+//! The numbers that a verdict of the reference stands for, a walk or a replay,
+//! in the order of `out`. The fuzzer's judge has this file too, so it takes the
 //! constants from the module above.
 
 use super::constants::*;
 use crate::reference::checks::Refusal;
 use crate::reference::readers::Verdict;
+use crate::reference::replay::{Reading, Replayed};
 use crate::reference::walk::Walk;
 
 /// Every field is zero with any answer but an acceptance.
@@ -57,4 +58,25 @@ pub fn walk_numbers(outcome: &Result<Walk, Refusal>) -> (u32, [u64; HS_WALK_OUT]
         }
     };
     (code, out)
+}
+
+/// The answers for so many starts too, four numbers each. After a bad line all
+/// of them are none.
+pub fn replay_numbers(replayed: &Replayed, starts: usize) -> (u32, [u64; 1], Vec<u64>) {
+    match replayed {
+        Ok(answers) => {
+            assert_eq!(answers.len(), starts);
+            (0, [0], answers.iter().flat_map(answer_numbers).collect())
+        }
+        Err(line) => (22, [*line], vec![0; HS_ANSWER_LENGTH * starts]),
+    }
+}
+
+fn answer_numbers(answer: &Option<Reading>) -> [u64; HS_ANSWER_LENGTH] {
+    match *answer {
+        None => [0; HS_ANSWER_LENGTH],
+        Some(Reading { time, board, temperature }) => {
+            [1, time, board.into(), i64::from(temperature).rem_euclid(65_536) as u64]
+        }
+    }
 }

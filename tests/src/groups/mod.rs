@@ -13,6 +13,9 @@ mod queries;
 mod query_points;
 mod reader_points;
 mod readers;
+mod replay_points;
+pub mod replay_program;
+mod replays;
 mod version_30;
 mod volumes;
 mod walks;
@@ -48,5 +51,6 @@ pub const GROUPS: &[Group] = &[
     ("version_30", version_30::run),
     ("walks", walks::run),
     ("writes", writes::run),
+    ("replays", replays::run),
     ("listing", listing::run),
 ];

@@ -10,6 +10,7 @@ pub mod layout;
 pub mod listing;
 pub mod queries;
 pub mod readers;
+pub mod replay;
 pub mod search;
 pub mod trace;
 pub mod volumes;

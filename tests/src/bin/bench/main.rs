@@ -33,6 +33,12 @@
 //! walk alone, which is that of the library less its whole-file reader, and the
 //! whole of both.
 //!
+//! bench replay
+//!
+//! The replay of 1,000,000 readings against 1, 1,024 and 100,000 starts, beside
+//! that of `plain`; and the program that HIVESADDLE_REPLAY names, if it names
+//! one, on 1 and 1,024 starts.
+//!
 //! bench write
 //!
 //! The writer on what files as Windows has them say, of 150 KB and 16 MB,
@@ -44,6 +50,8 @@ mod hashes;
 mod overlap;
 mod powers;
 mod readers;
+mod replay;
+mod replay_program;
 mod search;
 mod timing;
 mod trace;
@@ -61,9 +69,13 @@ fn main() -> ExitCode {
         Some("overlap") => overlap::run(),
         Some("search") => search::run(),
         Some("walk") => walk::run(),
+        Some("replay") => replay::run(),
+        Some(replay_program::PLAIN) => replay_program::plain(),
         Some("write") => write::run(),
         _ => {
-            eprintln!("bench hashes | powers | readers | trace | overlap | search | walk | write");
+            eprintln!(
+                "bench hashes | powers | readers | trace | overlap | search | walk | replay | write"
+            );
             return ExitCode::from(2);
         }
     }

@@ -1,0 +1,15 @@
+pub mod Keys
+pub mod Shuffle
+pub mod Heap
+pub mod Ranks
+pub mod Places
+pub mod Range
+pub mod Kept
+pub mod Lines
+pub mod Passes
+pub mod Answering
+pub mod BestReading
+pub mod Points
+pub mod Signed
+pub mod Framing
+pub mod Feeding

@@ -1,0 +1,6 @@
+pub mod Recording
+pub mod Replay
+pub mod BestReading
+pub mod Points
+pub mod Feeding
+pub mod Private

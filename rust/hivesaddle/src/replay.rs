@@ -1,0 +1,272 @@
+//! The replay of a temperature recording against program starts.
+
+use crate::raw::*;
+
+/// A program start: when, and on which board.
+#[derive(Clone, Copy, Debug, PartialEq, Eq, Hash)]
+pub struct Start {
+    /// A run time, as [`crate::Record`] has it.
+    pub time: u64,
+    pub board: u8,
+}
+
+/// A reading of a recording.
+#[derive(Clone, Copy, Debug, PartialEq, Eq, Hash)]
+pub struct Reading {
+    pub time: u64,
+    pub board: u8,
+    /// Tenths of a degree, below zero too.
+    pub temperature: i16,
+}
+
+impl Reading {
+    /// The temperature in degrees.
+    ///
+    /// ```
+    /// let reading = hivesaddle::Reading { time: 1, board: 2, temperature: -205 };
+    /// assert_eq!(reading.degrees(), -20.5);
+    /// ```
+    pub fn degrees(&self) -> f64 {
+        f64::from(self.temperature) / 10.0
+    }
+
+    /// The reading in four numbers of `answers`, as [`replay_into`] leaves
+    /// them: 1, time, board and the temperature's 16 bits. None where the first
+    /// is 0, or where there are fewer than four.
+    ///
+    /// ```
+    /// use hivesaddle::Reading;
+    /// let reading = Reading { time: 5, board: 3, temperature: -200 };
+    /// assert_eq!(Reading::from_answer(&[1, 5, 3, 0xFF38]), Some(reading));
+    /// assert_eq!(Reading::from_answer(&[0; 4]), None);
+    /// ```
+    pub fn from_answer(answer: &[u64]) -> Option<Reading> {
+        match *answer {
+            [is_there, time, board, bits] if is_there != 0 => {
+                Some(Reading { time, board: board as u8, temperature: bits as u16 as i16 })
+            }
+            _ => None,
+        }
+    }
+}
+
+/// Refusal 22: a line that is no reading. Every answer is then none.
+#[derive(Clone, Copy, Debug, PartialEq, Eq)]
+pub struct BadLine {
+    /// The number of the first such line, from 1.
+    pub line: u64,
+}
+
+/// For each start, in their order: the reading of its board with the greatest
+/// time not after the start's, the one later in the recording among equal
+/// times, or none. Readings may be out of time order, and starts may repeat.
+///
+/// A reading is a line of 22 digits 0-9 A-F and a line feed: time 16, board 2,
+/// temperature 4, most significant digit first, the temperature in tenths of a
+/// degree and two's complement. Any other line is bad: an empty one, one with a
+/// carriage return or a lowercase digit, and a last one without its line feed.
+///
+/// This allocates. [`replay_into`] is the same with borrowed buffers, and
+/// [`Replay`] takes the recording in pieces.
+///
+/// ```
+/// use hivesaddle::{replay, BadLine, Reading, Start};
+/// let recording = b"00000000000000070302BC\n\
+///                   000000000000000503FF38\n\
+///                   0000000000000005040514\n";
+/// let starts = [
+///     Start { time: 6, board: 3 },
+///     Start { time: 7, board: 3 },
+///     Start { time: 4, board: 4 },
+/// ];
+/// let cold = Reading { time: 5, board: 3, temperature: -200 };
+/// let warm = Reading { time: 7, board: 3, temperature: 700 };
+/// assert_eq!(replay(recording, &starts), Ok(vec![Some(cold), Some(warm), None]));
+///
+/// // The last line has lost its line feed.
+/// assert_eq!(replay(&recording[..68], &starts), Err(BadLine { line: 3 }));
+/// ```
+pub fn replay(recording: &[u8], starts: &[Start]) -> Result<Vec<Option<Reading>>, BadLine> {
+    let mut lists = Lists::new(starts);
+    lists.replay(recording)?;
+    Ok(lists.readings().collect())
+}
+
+/// As [`replay`], without a heap. Start k is `times[k]` and `boards[k]`; there
+/// are as many as the shorter of the two has.
+///
+/// `answers` takes four numbers for each start, see [`Reading::from_answer`]: as
+/// many whole answers as fit. All else of it stays as it was. After a bad line
+/// every answer is none, four zeros.
+///
+/// `work` takes one place for each start. With fewer the recording is gone
+/// through more than once, once for each so many starts, and the answers are the
+/// same. Afterwards each place holds [`crate::NONE`].
+///
+/// ```
+/// use hivesaddle::{replay_into, Reading, NONE};
+/// let recording = b"000000000000000503FF38\n";
+/// let (mut work, mut answers) = ([0; 3], [7; 10]);
+/// let given = replay_into(recording, &[6, 4, 5], &[3, 3, 3], &mut work, &mut answers);
+/// assert_eq!(given, Ok(()));
+/// assert_eq!(work, [NONE; 3]);
+/// // Two whole answers fit.
+/// assert_eq!(answers, [1, 5, 3, 0xFF38, 0, 0, 0, 0, 7, 7]);
+/// let readings: Vec<_> = answers.chunks_exact(4).map(Reading::from_answer).collect();
+/// assert_eq!(readings, [Some(Reading { time: 5, board: 3, temperature: -200 }), None]);
+/// ```
+pub fn replay_into(
+    recording: &[u8],
+    times: &[u64],
+    boards: &[u8],
+    work: &mut [u32],
+    answers: &mut [u64],
+) -> Result<(), BadLine> {
+    let mut line = 0;
+    let answer = unsafe {
+        hs_replay(
+            recording.as_ptr(),
+            recording.len(),
+            times.as_ptr(),
+            times.len(),
+            boards.as_ptr(),
+            boards.len(),
+            work.as_mut_ptr(),
+            work.len(),
+            answers.as_mut_ptr(),
+            answers.len(),
+            &mut line,
+            1,
+        )
+    };
+    match answer {
+        0 => Ok(()),
+        22 => Err(BadLine { line }),
+        other => unreachable!("no such answer: {other}"),
+    }
+}
+
+/// The lists of one call, with a place of each kind for every start.
+#[derive(Clone, Debug)]
+struct Lists {
+    times: Vec<u64>,
+    boards: Vec<u8>,
+    work: Vec<u32>,
+    answers: Vec<u64>,
+}
+
+impl Lists {
+    fn new(starts: &[Start]) -> Lists {
+        Lists {
+            times: starts.iter().map(|start| start.time).collect(),
+            boards: starts.iter().map(|start| start.board).collect(),
+            work: vec![0; starts.len()],
+            answers: vec![0; HS_ANSWER_LENGTH * starts.len()],
+        }
+    }
+
+    fn replay(&mut self, recording: &[u8]) -> Result<(), BadLine> {
+        replay_into(recording, &self.times, &self.boards, &mut self.work, &mut self.answers)
+    }
+
+    fn readings(&self) -> impl Iterator<Item = Option<Reading>> + '_ {
+        self.answers.chunks_exact(HS_ANSWER_LENGTH).map(Reading::from_answer)
+    }
+}
+
+/// Fewest readings that are gathered before they are replayed.
+const GATHERED: usize = 4_096;
+
+/// [`replay`] for a recording that comes in pieces. However it is cut, the
+/// answers are those of the whole.
+///
+/// Readings are gathered until there are as many as starts, and 4,096 at least;
+/// each such run is replayed, and of its answer and the one before the better is
+/// kept. So there is room for as many readings as that and no more, however long
+/// the recording is. The replay of a run is the proved one. That the gathering
+/// and the choice between two answers come to the same as one replay of the
+/// whole is tested and not proved.
+///
+/// ```
+/// use hivesaddle::{Reading, Replay, Start};
+/// let mut replay = Replay::new(&[Start { time: 6, board: 3 }]);
+/// for piece in ["0000000000000005", "03FF38\n00000000", "00000007030514\n"] {
+///     replay.feed(piece.as_bytes());
+/// }
+/// let cold = Reading { time: 5, board: 3, temperature: -200 };
+/// assert_eq!(replay.finish(), Ok(vec![Some(cold)]));
+/// ```
+#[derive(Clone, Debug)]
+pub struct Replay {
+    lists: Lists,
+    /// The best of the runs so far.
+    best: Vec<Option<Reading>>,
+    /// What has come since.
+    gathered: Vec<u8>,
+    /// The length at which it is replayed.
+    enough: usize,
+    /// Lines of the runs so far.
+    lines: u64,
+    bad: Option<BadLine>,
+}
+
+impl Replay {
+    pub fn new(starts: &[Start]) -> Replay {
+        Replay {
+            lists: Lists::new(starts),
+            best: vec![None; starts.len()],
+            gathered: Vec::new(),
+            enough: HS_READING_LINE_LENGTH * starts.len().max(GATHERED),
+            lines: 0,
+            bad: None,
+        }
+    }
+
+    /// The next bytes of the recording. Behind a bad line they are not looked
+    /// at.
+    pub fn feed(&mut self, mut piece: &[u8]) {
+        while !piece.is_empty() && self.bad.is_none() {
+            let (now, later) = piece.split_at(piece.len().min(self.enough - self.gathered.len()));
+            self.gathered.extend_from_slice(now);
+            piece = later;
+            if self.gathered.len() == self.enough {
+                self.replay_run();
+            }
+        }
+    }
+
+    /// The answers, once all has been fed. A line that has begun and not ended
+    /// is bad.
+    pub fn finish(mut self) -> Result<Vec<Option<Reading>>, BadLine> {
+        if self.bad.is_none() {
+            self.replay_run();
+        }
+        match self.bad {
+            Some(bad) => Err(bad),
+            None => Ok(self.best),
+        }
+    }
+
+    /// What has been gathered, and it is gathered no longer. Before the end it
+    /// is as long as so many readings: it ends with a line, or has a line that is
+    /// bad whatever follows.
+    fn replay_run(&mut self) {
+        match self.lists.replay(&self.gathered) {
+            Ok(()) => {
+                self.lines += (self.gathered.len() / HS_READING_LINE_LENGTH) as u64;
+                self.keep_better();
+            }
+            Err(bad) => self.bad = Some(BadLine { line: self.lines + bad.line }),
+        }
+        self.gathered.clear();
+    }
+
+    /// Readings of the last run are later in the recording than all before.
+    fn keep_better(&mut self) {
+        for (best, reading) in self.best.iter_mut().zip(self.lists.readings()) {
+            if reading.is_some_and(|new| best.is_none_or(|old| old.time <= new.time)) {
+                *best = reading;
+            }
+        }
+    }
+}
