@@ -1,5 +1,6 @@
 /* Hivesaddle: a reader of Windows Prefetch (SCCA) files, versions 17, 23, 26 and 30, uncompressed, and a writer of
- * files of versions 17 and 23 to test with. It also looks up in a temperature recording what a board had at each start.
+ * files of versions 17 and 23 to test with. It also looks up in a temperature recording what a board had at each start,
+ * and makes a table of a year's catalogue lines and starts.
  *
  * Link with libhivesaddle.a. It needs memcpy and memset and nothing else: it allocates nothing, keeps nothing between
  * calls, and does no input or output. Calls with different lists may run at the same time.
@@ -130,12 +131,14 @@ uint32_t hs_places(const uint8_t *file, size_t length, uint64_t *out, size_t out
  *  15   volumes end  a directory does not end in a zero unit                              the volume           volume entry
  *  16                hs_read_file only: the file is shorter than S or than a check needs  0                    12
  *  17                hs_read_file only: the file is longer than S                         0                    12
- *  18                hs_catalogue_read only: not a catalogue line
+ *  18                hs_catalogue_read and hs_year_table only: not a catalogue line
  *  19                hs_catalogue_write only: fields that form no line, or an output below 27 bytes
  *  20                hs_write_file only: output is shorter than the file                  0                    0
  *  22                hs_replay only: a line of the recording is no reading
  *  23                hs_walk only: order has fewer places than there are trace entries    0                    0
+ *  24                hs_year_table only: a 1,025th stored hash
  *  25                hs_hash_swap and hs_hash_swap_bytes only: p exceeds the length of old
+ *  26                hs_year_table only: more than 1,048,576 lines, or more than 1,048,576 starts
  *
  * 14 and 15 are found volume by volume, the first fault of the first volume that has one. The end of an empty section
  * counts as H; strings without metrics entries and a volumes section without volumes are not waited for. Version 30
@@ -327,6 +330,54 @@ uint32_t hs_catalogue_write(uint32_t size, uint32_t stored_hash, uint32_t run_co
 uint32_t hs_replay(const uint8_t *recording, size_t length, const uint64_t *times, size_t times_length,
                    const uint8_t *boards, size_t boards_length, uint32_t *work, size_t work_length, uint64_t *answers,
                    size_t answers_length, uint64_t *out, size_t out_length);
+
+/* ---- The table at year's end ----
+ *
+ * hs_year_table makes one row for each stored hash of catalogue lines and program starts, in rising order of the hashes.
+ *
+ * lines are catalogue lines one behind the other, of 26 digits or of 24. Start k has the stored hash hashes[k] and the
+ * answer at 4k in answers, a list as hs_replay leaves it: it has a reading exactly when number 4k is not 0, whose
+ * temperature is the low 16 bits of number 4k + 3. A number past the end of answers counts as 0, and what stands behind the
+ * last start's answer is not looked at. A start without a reading makes a row too.
+ *
+ * rows takes HS_YEAR_ROW_LENGTH numbers for each row, at the places of enum hs_year_row, as many whole rows as fit. All else
+ * of it is left alone, also up to eight last numbers that hold no whole row. HS_YEAR_MOST_ROWS rows are enough for every
+ * table. Lowest, highest, sum and mean are signed, in tenths of a degree: (int64_t) makes them so. The mean is the sum
+ * divided by the number of readings, rounded down, below zero too: -5 over 2 is -3 with remainder 1. A hash without readings
+ * has 0 for their number and for all behind it.
+ *
+ * Any order of the same lines and of the same starts gives the same table. No sum wraps. The table is made on the stack,
+ * which has to have room for it: HS_YEAR_MOST_ROWS rows, whatever rows can hold.
+ *
+ * Gives 0, or a refusal, after which all of rows is as it was:
+ *
+ *   26  more than HS_YEAR_MOST_LINES lines, or more than HS_YEAR_MOST_STARTS starts; bytes behind the last line feed are
+ *       one more line. Looked at first; the place is 0
+ *   18  a line is no catalogue line. Bytes behind the last line feed are a bad line; none there are no line
+ *   24  a line or a start has a stored hash that 1,024 others came before
+ *
+ * The lines are taken in order, and then the starts; the first at fault answers, by 18 or by 24. Its place is counted from 1
+ * over the lines and on over the starts: the first start behind ten lines is at 11.
+ * out: place, 0 where there is a table; number of rows of the table, however many fit, 0 with a refusal. */
+enum hs_year_row {
+    HS_YEAR_HASH = 0,
+    HS_YEAR_LINES = 1,      /* lines with that hash */
+    HS_YEAR_RUN_COUNTS = 2, /* their run counts added up */
+    HS_YEAR_READINGS = 3,   /* starts with that hash that have a reading */
+    HS_YEAR_LOWEST = 4,
+    HS_YEAR_HIGHEST = 5,
+    HS_YEAR_SUM = 6,
+    HS_YEAR_MEAN = 7,
+    HS_YEAR_REMAINDER = 8, /* sum less mean times readings: from 0 to one below the readings */
+    HS_YEAR_ROW_LENGTH = 9
+};
+
+#define HS_YEAR_MOST_LINES 1048576
+#define HS_YEAR_MOST_STARTS 1048576
+#define HS_YEAR_MOST_ROWS 1024
+
+uint32_t hs_year_table(const uint8_t *lines, size_t length, const uint32_t *hashes, size_t starts, const uint64_t *answers,
+                       size_t answers_length, uint64_t *rows, size_t rows_length, uint64_t *out, size_t out_length);
 
 #ifdef __cplusplus
 }

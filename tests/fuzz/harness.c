@@ -4,11 +4,11 @@
  *   0      the call, CALLS and above: all of them
  *   1      bits 0 to 2: file, table and out lie behind or before a page that cannot be touched; 3, 4: pointer of an empty
  *          list; 5, 6: an odd last number in the metrics and the trace of a file to be written; 7: a recording is given
- *          as bytes, eleven for each line
+ *          as bytes, eleven for each line, and catalogue lines four for each
  *   2      length of out, 0 to 3 more than the readers write
  *   3      low four bits: slots, as the file's trace count says, one fewer, one more, none, or as bytes 4, 5 say; high
  *          four: bytes of the output for a file, chosen likewise by its size. Of a replay the low four choose the places
- *          of work, by the number of starts
+ *          of work, by the number of starts; of a year's table, numbers of the answers
  *   4      slots, or bytes of that output, 2 bytes
  *   6      2 bytes: 0 for the whole file, else a cut behind that many bytes less one
  *   8, 16  i and k; the four fields of a line to be written; of a swap, p and the old hash; k is how many units the name
@@ -16,9 +16,10 @@
  *   24     seed of the noise
  *   28     length of the output for a line, 0 to 39
  *   29     low four bits: length of the list of pairs, 0 to 15; high four: places for the order of a walk, chosen
- *          as the slots are, with bytes 4, 5 for any, or numbers for the answers of a replay
+ *          as the slots are, with bytes 4, 5 for any, or numbers for the answers of a replay or the rows of a table
  *   30     2 bytes: how many of the file's last bytes are the start of a swap, or the starts of a replay, nine for each;
- *          what stands before them is its recording. Bits 0, 1 of i: 2, 3: half as many boards, or times
+ *          what stands before them is its recording. Bits 0, 1 of i: 2, 3: half as many boards, or times. Or the starts of
+ *          a year's table, five for each, behind its lines; i says how many more it has, and whether before them
  *
  * A file is written from what the file says: the fields of its head, and of its sections what lies in its bytes.
  */
@@ -59,22 +60,25 @@ uint32_t judge_catalogue_read(const uint8_t *, size_t, uint64_t *, size_t);
 uint32_t judge_catalogue_write(uint32_t, uint32_t, uint32_t, uint32_t, uint8_t *, size_t);
 uint32_t judge_replay(const uint8_t *, size_t, const uint64_t *, size_t, const uint8_t *, size_t, uint32_t *, size_t,
                       uint64_t *, size_t, uint64_t *, size_t);
+uint32_t judge_year_table(const uint8_t *, size_t, const uint32_t *, size_t, const uint64_t *, size_t, uint64_t *, size_t,
+                          uint64_t *, size_t);
 
 enum call {
     READ_PREFIX, READ_FILE, PROGRAM_NAME, ENTRY_NAME, VOLUME, REFERENCE, FIND_PATH, HASH_XP, HASH_VISTA, HASH_2008,
     HASH_XP_BYTES, HASH_VISTA_BYTES, HASH_2008_BYTES, CATALOGUE_READ, CATALOGUE_WRITE, PLACES, LIST_PATHS,
-    HASH_POWERS, HASH_POWERS_BYTES, HASH_SWAP, HASH_SWAP_BYTES, WALK, WRITE_FILE, REPLAY, CALLS
+    HASH_POWERS, HASH_POWERS_BYTES, HASH_SWAP, HASH_SWAP_BYTES, WALK, WRITE_FILE, REPLAY, YEAR_TABLE, CALLS
 };
 static const char *const names[CALLS] = {
     "read_prefix", "read_file", "program_name", "entry_name", "volume", "reference", "find_path", "hash_xp", "hash_vista",
     "hash_2008", "hash_xp_bytes", "hash_vista_bytes", "hash_2008_bytes", "catalogue_read", "catalogue_write", "places",
-    "list_paths", "hash_powers", "hash_powers_bytes", "hash_swap", "hash_swap_bytes", "walk", "write_file", "replay"
+    "list_paths", "hash_powers", "hash_powers_bytes", "hash_swap", "hash_swap_bytes", "walk", "write_file", "replay",
+    "year_table"
 };
 
 /* ---- What has been seen, as the library answered ---- */
 
 /* The greatest refusal number of the readers is 21, that of the walk 23. */
-enum { CODES = 26, REFUSALS = 24 };
+enum { CODES = 27, REFUSALS = 24 };
 static uint64_t calls[CALLS], answers[CALLS][CODES], refusals[2][REFUSALS], accepted[2][32], numbers_found[9];
 static uint64_t walk_refusals[REFUSALS], large_totals, write_refusals[REFUSALS], written[32], readings_found, bad_later;
 
@@ -92,6 +96,8 @@ static void count(enum call call, uint64_t code, const uint64_t *out, size_t out
     if (call <= READ_FILE && code == HS_REFUSED && out_length > HS_NUMBER) refusals[call][out[HS_NUMBER]]++;
     if (call <= READ_FILE && code == HS_ACCEPTED && out_length > HS_VERSION) accepted[call][out[HS_VERSION]]++;
 }
+
+static void report_year(void);
 
 static void report(void) {
     for (int call = 0; call < CALLS; call++) {
@@ -118,6 +124,7 @@ static void report(void) {
         if (write_refusals[number]) fprintf(stderr, ", %d: %lu", number, write_refusals[number]);
     fputc('\n', stderr);
     fprintf(stderr, "seen: replay: readings found: %lu; bad lines behind the first: %lu\n", readings_found, bad_later);
+    report_year();
     fprintf(stderr, "seen: find_path: by number");
     for (int number = 0; number <= 8; number++) fprintf(stderr, ", %d: %lu", number, numbers_found[number]);
     fputc('\n', stderr);
@@ -306,6 +313,8 @@ static void replay_both(const struct input *in, uint64_t i, uint64_t *given, uin
     for (size_t k = 0; k < starts && 4 * k + 3 < numbers; k++) readings_found += ((uint64_t *)lists[ANSWERS].start)[4 * k];
 }
 
+#include "year.h"
+
 static void one_call(enum call call, const struct input *in, uint64_t i, uint64_t k) {
     int flags = in->control[1];
     size_t n = in->length, count_32 = n / 4, line = in->control[28] % 40, pairs = in->control[29] % 16;
@@ -416,6 +425,7 @@ static void one_call(enum call call, const struct input *in, uint64_t i, uint64_
         break;
     case WRITE_FILE: write_both(in, &given, &expected); break;
     case REPLAY: replay_both(in, i, &given, &expected); break;
+    case YEAR_TABLE: year_both(in, i, &given, &expected); break;
     default: abort();
     }
     if (given != expected) {

@@ -10,7 +10,7 @@ mod numbers;
 #[path = "../src/reference/mod.rs"]
 mod reference;
 
-use numbers::{numbers_of, replay_numbers, walk_numbers};
+use numbers::{numbers_of, replay_numbers, walk_numbers, year_numbers};
 use reference::catalogue::{self, Fields};
 use reference::head::{section, VOLUMES};
 use reference::readers::{read_file, read_prefix, Answer};
@@ -18,7 +18,7 @@ use reference::replay::{replay, starts_of};
 use reference::search::{find_path, list_paths};
 use reference::walk::walk;
 use reference::writer::{self, Description};
-use reference::{hashes, queries};
+use reference::{hashes, queries, year};
 
 unsafe fn list<'a, T>(pointer: *const T, length: usize) -> &'a [T] {
     match length {
@@ -375,5 +375,26 @@ pub unsafe extern "C" fn judge_replay(
     write(work, work_length, &vec![constants::HS_NONE; work_length]);
     write(answers, answers_length / 4 * 4, &numbers);
     write(out, out_length, &line);
+    code
+}
+
+/// As many whole rows as fit.
+#[no_mangle]
+pub unsafe extern "C" fn judge_year_table(
+    lines: *const u8,
+    length: usize,
+    hashes: *const u32,
+    starts: usize,
+    answers: *const u64,
+    answers_length: usize,
+    rows: *mut u64,
+    rows_length: usize,
+    out: *mut u64,
+    out_length: usize,
+) -> u32 {
+    let starts = year::starts_of(list(hashes, starts), list(answers, answers_length));
+    let (code, numbers, of_rows) = year_numbers(&year::table(list(lines, length), &starts));
+    write(rows, rows_length / 9 * 9, &of_rows);
+    write(out, out_length, &numbers);
     code
 }

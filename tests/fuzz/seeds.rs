@@ -2,12 +2,13 @@
 //!
 //! Writes inputs for the fuzzer to start from: the files given, and of each version sound files, a file damaged for
 //! each check that it can fail, and cuts; chains to walk; files to write; lines; lists around the end of the table of
-//! powers; and recordings with starts. The same bytes every time.
+//! powers; recordings with starts; and lines and starts for a year's table. The same bytes every time.
 
 use compare::generate::bare::with_blocks;
 use compare::generate::cuts::cuts;
 use compare::generate::damage::{aims_of, damage};
 use compare::generate::recordings::{any_case, spoil, Case};
+use compare::generate::years;
 use compare::generate::{sound_of, Counts, Sample};
 use compare::random::Random;
 use compare::reference::layout::{END, LAYOUTS};
@@ -24,6 +25,7 @@ const HASH_SWAP_BYTES: u8 = 20;
 const WALK: u8 = 21;
 const WRITE_FILE: u8 = 22;
 const REPLAY: u8 = 23;
+const YEAR_TABLE: u8 = 24;
 /// Slots as the trace count says, or one fewer; above them the same for the places of a walk's order.
 const EXACT: u8 = 0;
 const FEWER: u8 = 3;
@@ -33,7 +35,7 @@ const ORDER_MORE: u8 = 4 << 4;
 const OUTPUT_FEWER: u8 = 3 << 4;
 const OUTPUT_MORE: u8 = 4 << 4;
 const ODD_NUMBERS: u8 = 3 << 5;
-/// The recording as bytes.
+/// The recording as bytes, or the catalogue lines.
 const AS_BYTES: u8 = 1 << 7;
 
 struct Seeds {
@@ -209,6 +211,48 @@ impl Seeds {
         input[30..32].copy_from_slice(&(9 * case.starts.len() as u16).to_le_bytes());
         self.save(input)
     }
+
+    /// Lines as text and as bytes, spoilt ones, and as many hashes as a table has and one more.
+    fn years(&mut self, random: &mut Random) -> io::Result<()> {
+        for places in [EXACT, FEWER, 4, 5, ORDER_FEWER, ORDER_MORE] {
+            for more in [0, 1, 6, 7] {
+                let case = years::any_case(random, 20);
+                let mut lines = case.lines();
+                self.year(places, more, 0, &lines, &case)?;
+                spoil(random, &mut lines);
+                self.year(places, more, 0, &lines, &case)?;
+                self.year(places, more, AS_BYTES, &random.bytes(120), &case)?;
+            }
+        }
+        // With 1,020 to 1,025 hashes of starts, behind a few lines that have some of them.
+        for count in 1_020..=1_025 {
+            for first in 0..2 {
+                let case = years::any_case(random, 4);
+                self.year(EXACT, 2 * count + first, AS_BYTES, &[0, 5, 0, 7, 6, 5, 0, 255], &case)?;
+            }
+        }
+        Ok(())
+    }
+
+    fn year(
+        &mut self,
+        places: u8,
+        i: u64,
+        form: u8,
+        lines: &[u8],
+        case: &years::Case,
+    ) -> io::Result<()> {
+        let mut bytes = lines.to_vec();
+        for (hash, answer) in case.hashes.iter().zip(case.answers.chunks(4)) {
+            bytes.extend(&hash.to_le_bytes()[..2]);
+            bytes.push(answer[0] as u8);
+            bytes.extend(&answer[3].to_le_bytes()[..2]);
+        }
+        let mut input = self.input(YEAR_TABLE, places, i, 0, &bytes);
+        input[1] |= form;
+        input[30..32].copy_from_slice(&(5 * case.hashes.len() as u16).to_le_bytes());
+        self.save(input)
+    }
 }
 
 fn main() -> io::Result<()> {
@@ -224,5 +268,6 @@ fn main() -> io::Result<()> {
     seeds.writes(&mut Random::new(3))?;
     seeds.lines()?;
     seeds.powers(&mut Random::new(2))?;
-    seeds.replays(&mut Random::new(4))
+    seeds.replays(&mut Random::new(4))?;
+    seeds.years(&mut Random::new(5))
 }

@@ -10,6 +10,7 @@ pub mod shapes;
 mod strings;
 mod volumes;
 pub mod writes;
+pub mod years;
 
 use crate::random::Random;
 use crate::reference::hashes;

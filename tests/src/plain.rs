@@ -6,6 +6,7 @@ pub mod replay;
 pub mod search;
 pub mod walk;
 pub mod writer;
+pub mod year;
 
 use hivesaddle::{Record, Refusal};
 

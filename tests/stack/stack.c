@@ -10,7 +10,8 @@
 
 #include "hivesaddle.h"
 
-#define STACK_BYTES 65536
+/* The year's table is handed back by value: 72 KiB for each copy of it. */
+#define STACK_BYTES 1048576
 #define PATTERN 0xA5
 
 static _Alignas(64) unsigned char stack[STACK_BYTES];
@@ -32,6 +33,14 @@ static uint64_t times[STARTS], answers[HS_ANSWER_LENGTH * STARTS];
 static uint8_t boards[STARTS], recording[READINGS * HS_READING_LINE_LENGTH + 1];
 static uint32_t work[STARTS];
 static size_t recording_length;
+
+/* As many hashes as a table has, of lines and of starts out of order; every other call has one more. */
+#define LINES 900
+#define YEAR_STARTS 2000
+static uint8_t lines[LINES * HS_CATALOGUE_LINE_LENGTH + 1];
+static uint32_t hashes[YEAR_STARTS];
+static uint64_t year_answers[HS_ANSWER_LENGTH * YEAR_STARTS], rows[HS_YEAR_ROW_LENGTH * HS_YEAR_MOST_ROWS];
+static size_t year_starts;
 
 static volatile uint32_t answer;
 
@@ -105,6 +114,11 @@ static void replay_in_blocks(void)
     answer = hs_replay(recording, recording_length, times, STARTS, boards, STARTS, work, STARTS / 7, answers,
                        HS_ANSWER_LENGTH * STARTS, out, HS_READER_OUT);
 }
+static void year_table(void)
+{
+    answer = hs_year_table(lines, LINES * HS_CATALOGUE_LINE_LENGTH, hashes, year_starts, year_answers,
+                           HS_ANSWER_LENGTH * YEAR_STARTS, rows, HS_YEAR_ROW_LENGTH * HS_YEAR_MOST_ROWS, out, HS_READER_OUT);
+}
 static void catalogue_write(void) { answer = hs_catalogue_write(148, 65, 1, 17, line, sizeof line); }
 static void catalogue_read(void) { answer = hs_catalogue_read(line, sizeof line, out, HS_READER_OUT); }
 
@@ -137,6 +151,7 @@ static struct {
     {"hs_hash_swap_bytes", hash_swap_bytes, 0},
     {"hs_replay", replay, 0},
     {"hs_replay with fewer places", replay_in_blocks, 0},
+    {"hs_year_table", year_table, 0},
     {"hs_catalogue_write", catalogue_write, 0},
     {"hs_catalogue_read", catalogue_read, 0},
 };
@@ -199,13 +214,29 @@ static void make_recording(void)
     }
 }
 
+static void make_year(void)
+{
+    for (unsigned i = 0; i < LINES; i++) {
+        snprintf((char *)lines + i * HS_CATALOGUE_LINE_LENGTH, HS_CATALOGUE_LINE_LENGTH + 1, "%08X%08X%08X11\n", 148 + i,
+                 i * 7919 % HS_YEAR_MOST_ROWS, i);
+    }
+    for (unsigned i = 0; i < YEAR_STARTS; i++) {
+        hashes[i] = i * 104729 % HS_YEAR_MOST_ROWS;
+        year_answers[HS_ANSWER_LENGTH * i] = i % 3;
+        year_answers[HS_ANSWER_LENGTH * i + 3] = i * 31 % 65536;
+    }
+    hashes[YEAR_STARTS - 1] = HS_YEAR_MOST_ROWS;
+}
+
 int main(int count, char **paths)
 {
     make_recording();
+    make_year();
     /* The first turn of each resolves symbols and is not counted. */
     for (int i = 1; i < count; i++) {
         load(paths[i]);
         recording_length = READINGS * HS_READING_LINE_LENGTH - (size_t)(i % 2);
+        year_starts = YEAR_STARTS - (size_t)(i % 2);
         for (size_t k = 0; k < CALLS; k++) {
             used_by(calls[k].call);
             size_t bytes = used_by(calls[k].call);

@@ -31,6 +31,7 @@ use Rattle.claims.proofs.Places.{places-say}
 use Rattle.claims.proofs.EmptyPrograms.{empty-programs}
 use Rattle.claims.proofs.Examples.{examples}
 use Rattle.claims.proofs.Points.{points}
+use Rattle.year.proofs.Facts.{year-facts}
 use Rattle.claims.specs.Claims.{Claims}
 
 pub claims : Claims
@@ -64,6 +65,7 @@ claims =
       one-hash = one-hash;
       numbers = numbers;
       powers = powers;
+      year-table = year-facts;
       path-found = λ o p i n a. (path-found-law o p i n a, found-path-law o p i n a);
       path-not-found = path-not-found-law;
       path-not-open = path-not-open;

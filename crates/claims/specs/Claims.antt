@@ -32,6 +32,7 @@ use Rattle.query.specs.Shown.{EntryShown, NamePlaced, VolumeShown}
 use Rattle.path_search.specs.declared.PathAnswer.the-variants.{Entry, NoPath}
 use Rattle.path_search.specs.Search.{matchesBy, pathFound, PathFound}
 use Rattle.text.specs.Decimal.{decimal, IsDecimal}
+use Rattle.year.specs.Facts.{YearFacts}
 use Rattle.claims.specs.NameStops.{NameStops}
 use Rattle.claims.specs.EveryName.{EveryName}
 use Rattle.claims.specs.Offsets.{Offsets}
@@ -139,6 +140,9 @@ pub record Claims : Type 1 where
   pub pieces-agree : PiecesAgree
   -- The lines and the temperatures that the request names.
   pub recording-points : RecordingPoints
+  -- Request 113: any order of the same lines and starts gives the same table; its rows rise strictly by their hashes, at most 1,024;
+  -- mean times number plus remainder is the sum, with a remainder below the number; no number wraps.
+  pub year-table : YearFacts
   -- ---- the path search and the queries, in words
   -- "Path search", with request 105: the least number for which any metrics entry that can be shown matches, and then the first such
   -- entry, or none; and none on bytes that don't pass checks 1 to 6.

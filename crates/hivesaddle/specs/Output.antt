@@ -17,6 +17,7 @@ use Rattle.readings.specs.Recording.{recorded}
 use Rattle.readings.specs.Replay.{sayingOf, answersAfter, answerCount}
 use Rattle.catalogue.specs.declared.Fields.{Fields}
 use Rattle.catalogue.specs.Line.{canWrite, lineOf}
+use Rattle.year.specs.Year as year
 
 -- the values that fit, and the rest of the output as it was
 abbrev pub overlay : List ℕ → List ℕ → List ℕ
@@ -104,3 +105,15 @@ pub record ReplayOut (recording times boards work answers : List ℕ) (code : �
   pub said : Answered (sayingOf (recorded recording)) code out out′
   pub given : answers′ ≡ answersAfter (recorded recording) times boards (answerCount times boards (length answers)) answers
   pub working : work′ ≡ filled (length work)
+
+-- ---- the table at year's end: the refusal or 0; its place and the number of rows; the rows that fit
+abbrev pub yearSaid : List ℕ → List ℕ → List ℕ → Said
+yearSaid bytes hashes answers =
+    record {
+      number = year.refusalOf bytes hashes .number;
+      values = year.refusalOf bytes hashes .place ∷ length (year.rowsOf bytes hashes answers) ∷ [];
+    }
+
+pub record YearOut (bytes hashes answers : List ℕ) (code : ℕ) (rows rows′ out out′ : List ℕ) : Type 0 where
+  pub said : Answered (yearSaid bytes hashes answers) code out out′
+  pub placed : rows′ ≡ year.rowsIn (year.rowsOf bytes hashes answers) rows

@@ -10,7 +10,7 @@ ghost use Rattle.query.specs.Queries.{referenceAsked, referenceSaid, placesNeed
 ghost use Rattle.path_search.specs.Search.{pathFound, pathSaid, ListsPaths};
 ghost use Rattle.walk.specs.Walk as walk;
 ghost use Rattle.writer.specs.LaidOut.{description};
-ghost use Rattle.hivesaddle.specs.Output.{walkSaid, WalkOut, WriteOut, ReplayOut};
+ghost use Rattle.hivesaddle.specs.Output.{walkSaid, WalkOut, WriteOut, ReplayOut, YearOut};
 ghost use Rattle.readings.specs.Replay.{saidOf};
 ghost use Rattle.hivesaddle.specs.Output.{Answered, overlay, lineValues, fieldsOf, LineWriting, verdictValues, valuesWith, PrefixOut, FileOut};
 use catalogue::Fields;
@@ -370,6 +370,25 @@ pub extern "C" fn hs_replay(
 {
     let answer = readings::replay(recording, times, boards, work, answers);
     put_replay(answer, out)
+}
+
+// The table at year's end: 0, or refusal 18, 24 or 26.
+#[no_mangle]
+pub extern "C" fn hs_year_table(
+    lines: &[u8],
+    hashes: &[u32],
+    answers: &[u64],
+    rows: &mut [u64],
+    out: &mut [u64],
+) -> u32
+    ensures { λ r.
+        ⌜ YearOut (now (lines .entry)) (now (hashes .entry)) (now (answers .entry)) r (now (rows .entry)) (now (rows .exit)) (now (out .entry))
+        (now (out .exit)) ⌝ }
+{
+    let answer = year::year_rows(lines, hashes, answers, rows);
+    let values = [answer.place as u64, answer.count as u64];
+    put(out, &values);
+    answer.number
 }
 
 fn put_one(out: &mut [u64], a: u64)

@@ -53,3 +53,21 @@ pub const HS_CATALOGUE_OLD_LINE_LENGTH: usize = 25;
 /// Numbers of an answer of the replay, and bytes of a reading with its line feed.
 pub const HS_ANSWER_LENGTH: usize = 4;
 pub const HS_READING_LINE_LENGTH: usize = 23;
+
+/// Where each number stands in a row of the year's table.
+pub const HS_YEAR_HASH: usize = 0;
+pub const HS_YEAR_LINES: usize = 1;
+pub const HS_YEAR_RUN_COUNTS: usize = 2;
+pub const HS_YEAR_READINGS: usize = 3;
+pub const HS_YEAR_LOWEST: usize = 4;
+pub const HS_YEAR_HIGHEST: usize = 5;
+pub const HS_YEAR_SUM: usize = 6;
+pub const HS_YEAR_MEAN: usize = 7;
+pub const HS_YEAR_REMAINDER: usize = 8;
+pub const HS_YEAR_ROW_LENGTH: usize = 9;
+
+/// The most lines and starts that the table is made of, and the most rows that
+/// it has.
+pub const HS_YEAR_MOST_LINES: usize = 1048576;
+pub const HS_YEAR_MOST_STARTS: usize = 1048576;
+pub const HS_YEAR_MOST_ROWS: usize = 1024;

@@ -1,11 +1,12 @@
 //! Safe calls into the proved reader of Windows Prefetch (SCCA) files, versions
 //! 17, 23, 26 and 30, uncompressed, and its writer of test files, versions 17
-//! and 23. And a replay of temperature recordings against program starts.
+//! and 23. And a replay of temperature recordings against program starts, and
+//! the table at year's end.
 //!
 //! Every function takes any bytes, any index and any buffer length and comes
 //! to an end. Nothing is allocated, but by [`read_file_alloc`],
-//! [`list_paths_alloc`], [`write_file_alloc`], [`TestFile`], [`replay()`] and
-//! [`Replay`].
+//! [`list_paths_alloc`], [`write_file_alloc`], [`TestFile`], [`replay()`],
+//! [`Replay`] and [`year_table`].
 //!
 //! Numbers in a file are little-endian. A text is UTF-16 units kept as they
 //! stand, and is handed over as bytes, low byte first.
@@ -20,6 +21,7 @@ mod replay;
 mod test_file;
 mod walk;
 mod writer;
+mod year;
 
 pub use catalogue::{
     catalogue_read, catalogue_write, CatalogueFields, CATALOGUE_LINE_LENGTH,
@@ -38,6 +40,10 @@ pub use replay::{replay, replay_into, BadLine, Reading, Replay, Start};
 pub use test_file::{TestFile, TestVolume};
 pub use walk::{walk, Walk};
 pub use writer::{write_file, write_file_alloc, Description};
+pub use year::{
+    year_table, year_table_into, Readings, YearRefusal, YearRow, YearStart, YEAR_MOST_LINES,
+    YEAR_MOST_ROWS, YEAR_MOST_STARTS, YEAR_ROW_LENGTH,
+};
 
 /// What a slot of `predecessors` holds where it has no entry, and every slot
 /// after an answer that is no acceptance; and each place of `work` after a

@@ -181,3 +181,20 @@ extern "C" {
         out_length: usize,
     ) -> u32;
 }
+
+extern "C" {
+    /// 0, 18, 24 or 26. `rows`: [`HS_YEAR_ROW_LENGTH`] numbers for each row, as
+    /// many whole rows as fit. `out`: place, number of rows.
+    pub fn hs_year_table(
+        lines: *const u8,
+        length: usize,
+        hashes: *const u32,
+        starts: usize,
+        answers: *const u64,
+        answers_length: usize,
+        rows: *mut u64,
+        rows_length: usize,
+        out: *mut u64,
+        out_length: usize,
+    ) -> u32;
+}

@@ -48,6 +48,23 @@ impl Reading {
             _ => None,
         }
     }
+
+    /// The four numbers for an answer, as [`replay_into`] leaves them.
+    ///
+    /// ```
+    /// use hivesaddle::Reading;
+    /// let reading = Reading { time: 5, board: 3, temperature: -200 };
+    /// assert_eq!(Reading::answer(Some(reading)), [1, 5, 3, 0xFF38]);
+    /// assert_eq!(Reading::answer(None), [0; 4]);
+    /// ```
+    pub fn answer(reading: Option<Reading>) -> [u64; HS_ANSWER_LENGTH] {
+        match reading {
+            Some(Reading { time, board, temperature }) => {
+                [1, time, board.into(), (temperature as u16).into()]
+            }
+            None => [0; HS_ANSWER_LENGTH],
+        }
+    }
 }
 
 /// Refusal 22: a line that is no reading. Every answer is then none.

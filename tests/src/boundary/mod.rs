@@ -6,6 +6,7 @@
 //! - `outputs`: the lists that a reader writes to, before a call and after it.
 //! - `comparison`: a reader of the library beside that of the reference.
 //! - `replaying`: the replay of the library, with the lists that it writes to.
+//! - `tabling`: the year's table of the library, with the lists that it writes to.
 //! - `walking`: the walk of the library, with the lists that it writes to.
 //! - `writing`: the writer of the library, with the lists that it writes to.
 
@@ -14,14 +15,16 @@ mod guarded;
 mod numbers;
 mod outputs;
 mod replaying;
+mod tabling;
 mod walking;
 mod writing;
 
 pub use comparison::{compare_both, compare_reader, Reader, PREFIX_READER, WHOLE_READER};
 pub use guarded::{guarded_bytes, guarded_u32, guarded_u64, inner_of, Guarded};
-pub use numbers::{numbers_of, replay_numbers, walk_numbers};
+pub use numbers::{numbers_of, replay_numbers, walk_numbers, year_numbers};
 pub use outputs::{Outcome, Outputs, RawReader};
 pub use replaying::{compare_replay, ReplayInput, ReplayLengths, ReplayOutputs};
+pub use tabling::{compare_year, YearInput, YearLengths, YearOutputs};
 pub use walking::{compare_walk, WalkOutputs};
 pub use writing::{compare_write, WriteOutputs};
 

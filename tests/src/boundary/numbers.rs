@@ -1,5 +1,5 @@
-//! The numbers that a verdict of the reference stands for, a walk or a replay,
-//! in the order of `out`. The fuzzer's judge has this file too, so it takes the
+//! The numbers that a verdict of the reference stands for, a walk, a replay or a
+//! year's table, in the order of `out`. The fuzzer's judge has this file too, so it takes the
 //! constants from the module above.
 
 use super::constants::*;
@@ -7,6 +7,7 @@ use crate::reference::checks::Refusal;
 use crate::reference::readers::Verdict;
 use crate::reference::replay::{Reading, Replayed};
 use crate::reference::walk::Walk;
+use crate::reference::year::{Row, Table};
 
 /// Every field is zero with any answer but an acceptance.
 pub fn numbers_of(verdict: &Verdict) -> (u32, [u64; HS_READER_OUT]) {
@@ -79,4 +80,28 @@ fn answer_numbers(answer: &Option<Reading>) -> [u64; HS_ANSWER_LENGTH] {
             [1, time, board.into(), i64::from(temperature).rem_euclid(65_536) as u64]
         }
     }
+}
+
+/// The rows too, nine numbers each; none after a refusal.
+pub fn year_numbers(table: &Table) -> (u32, [u64; 2], Vec<u64>) {
+    match table {
+        Ok(rows) => (0, [0, rows.len() as u64], rows.iter().flat_map(row_numbers).collect()),
+        Err(refused) => (refused.number, [refused.place, 0], Vec::new()),
+    }
+}
+
+fn row_numbers(row: &Row) -> [u64; HS_YEAR_ROW_LENGTH] {
+    let mut numbers = [0; HS_YEAR_ROW_LENGTH];
+    numbers[HS_YEAR_HASH] = row.stored_hash.into();
+    numbers[HS_YEAR_LINES] = row.lines;
+    numbers[HS_YEAR_RUN_COUNTS] = row.run_counts;
+    if let Some(readings) = row.readings {
+        numbers[HS_YEAR_READINGS] = readings.count;
+        numbers[HS_YEAR_LOWEST] = readings.lowest as u64;
+        numbers[HS_YEAR_HIGHEST] = readings.highest as u64;
+        numbers[HS_YEAR_SUM] = readings.sum as u64;
+        numbers[HS_YEAR_MEAN] = readings.mean as u64;
+        numbers[HS_YEAR_REMAINDER] = readings.remainder;
+    }
+    numbers
 }

@@ -21,6 +21,9 @@ mod volumes;
 mod walks;
 mod write_points;
 pub mod writes;
+mod year_limits;
+mod year_points;
+mod years;
 
 /// What a run is asked for.
 pub struct Run {
@@ -52,5 +55,6 @@ pub const GROUPS: &[Group] = &[
     ("walks", walks::run),
     ("writes", writes::run),
     ("replays", replays::run),
+    ("years", years::run),
     ("listing", listing::run),
 ];

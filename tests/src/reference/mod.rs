@@ -16,3 +16,4 @@ pub mod trace;
 pub mod volumes;
 pub mod walk;
 pub mod writer;
+pub mod year;

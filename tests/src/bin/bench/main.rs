@@ -44,6 +44,11 @@
 //! The writer on what files as Windows has them say, of 150 KB and 16 MB,
 //! beside that of `plain`.
 //!
+//! bench year
+//!
+//! The year's table of 1,048,576 lines and as many starts with 1,024 hashes, and
+//! of fewer, beside that of `plain`, which has a `BTreeMap`.
+//!
 //! The two run turn and turn about on the same input, and medians are shown.
 
 mod hashes;
@@ -57,6 +62,7 @@ mod timing;
 mod trace;
 mod walk;
 mod write;
+mod year;
 
 use std::process::ExitCode;
 
@@ -72,9 +78,10 @@ fn main() -> ExitCode {
         Some("replay") => replay::run(),
         Some(replay_program::PLAIN) => replay_program::plain(),
         Some("write") => write::run(),
+        Some("year") => year::run(),
         _ => {
             eprintln!(
-                "bench hashes | powers | readers | trace | overlap | search | walk | replay | write"
+                "bench hashes | powers | readers | trace | overlap | search | walk | replay | write | year"
             );
             return ExitCode::from(2);
         }

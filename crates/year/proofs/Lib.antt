@@ -1,0 +1,16 @@
+pub mod Lines
+pub mod Slots
+pub mod Rows
+pub mod Sets
+pub mod Given
+pub mod Entries
+pub mod Faults
+pub mod Taking
+pub mod Starts
+pub mod Means
+pub mod Columns
+pub mod Shown
+pub mod Whole
+pub mod Order
+pub mod Facts
+pub mod Putting
