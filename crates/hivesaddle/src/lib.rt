@@ -339,17 +339,22 @@ pub extern "C" fn hs_walk(
     put_walk(answer, out)
 }
 
+// The number of a refused recording, and the line's where none is bad.
+const BAD_LINE: u32 = 22;
+
+const NO_LINE: u64 = 0;
+
 fn put_replay(answer: ReplayAnswer, out: &mut [u64]) -> u32
     ensures { λ r. ⌜ Answered (saidOf answer) r (now (out .entry)) (now (out .exit)) ⌝ }
 {
     match answer {
         ReplayAnswer::Replayed => {
-            put_one(out, 0);
+            put_one(out, NO_LINE);
             0
         }
         ReplayAnswer::Refused(line) => {
             put_one(out, line);
-            22
+            BAD_LINE
         }
     }
 }
