@@ -25,6 +25,7 @@ use Rattle.walk.proofs.Once.{every-entry}
 use Rattle.readings.proofs.BestReading.{best-reading}
 use Rattle.readings.proofs.Points.{recording-points}
 use Rattle.readings.proofs.Feeding.{pieces-agree}
+use Rattle.replay_input.proofs.Cutting.{steps-agree}
 use Rattle.claims.proofs.Walks.{walks-say}
 use Rattle.claims.proofs.Writer.{writers-say}
 use Rattle.claims.proofs.Places.{places-say}
@@ -57,6 +58,7 @@ claims =
       walks = walks-say;
       best-reading = best-reading;
       pieces-agree = pieces-agree;
+      steps-agree = steps-agree;
       recording-points = recording-points;
       cycles = cycle-law;
       round-trip = round-trip;

@@ -27,6 +27,7 @@ use Rattle.readings.specs.declared.Reading.{Reading}
 use Rattle.readings.specs.BestReading.{BestReading}
 use Rattle.readings.specs.Points.{RecordingPoints}
 use Rattle.readings.specs.Feeding.{PiecesAgree}
+use Rattle.replay_input.specs.Input.{StepsAgree}
 use Rattle.query.specs.Queries.{entryShown, volumeShown, volumeFacts}
 use Rattle.query.specs.Shown.{EntryShown, NamePlaced, VolumeShown}
 use Rattle.path_search.specs.declared.PathAnswer.the-variants.{Entry, NoPath}
@@ -138,6 +139,8 @@ pub record Claims : Type 1 where
   pub best-reading : (time board : ℕ) (rs : List Reading) → BestReading time board rs
   -- "How the steps fall changes nothing": feeding pieces, however the bytes are cut, gives what the whole gives.
   pub pieces-agree : PiecesAgree
+  -- The program's starts and recording too: its steps, however they fall, read what the input is as a whole.
+  pub steps-agree : StepsAgree
   -- The lines and the temperatures that the request names.
   pub recording-points : RecordingPoints
   -- Request 113: any order of the same lines and starts gives the same table; its rows rise strictly by their hashes, at most 1,024;

@@ -13,3 +13,4 @@ pub mod Points
 pub mod Signed
 pub mod Framing
 pub mod Feeding
+pub mod Keeping

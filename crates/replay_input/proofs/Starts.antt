@@ -1,53 +1,49 @@
 -- Start lines: a line of 18 digits, and those that bytes begin with, one after another.
 use mathlib.Core.Path.{_≡_, refl, sym, ap, _∙_}
-use mathlib.Core.Bool.{Bool, true, false, _&&_}
+use mathlib.Core.Bool.{Bool, true, false}
 use mathlib.Core.List.{List, [], _∷_, _++_, map, append-assoc, append-nil}
 use Prim.Native.Nat.{ℕ, zero, suc, _+_, _*_, _-_, _^_, _≤_, _<_, min}
-use native.Mathlib.Nat.{add-zero, add-suc, suc-add}
+use native.Mathlib.Nat.{add-zero}
 use native.Mathlib.Omega.{arith}
 use lib.Dec.{eqb}
 use lib.ListN.{length, getD, set, take, drop, length-take, length-drop, length-append}
 use lib.Seq.{sets, length-sets, drop-drop}
-use borrow.Author.Tests.{eq-eqb, ne-eqb, eqb-true}
 use Rattle.lists.specs.Count.{pick}
-use Rattle.lists.proofs.Count.{true-false}
 use Rattle.hex.specs.Hex.{areDigits, hexAt}
-use Rattle.hex.proofs.Laws.{digits-all, digits-true, digits-within}
-use Rattle.hex.proofs.Hex.{hex-lt}
+use Rattle.readings.proofs.Lines.{Line, line-size, line-digits, line-feed, line-true, line-field, line-below}
 use Rattle.replay_input.specs.Starts.{isStart, timeIn, boardIn, startLines, room, TakesStarts}
 
+-- a start line is a line of 18 digits
 module _ (s : List ℕ) where
   pub start-size : (length s ≡ 19 → ⊥) → isStart s ≡ false
   unfolding isStart
-  start-size h = rw (ne-eqb (length s) 19 h)
+  start-size = line-size 18 s
 
   pub start-digits : length s ≡ 19 → areDigits s 0 18 ≡ false → isStart s ≡ false
   unfolding isStart
-  start-digits e d = rw (eq-eqb (length s) 19 e, d)
+  start-digits = line-digits 18 s
 
   pub start-feed : length s ≡ 19 → areDigits s 0 18 ≡ true → isStart s ≡ eqb (getD s 18 0) 10
   unfolding isStart
-  start-feed e d = rw (eq-eqb (length s) 19 e, d)
+  start-feed = line-feed 18 s
 
-  start-true : isStart s ≡ true → (length s ≡ 19) × (areDigits s 0 18 ≡ true)
+  pub start-true : isStart s ≡ true → Line 18 s
   unfolding isStart
-  start-true e = go (eqb (length s) 19) (areDigits s 0 18) (eqb (getD s 18 0) 10) refl refl e
-    where
-      go : (a b c : Bool) → eqb (length s) 19 ≡ a → areDigits s 0 18 ≡ b → a && (b && c) ≡ true → (length s ≡ 19) × (areDigits s 0 18 ≡ true)
-      go true true c p q e = (eqb-true _ _ p, q)
-      go true false c p q e = absurd (true-false (sym e))
-      go false b c p q e = absurd (true-false (sym e))
+  start-true = line-true 18 s
 
   pub start-field : isStart s ≡ true → (at k : ℕ) → at + k ≤ 18 → areDigits s at k ≡ true
-  start-field e at k l =
-      let f = start-true e in
-      digits-all s at k (omega (arith, f .0)) (digits-within s 0 18 at k (digits-true s 0 18 (f .1) .1) (omega arith) (omega arith))
+  unfolding isStart
+  start-field = line-field 18 s
 
   pub start-below : isStart s ≡ true → (at k : ℕ) → at + k ≤ 18 → hexAt k s at < 16 ^ k
-  start-below e at k l = hex-lt k s at (digits-true s at k (start-field e at k l) .1)
+  unfolding isStart
+  start-below = line-below 18 s
 
 pub start-long : (s : List ℕ) → isStart (take 19 s) ≡ true → 19 ≤ length s
-start-long s e = omega (arith, start-true (take 19 s) e .0, length-take 19 s)
+start-long s e = omega (arith, start-true (take 19 s) e .size, length-take 19 s)
+
+pub short-no-start : (s : List ℕ) → length s < 19 → isStart (take 19 s) ≡ false
+short-no-start s l = start-size (take 19 s) (λ e. omega (arith, length-take 19 s))
 
 -- one number more
 sets-more : (l : List ℕ) (i : ℕ) (vs : List ℕ) (v : ℕ) → sets l i (vs ++ v ∷ []) ≡ set (sets l i vs) (i + length vs) v
@@ -92,7 +88,10 @@ module _ (s : List ℕ) (n held : ℕ) (times boards : List ℕ) (k at : ℕ) (t
   storing-fits e = omega (arith, start-long (drop at s) e, length-drop at s)
 
   pub storing-sizes : (length times′ ≡ length times) × (length boards′ ≡ length boards)
-  storing-sizes = (ap length (c .times′-are) ∙ length-sets times held (map timeIn (c .done)), ap length (c .boards′-are) ∙ length-sets boards held (map boardIn (c .done)))
+  storing-sizes = (
+    ap length (c .times′-are) ∙ length-sets times held (map timeIn (c .done)),
+    ap length (c .boards′-are) ∙ length-sets boards held (map boardIn (c .done)),
+  )
 
   more : k < n → isStart (take 19 (drop at s)) ≡ true → startLines (n - k) (drop at s) ≡ take 19 (drop at s) ∷ startLines (n - (k + 1)) (drop (at + 19) s)
   unfolding startLines

@@ -1,2 +1,5 @@
 pub mod Starts
 pub mod Text
+pub mod Input
+pub mod Program
+pub mod Private

@@ -1,5 +1,6 @@
--- What waits lies in the buffer, and every start has its place.
-use mathlib.Core.Path.{_≡_, refl, sym, _∙_}
+-- What waits lies in the buffer, and no list changes its length.
+use mathlib.Core.Path.{_≡_, refl, _∙_}
+use mathlib.Core.List.{[]}
 use Prim.Native.Nat.{_+_, _-_, _≤_}
 use native.Mathlib.Omega.{arith}
 use lib.ListN.{length, take, drop, length-take, length-drop}
@@ -9,30 +10,18 @@ use Rattle.replay.proofs.take_input.Statement.{statement}
 use Rattle.replay.proofs.take_input.Tie as tie
 
 abbrev Inv-loop : tie.InvT-loop
-Inv-loop buffer₀ times₀ boards₀ work₀ answers₀ input₀ turns₀ buffer times boards work answers input turns = (length buffer ≡ length buffer₀) × (length times ≡ length times₀) × (length boards ≡ length boards₀) × (length work ≡ length work₀)
-    × (length answers ≡ length answers₀) × (input .kept ≤ length buffer₀) × (input .starts ≤ length times₀) × (input .starts ≤ length boards₀)
+Inv-loop buffer₀ times₀ boards₀ work₀ answers₀ input₀ turns₀ buffer times boards work answers input turns = (length buffer ≡ length buffer₀)
+    × (length times ≡ length times₀) × (length boards ≡ length boards₀) × (length work ≡ length work₀) × (length answers ≡ length answers₀)
+    × (input .kept ≤ length buffer₀)
 
 abbrev μ-loop : tie.MeasureT-loop
 μ-loop buffer₀ times₀ boards₀ work₀ answers₀ input₀ turns₀ buffer times boards work answers input turns = turns
 
--- the buffer after a read has its length, and what was read lies in it
-read : (c : tie.After-read-input Inv-loop μ-loop)
-    → c .before .before .before .loop .input .kept + c .read-input .result ≤ length (c .before .before .before .loop .buffer)
-read c =
-    let h = c .before .before .before in
-    let k = h .loop .input .kept in
-    omega (
-      arith,
-      c .read-input .ensures,
-      c .read-input .kept .0,
-      h .loop .inv .0,
-      h .loop .inv .5,
-      length-take (length (h .loop .buffer) - k) (drop k (h .loop .buffer)),
-      length-drop k (h .loop .buffer),
-    )
+begin-input-requires : tie.Need-begin-input-requires Inv-loop μ-loop
+begin-input-requires c κs = search needs
 
 loop-holds : tie.Need-loop-holds Inv-loop μ-loop
-loop-holds c = (refl, refl, refl, refl, refl, omega arith, omega arith, omega arith)
+loop-holds c = (refl, refl, refl, refl, refl, omega (arith, c .begin-input .ensures [] [] [] [] [] .kept))
 
 sub-read-input : tie.Need-sub-read-input Inv-loop μ-loop
 sub-read-input c = omega (arith, c .before .loop .inv .0, c .before .loop .inv .5)
@@ -47,7 +36,8 @@ read-input-requires : tie.Need-read-input-requires Inv-loop μ-loop
 read-input-requires c κs = search needs
 
 same-length : tie.Need-same-length Inv-loop μ-loop
-same-length c = same-len-mid (c .before .before .before .before .before .before .loop .input .kept) (length (c .before .before .before .before .before .before .loop .buffer) - c .before .before .before .before .before .before .loop .input .kept) (c .before .before .before .before .before .before .loop .buffer) (c .before .before .before .read-input .last .0) (c .before .before .before .read-input .kept .0) ∙ c .before .before .before .before .before .before .loop .inv .0
+same-length c = let i = c .before .before .before .before .before .before .loop in
+    same-len-mid (i .input .kept) (length (i .buffer) - i .input .kept) (i .buffer) (c .before .before .before .read-input .last .0) (c .before .before .before .read-input .kept .0) ∙ i .inv .0
 
 same-length-2 : tie.Need-same-length-2 Inv-loop μ-loop
 same-length-2 c = c .before .before .before .before .before .before .loop .inv .1
@@ -62,35 +52,25 @@ same-length-5 : tie.Need-same-length-5 Inv-loop μ-loop
 same-length-5 c = c .before .before .before .before .before .before .loop .inv .4
 
 returns : tie.Need-returns Inv-loop μ-loop
-returns c = (c .before .before .before .before .before .before .loop .inv .6, c .before .before .before .before .before .before .loop .inv .7)
+returns c = search needs
 
 add-take-step : tie.Need-add-take-step Inv-loop μ-loop
-add-take-step c = omega (arith, read (c .before .before .before .before))
+add-take-step c = let i = c .before .before .before .before .before .before .before .loop in
+    let k = i .input .kept in
+    let b = i .buffer in
+    omega (arith, c .before .before .before .before .read-input .ensures, c .before .before .before .before .read-input .kept .0, i .inv .0, i .inv .5, length-take (length b - k) (drop k b), length-drop k b, c .before .before .before .before .before .before .before .before .before .before .before .before .before .before .good)
 
 take-step-requires : tie.Need-take-step-requires Inv-loop μ-loop
-take-step-requires c κs = let z = same-len-mid (c .before .before .before .before .before .before .before .before .before .before .before .loop .input .kept) (length (c .before .before .before .before .before .before .before .before .before .before .before .loop .buffer) - c .before .before .before .before .before .before .before .before .before .before .before .loop .input .kept) (c .before .before .before .before .before .before .before .before .before .before .before .loop .buffer) (c .before .before .before .before .before .before .before .before .read-input .last .0) (c .before .before .before .before .before .before .before .before .read-input .kept .0) in
-    let v = c .before .before .before .before .before .before .before .before .before .before .before .loop .inv in
-    (omega (arith, read (c .before .before .before .before .before .before .before .before), z), omega (arith, v .1, v .6), omega (arith, v .2, v .7))
+take-step-requires c κs = search needs
 
 sub-turns : tie.Need-sub-turns Inv-loop μ-loop
-sub-turns c = omega (arith, c .before .before .before .before .before .before .before .before .before .before .before .before .before .before .before .before .before .before .before .before .before .loop-test .taken)
+sub-turns c = search needs
 
 loop-less : tie.Need-loop-less Inv-loop μ-loop
-loop-less c = omega (arith, c .before .before .before .before .before .before .before .before .before .before .before .before .before .before .before .before .before .before .before .before .before .loop-test .taken)
+loop-less c = search needs
 
 loop-again : tie.Need-loop-again Inv-loop μ-loop
-loop-again c = let z = same-len-mid (c .before .before .before .before .before .before .before .before .before .before .before .before .before .before .before .before .before .before .before .before .before .before .loop .input .kept) (length (c .before .before .before .before .before .before .before .before .before .before .before .before .before .before .before .before .before .before .before .before .before .before .loop .buffer) - c .before .before .before .before .before .before .before .before .before .before .before .before .before .before .before .before .before .before .before .before .before .before .loop .input .kept) (c .before .before .before .before .before .before .before .before .before .before .before .before .before .before .before .before .before .before .before .before .before .before .loop .buffer) (c .before .before .before .before .before .before .before .before .before .before .before .before .before .before .before .before .before .before .before .read-input .last .0) (c .before .before .before .before .before .before .before .before .before .before .before .before .before .before .before .before .before .before .before .read-input .kept .0) in
-    let v = c .before .before .before .before .before .before .before .before .before .before .before .before .before .before .before .before .before .before .before .before .before .before .loop .inv in
-    let s = c .before .before .before .before .before .before .before .before .before .before .take-step .ensures in (
-      c .before .before .before .before .before .before .before .before .before .before .take-step .kept .0 ∙ z ∙ v .0,
-      c .before .before .before .before .before .before .before .before .before .before .take-step .kept .1 .1 .1 .0 ∙ v .1,
-      c .before .before .before .before .before .before .before .before .before .before .take-step .kept .1 .1 .1 .1 .0 ∙ v .2,
-      c .before .before .before .before .before .before .before .before .before .before .take-step .kept .1 .1 .1 .1 .1 .0 ∙ v .3,
-      c .before .before .before .before .before .before .before .before .before .before .take-step .kept .1 .1 .1 .1 .1 .1 .0 ∙ v .4,
-      omega (arith, s .0, read (c .before .before .before .before .before .before .before .before .before .before .before .before .before .before .before .before .before .before .before), v .0),
-      omega (arith, s .1, v .1),
-      omega (arith, s .2, v .2),
-    )
+loop-again c = search needs
 
 same-length-6 : tie.Need-same-length-6 Inv-loop μ-loop
 same-length-6 c = c .before .loop .inv .0
@@ -108,7 +88,7 @@ same-length-10 : tie.Need-same-length-10 Inv-loop μ-loop
 same-length-10 c = c .before .loop .inv .4
 
 returns-2 : tie.Need-returns-2 Inv-loop μ-loop
-returns-2 c = (c .before .loop .inv .6, c .before .loop .inv .7)
+returns-2 c = search needs
 
 pub take-input-spec : {M : Type 1} → statement M
 take-input-spec =
@@ -116,6 +96,7 @@ take-input-spec =
     (tie.spec
     Inv-loop
     μ-loop
+    begin-input-requires
     loop-holds
     sub-read-input
     part-read-input-start

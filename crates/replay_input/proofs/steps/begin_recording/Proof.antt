@@ -1,0 +1,40 @@
+-- The starts are put in order, and the frames placed.
+use mathlib.Core.Path.{sym}
+use lib.Seq.{length-take-le}
+use Rattle.replay_input.proofs.Standing.{recording-begins}
+use borrow.Author.Needs.{needs}
+use Rattle.replay_input.proofs.steps.begin_recording.Statement.{statement}
+use Rattle.replay_input.proofs.steps.begin_recording.Tie as tie
+
+slice-aggregate-begin : tie.Need-slice-aggregate-begin
+slice-aggregate-begin c = sym (length-take-le _ _ (c .before .before .before .before .before .before .pre .timed))
+
+slice-aggregate-begin-2 : tie.Need-slice-aggregate-begin-2
+slice-aggregate-begin-2 c = sym (length-take-le _ _ (c .before .before .before .before .before .before .before .pre .boarded))
+
+begin-requires : tie.Need-begin-requires
+begin-requires c κs = search needs
+
+take-frames-requires : tie.Need-take-frames-requires
+take-frames-requires c κs = search needs
+
+same-length : tie.Need-same-length
+same-length c = search needs
+
+same-length-2 : tie.Need-same-length-2
+same-length-2 c = search needs
+
+returns : tie.Need-returns
+returns c = recording-begins _ _ _ _ _ _ _ _ _ _ _ (c .before .before .before .before .before .before .before .before .before .begin .ensures) (c .before .before .take-frames .ensures)
+
+pub begin-recording-spec : {M : Type 1} → statement M
+begin-recording-spec =
+    tie.close
+    (tie.spec
+    slice-aggregate-begin
+    slice-aggregate-begin-2
+    begin-requires
+    take-frames-requires
+    same-length
+    same-length-2
+    returns)

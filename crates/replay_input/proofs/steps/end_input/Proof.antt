@@ -1,0 +1,48 @@
+-- With a recording or without.
+use Rattle.replay_input.proofs.Standing.{fitting-fits, ends-recording, ends-starting}
+use borrow.Author.Needs.{needs}
+use Rattle.replay_input.proofs.steps.end_input.Statement.{statement}
+use Rattle.replay_input.proofs.steps.end_input.Tie as tie
+
+fitting-requires : tie.Need-fitting-requires
+fitting-requires c κs = search needs
+
+end-starting-requires : tie.Need-end-starting-requires
+end-starting-requires c κs = fitting-fits _ _ _ _ (c .before .before .before .before .fitting .ensures)
+
+same-length : tie.Need-same-length
+same-length c = search needs
+
+same-length-2 : tie.Need-same-length-2
+same-length-2 c = search needs
+
+returns : tie.Need-returns
+returns c = let s = c .before .before .before .before .before .before .before .before .before .before .before .before .before .before .before .args in
+    ends-starting (s .input) _ (s .times .now) (s .boards .now) (s .work .now) (s .answers .now) _ _ _ (c .before .before .before .before .before .before .before .before .before .fitting .ensures) (c .before .before .before .before .before .before .before .if1 .taken) (c .before .before .before .before .end-starting .ensures)
+
+end-recording-requires : tie.Need-end-recording-requires
+end-recording-requires c κs = fitting-fits _ _ _ _ (c .before .before .before .before .fitting .ensures)
+
+same-length-3 : tie.Need-same-length-3
+same-length-3 c = search needs
+
+same-length-4 : tie.Need-same-length-4
+same-length-4 c = search needs
+
+returns-2 : tie.Need-returns-2
+returns-2 c = let s = c .before .before .before .before .before .before .before .before .before .before .before .before .before .before .before .args in
+    ends-recording (s .input) _ (s .times .now) (s .boards .now) (s .work .now) (s .answers .now) _ _ _ (c .before .before .before .before .before .before .before .before .before .fitting .ensures) (c .before .before .before .before .before .before .before .if1 .left) (c .before .before .before .before .end-recording .ensures)
+
+pub end-input-spec : {M : Type 1} → statement M
+end-input-spec =
+    tie.close
+    (tie.spec
+    fitting-requires
+    end-starting-requires
+    same-length
+    same-length-2
+    returns
+    end-recording-requires
+    same-length-3
+    same-length-4
+    returns-2)

@@ -1,0 +1,41 @@
+-- A recording without a line.
+use mathlib.Core.Path.{sym}
+use lib.Seq.{length-take-le}
+use Rattle.replay_input.proofs.Standing.{ends-unread}
+use borrow.Author.Needs.{needs}
+use Rattle.replay_input.proofs.steps.end_starting.Statement.{statement}
+use Rattle.replay_input.proofs.steps.end_starting.Tie as tie
+
+slice-aggregate-begin : tie.Need-slice-aggregate-begin
+slice-aggregate-begin c = sym (length-take-le _ _ (c .before .before .before .before .before .pre .timed))
+
+slice-aggregate-begin-2 : tie.Need-slice-aggregate-begin-2
+slice-aggregate-begin-2 c = sym (length-take-le _ _ (c .before .before .before .before .before .before .pre .boarded))
+
+begin-requires : tie.Need-begin-requires
+begin-requires c κs = search needs
+
+end-recording-requires : tie.Need-end-recording-requires
+end-recording-requires c κs = search needs
+
+same-length : tie.Need-same-length
+same-length c = search needs
+
+same-length-2 : tie.Need-same-length-2
+same-length-2 c = search needs
+
+returns : tie.Need-returns
+returns c = let b = c .before .before .before .before .before .before .before .before .before .before .before .begin in
+    ends-unread _ _ _ _ _ _ _ _ _ _ _ _ (b .ensures) (c .before .before .before .before .end-recording .ensures) (b .kept .1 .1 .0) (b .kept .1 .1 .1 .0)
+
+pub end-starting-spec : {M : Type 1} → statement M
+end-starting-spec =
+    tie.close
+    (tie.spec
+    slice-aggregate-begin
+    slice-aggregate-begin-2
+    begin-requires
+    end-recording-requires
+    same-length
+    same-length-2
+    returns)

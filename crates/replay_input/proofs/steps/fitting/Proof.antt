@@ -1,0 +1,19 @@
+-- The least of three.
+use mathlib.Core.Path.{_∙_, ap}
+use Prim.Native.Nat.{ℕ, min}
+use borrow.Author.Needs.{needs}
+use Rattle.replay_input.proofs.steps.fitting.Statement.{statement}
+use Rattle.replay_input.proofs.steps.fitting.Tie as tie
+
+least-requires : tie.Need-least-requires
+least-requires c κs = search needs
+
+least-requires-2 : tie.Need-least-requires-2
+least-requires-2 c κs = search needs
+
+returns : tie.Need-returns
+returns c = ap (λ (n : ℕ). record { starts = n; starting = c .before .before .before .args .stage .starting; progress = c .before .before .before .args .stage .progress })
+    (c .before .least2 .ensures ∙ ap (min (c .before .before .before .args .stage .starts)) (c .before .before .least .ensures))
+
+pub fitting-spec : {M : Type 1} → statement M
+fitting-spec = tie.close (tie.spec least-requires least-requires-2 returns)

@@ -1,0 +1,67 @@
+-- The bytes at hand are those that waited and those that came; what is not used is carried to the front.
+use mathlib.Core.Path.{_≡_, sym, ap, _∙_}
+use native.Mathlib.Omega.{arith}
+use lib.ListN.{length, take}
+use lib.Seq.{length-take-le}
+use Rattle.replay_input.proofs.Standing.{fitting-fits, step-holds}
+use borrow.Author.Needs.{needs}
+use Rattle.replay_input.proofs.steps.take_step.Statement.{statement}
+use Rattle.replay_input.proofs.steps.take_step.Tie as tie
+
+least-requires : tie.Need-least-requires
+least-requires c κs = search needs
+
+fitting-requires : tie.Need-fitting-requires
+fitting-requires c κs = search needs
+
+slice-reshare-prefix-take-bytes : tie.Need-slice-reshare-prefix-take-bytes
+slice-reshare-prefix-take-bytes c = search needs
+
+slice-aggregate-take-bytes : tie.Need-slice-aggregate-take-bytes
+slice-aggregate-take-bytes c = sym (length-take-le _ _ (omega (arith, c .before .before .before .least .ensures)))
+
+take-bytes-requires : tie.Need-take-bytes-requires
+take-bytes-requires c κs = fitting-fits _ _ _ _ (c .before .before .before .before .before .fitting .ensures)
+
+carry-over-requires : tie.Need-carry-over-requires
+carry-over-requires c κs = let n = c .before .before .before .before .before .before .before .before .before .before .before .before .before .before .before .before .before .before .least in
+    let e : length (take (n .result) (c .before .before .before .before .before .before .before .before .before .before .before .before .before .before .before .before .before .before .before .before .before .before .before .before .args .buffer .now)) ≡ n .result = length-take-le _ _ (omega (arith, n .ensures)) in
+    (omega (arith, c .before .before .before .before .before .before .before .before .before .before .take-bytes .ensures .used), omega (arith, n .ensures))
+
+same-length : tie.Need-same-length
+same-length c = search needs
+
+same-length-2 : tie.Need-same-length-2
+same-length-2 c = search needs
+
+same-length-3 : tie.Need-same-length-3
+same-length-3 c = search needs
+
+same-length-4 : tie.Need-same-length-4
+same-length-4 c = search needs
+
+same-length-5 : tie.Need-same-length-5
+same-length-5 c = search needs
+
+returns : tie.Need-returns
+returns c = let s = c .before .before .before .before .before .before .before .before .before .before .before .before .before .before .before .before .before .before .before .before .before .before .before .before .before .before .before .args in
+    let o = c .before .before .carry-over .ensures in
+    step-holds (s .buffer .now) (s .end) (s .input) (s .times .now) (s .boards .now) (s .work .now) (s .answers .now) _ _ _ _ _ _ _ _ _ (c .before .before .before .before .before .before .before .before .before .before .before .before .before .before .before .before .before .before .before .before .before .least .ensures)
+    (c .before .before .before .before .before .before .before .before .before .before .before .before .before .before .before .before .before .before .before .fitting .ensures) (c .before .before .before .before .before .before .before .before .before .before .before .before .before .take-bytes .ensures) (o .0) (o .1)
+
+pub take-step-spec : {M : Type 1} → statement M
+take-step-spec =
+    tie.close
+    (tie.spec
+    least-requires
+    fitting-requires
+    slice-reshare-prefix-take-bytes
+    slice-aggregate-take-bytes
+    take-bytes-requires
+    carry-over-requires
+    same-length
+    same-length-2
+    same-length-3
+    same-length-4
+    same-length-5
+    returns)
