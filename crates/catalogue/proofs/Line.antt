@@ -1,20 +1,19 @@
 -- Document 01's "Catalogue line", for any number w of size digits and any limit.
 use mathlib.Core.Path.{_≡_, refl, sym, _∙_}
-use mathlib.Core.Bool.{Bool, true, false, _&&_}
-use mathlib.Core.List.{List, _++_}
-use Prim.Native.Nat.{ℕ, _+_, _^_, _≤_, _<_}
+use mathlib.Core.Bool.{Bool, true, false, not, _&&_}
+use mathlib.Core.List.{List, [], _∷_, _++_}
+use Prim.Native.Nat.{ℕ, _+_, _-_, _^_, _≤_, _<_}
 use native.Mathlib.Nat.{pow-le-pow-right}
 use native.Mathlib.Omega.{arith}
-use lib.Dec.{eqb}
+use lib.Dec.{eqb, ltb}
 use lib.ListN.{length, getD, drop}
-use borrow.Author.Tests.{eq-eqb, ne-eqb, eqb-true, le-leb, lt-leb}
-use Rattle.lists.proofs.Count.{true-false}
-use Rattle.hex.specs.Hex.{areDigits, hexAt, readAt}
+use borrow.Author.Tests.{eq-eqb, ne-eqb, eqb-true, le-leb, lt-leb, not-false}
+use Rattle.lists.specs.Count.{pick, some}
+use Rattle.lists.proofs.Count.{true-false, some-false}
+use Rattle.hex.specs.Hex.{isDigit, digitValue, digitOf, areDigits, hexAt}
 use Rattle.hex.specs.Private.{Digits}
-use Rattle.hex.proofs.Laws.{digits-all, digits-true, digits-within, read-digits, read-number}
-use Rattle.hex.proofs.Hex.{hex-lt}
-use Rattle.hex.specs.declared.Read.{Read}
-use Rattle.hex.specs.declared.Read.the-variants.{Number, NoNumber}
+use Rattle.hex.proofs.Laws.{digits-all, digits-true, digits-within}
+use Rattle.hex.proofs.Hex.{digit-law, hex-lt}
 use Rattle.layout.specs.Versions.{versionOf, sizeLimit}
 use Rattle.layout.specs.declared.Version.{Version}
 use Rattle.layout.specs.declared.KnownVersion.{KnownVersion}
@@ -22,7 +21,7 @@ use Rattle.layout.specs.declared.KnownVersion.the-variants.{Known, Unknown}
 use Rattle.catalogue.specs.declared.Fields.{Fields}
 use Rattle.catalogue.specs.declared.WrittenLine.the-variants as writtenLine
 use Rattle.catalogue.specs.Line.{lineOf, fieldsIn, sizeInRange, canForm, isFrame, isLine, noFields, reading, canWrite, Writing, oldSizeLimit}
-use Rattle.catalogue.specs.Private.{Frame, readingAs}
+use Rattle.catalogue.specs.Private.{Frame, readingAs, ValueTable}
 
 -- ---- laws of the frame
 module _ (w : ℕ) (s : List ℕ) where
@@ -113,16 +112,40 @@ module _ (f : Fields) (o : List ℕ) (t : Bool) (l : 27 ≤ length o) (p : t ≡
   unfolding canWrite
   write-formed n h w = let e = le-leb 27 (length o) l in let q = sym p ∙ h in record { number = rw (e, q); output = rw (e, q) w }
 
--- ---- a number of a good line: at most eight digits, so 32 bits hold it, and reading finds it
-module _ (s : List ℕ) (at w : ℕ) (l : w ≤ 8) (d : areDigits s at w ≡ true) (a : Read) (e : a ≡ readAt s at w) where
-  pub number-read : (x : ℕ) → a ≡ Number x → (x ≡ hexAt w s at) × (x < 2 ^ 32)
-  number-read x q =
-      let n : x ≡ hexAt w s at = read-number s at w x (sym e ∙ q) .1 in
-      let p : 16 ^ w ≤ 16 ^ 8 = pow-le-pow-right (omega arith) l in
-      (n, omega (arith, hex-lt w s at (digits-true s at w d .1)))
+-- ---- a number of a good line
 
-  pub number-missing : a ≡ NoNumber → ⊥
-  number-missing q =
-      let f : Number (hexAt w s at) ≡ NoNumber = sym (read-digits s at w (omega arith) d) ∙ sym e ∙ q in
-      let z : _≡_ {A = ℕ} 0 1 = cc in
-      omega arith
+-- a digit lies in the table
+pub digit-range : (c : ℕ) → isDigit c ≡ true → c < 71
+unfolding digitOf
+digit-range c e = go (ltb (digitValue c) 10) (digit-law c e .back)
+  where
+    go : (t : Bool) → pick t (48 + digitValue c) (55 + digitValue c) ≡ c → c < 71
+    go true b = omega (arith, digit-law c e .small)
+    go false b = omega (arith, digit-law c e .small)
+
+-- the constant table, as the prover sees it
+unfoldable pub values : List ℕ
+values = 0 ∷ 1 ∷ 2 ∷ 3 ∷ 4 ∷ 5 ∷ 6 ∷ 7 ∷ 8 ∷ 9 ∷ 0 ∷ 0 ∷ 0 ∷ 0 ∷ 0 ∷ 0 ∷ 0 ∷ 10 ∷ 11 ∷ 12 ∷ 13 ∷ 14 ∷ 15 ∷ []
+
+-- a digit whose entry is not its value
+wrong : ℕ → Bool
+wrong k = isDigit (48 + k) && not (eqb (getD values k 0) (digitValue (48 + k)))
+
+-- there is none, which is computed here
+none-wrong : some wrong 23 ≡ false
+unfolding some isDigit digitValue values wrong
+none-wrong = refl
+
+pub values-right : ValueTable values
+unfolding wrong
+values-right c e =
+    let l = digit-law c e .low in
+    let q : 48 + (c - 48) ≡ c = omega arith in
+    let w : (isDigit c && not (eqb (getD values (c - 48) 0) (digitValue c))) ≡ false =
+    rw q at (some-false wrong 23 none-wrong (c - 48) (omega (arith, digit-range c e))) in
+    eqb-true _ _ (not-false _ (rw e at w))
+
+-- at most eight digits, so 32 bits hold it
+pub number-small : (s : List ℕ) (at w : ℕ) → w ≤ 8 → areDigits s at w ≡ true → hexAt w s at < 2 ^ 32
+number-small s at w l d =
+    let p : 16 ^ w ≤ 16 ^ 8 = pow-le-pow-right (omega arith) l in omega (arith, hex-lt w s at (digits-true s at w d .1))

@@ -2,10 +2,10 @@
 use mathlib.Core.Path.{_≡_}
 use mathlib.Core.Bool.{true}
 use mathlib.Core.List.{List}
-use Prim.Native.Nat.{ℕ, _+_}
+use Prim.Native.Nat.{ℕ, _+_, _-_}
 use lib.ListN.{getD, length}
 use Rattle.lists.specs.Count.{pick}
-use Rattle.hex.specs.Hex.{areDigits}
+use Rattle.hex.specs.Hex.{isDigit, digitValue, areDigits}
 use Rattle.catalogue.specs.Line.{LineAnswer, isLine, fieldsIn, noFields}
 
 -- what `isFrame` says
@@ -17,3 +17,7 @@ pub record Frame (w : ℕ) (s : List ℕ) : Type 0 where
 -- reading bytes whose length tells w, and so the limit
 unfoldable pub readingAs : ℕ → ℕ → List ℕ → LineAnswer
 readingAs w limit s = pick (isLine w limit s) (record { number = 0; fields = fieldsIn w s }) (record { number = 18; fields = noFields })
+
+-- the values of the digits, by how far each lies from the first
+abbrev pub ValueTable : List ℕ → Type 0
+ValueTable t = (c : ℕ) → isDigit c ≡ true → getD t (c - 48) 0 ≡ digitValue c

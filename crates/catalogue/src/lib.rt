@@ -5,11 +5,10 @@ ghost use mathlib.Core.Bool.{true};
 ghost use Prim.Native.Nat.{_+_, _≤_};
 ghost use mathlib.Core.List.{_++_};
 ghost use lib.ListN.{length, drop};
-ghost use Rattle.hex.specs.Hex.{hexAt, areDigits};
-ghost use Rattle.catalogue.specs.Private.{Frame, readingAs};
+ghost use Rattle.hex.specs.Hex.{isDigit, digitValue, hexAt, areDigits};
+ghost use Rattle.catalogue.specs.Private.{Frame, readingAs, ValueTable};
 ghost use Rattle.catalogue.specs.Line.{fieldsIn, lineOf, sizeInRange, canForm, isFrame, reading, readAnswer, Writing};
 ghost use Rattle.layout.specs.declared.KnownVersion.the-variants.{Known};
-use hex::Read;
 use layout::KnownVersion;
 use layout::Layout;
 use layout::SIZE_LIMIT;
@@ -17,6 +16,33 @@ use layout::Version;
 
 // The limit for the size of an old line.
 const OLD_SIZE_LIMIT: u32 = 16_777_215;
+
+// The values of the digits, which are bytes from 48 to 70. Those between 57 and 65 are none.
+const VALUES: [u8; 23] = [
+    0,
+    1,
+    2,
+    3,
+    4,
+    5,
+    6,
+    7,
+    8,
+    9,
+    0,
+    0,
+    0,
+    0,
+    0,
+    0,
+    0,
+    10,
+    11,
+    12,
+    13,
+    14,
+    15,
+];
 
 // What a line says of a file.
 pub struct Fields {
@@ -52,15 +78,27 @@ fn is_frame(line: &[u8], width: usize) -> bool
     line[width + 18] == 10
 }
 
+// The value of a digit. Looked up, as a branch on which are letters would be foretold wrong.
+fn value_of(b: u8, values: &[u8; 23]) -> u64
+    requires { ⌜ (isDigit b ≡ true) × ValueTable (now values) ⌝ }
+    ensures { λ r. ⌜ r ≡ digitValue b ⌝ }
+{
+    values[(b - 48) as usize] as u64
+}
+
 // The number that digits of a good line form.
 fn number_in(line: &[u8], at: usize, width: usize) -> u32
     requires { ⌜ (width ≤ 8) × (areDigits (now line) at width ≡ true) ⌝ }
     ensures { λ r. ⌜ r ≡ hexAt width (now (line .entry)) at ⌝ }
 {
-    match hex::number_at(line, at, width) {
-        Read::Number(x) => x as u32,
-        Read::NoNumber => 0,
+    let values = &VALUES;
+    let mut x: u64 = 0;
+    let mut k = 0;
+    while k < width {
+        x = 16 * x + value_of(line[at + k], values);
+        k += 1;
     }
+    x as u32
 }
 
 fn fields_of(line: &[u8], width: usize) -> Fields

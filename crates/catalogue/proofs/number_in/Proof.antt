@@ -1,37 +1,96 @@
--- At most eight digits: reading finds their number, and 32 bits hold it.
+-- After k turns the number is what the first k digits form; at most eight fit 32 bits.
+use mathlib.Core.Path.{_≡_, ap, _∙_}
+use Prim.Native.Nat.{ℕ, _-_, _≤_}
+use native.Mathlib.Numerals.{add-one}
 use native.Mathlib.Omega.{arith}
-use Rattle.catalogue.proofs.Line.{number-read, number-missing}
+use Rattle.hex.specs.Hex.{hexAt}
+use Rattle.hex.proofs.Hex.{hex-room, digit-law}
+use Rattle.hex.proofs.Laws.{digits-true}
+use Rattle.catalogue.proofs.Line.{values, values-right, number-small}
 use borrow.Author.Needs.{needs}
 use Rattle.catalogue.proofs.number_in.Statement.{statement}
 use Rattle.catalogue.proofs.number_in.Tie as tie
 
-number-at-requires : tie.Need-number-at-requires
-number-at-requires c κs = search needs
+abbrev Inv-loop : tie.InvT-loop
+Inv-loop line at width values x₀ k₀ x k = (k ≤ width) × (x ≡ hexAt k line at)
 
-enum-known-x : tie.Need-enum-known-x
-enum-known-x c = search needs
+abbrev μ-loop : tie.MeasureT-loop
+μ-loop line at width values x₀ k₀ x k = width - k
 
-cast-result : tie.Need-cast-result
-cast-result c =
-    let b = c .before .before .before in
-    let pre = b .before .before .pre in
-    omega (arith, number-read _ _ _ (pre .0) (pre .1) _ (b .number-at .ensures .answer) _ (c .before .x .given .1) .1)
+loop-holds : tie.Need-loop-holds Inv-loop μ-loop
+unfolding hexAt
+loop-holds c = search needs
 
-enum-told : tie.Need-enum-told
-enum-told c = search needs
+mul-x : tie.Need-mul-x Inv-loop μ-loop
+mul-x c =
+    let b = c .before in
+    let s = b .before .before .before in
+    let d = digits-true _ _ _ (s .pre .1) in
+    omega (arith, hex-room (b .loop .k) (s .args .width) (s .args .line .now) (s .args .at) (c .loop-test .taken) (omega arith) (d .1))
 
-returns : tie.Need-returns
-returns c =
-    let b = c .before .before .before in
-    let pre = b .before .before .pre in
-    number-read _ _ _ (pre .0) (pre .1) _ (b .number-at .ensures .answer) _ (c .before .x .given .1) .0
+add-value-of : tie.Need-add-value-of Inv-loop μ-loop
+add-value-of c = omega (arith, digits-true _ _ _ (c .before .before .before .before .pre .1) .0)
 
-returns-2 : tie.Need-returns-2
-returns-2 c =
+shared-slice-read-value-of : tie.Need-shared-slice-read-value-of Inv-loop μ-loop
+shared-slice-read-value-of c = omega (arith, digits-true _ _ _ (c .before .before .before .before .before .pre .1) .0)
+
+value-of-requires : tie.Need-value-of-requires Inv-loop μ-loop
+unfolding values
+value-of-requires c κs =
     let b = c .before .before in
-    let pre = b .before .before .pre in
-    absurd (number-missing _ _ _ (pre .0) (pre .1) _ (b .number-at .ensures .answer) (c .enum-told .given .1))
+    (digits-true _ _ _ (b .before .before .before .pre .1) .1 (b .loop .k) (omega arith), values-right)
+
+add-x : tie.Need-add-x Inv-loop μ-loop
+add-x c =
+    let b = c .before .before .before in
+    let s = b .before .before .before in
+    let d = digits-true _ _ _ (s .pre .1) in
+    omega (
+      arith,
+      hex-room (b .loop .k) (s .args .width) (s .args .line .now) (s .args .at) (omega arith) (omega arith) (d .1),
+      digit-law _ (d .1 (b .loop .k) (omega arith)) .small,
+    )
+
+add-k : tie.Need-add-k Inv-loop μ-loop
+add-k c = search needs
+
+loop-less : tie.Need-loop-less Inv-loop μ-loop
+loop-less c = search needs
+
+loop-again : tie.Need-loop-again Inv-loop μ-loop
+unfolding hexAt
+loop-again c =
+    let b = c .before .before .before in
+    (omega arith, rw (add-one (b .loop .k)) (omega (arith, c .value-of .ensures)))
+
+cast-result : tie.Need-cast-result Inv-loop μ-loop
+cast-result c =
+    let b = c .before in
+    let s = b .before .before .before in
+    let e : b .loop .k ≡ s .args .width = omega arith in
+    omega (arith, b .loop .inv .1 ∙ ap (λ (k : ℕ). hexAt k (s .args .line .now) (s .args .at)) e, number-small _ _ _ (s .pre .0) (s .pre .1))
+
+returns : tie.Need-returns Inv-loop μ-loop
+returns c =
+    let b = c .before in
+    let s = b .before .before .before in
+    let e : b .loop .k ≡ s .args .width = omega arith in
+    b .loop .inv .1 ∙ ap (λ (k : ℕ). hexAt k (s .args .line .now) (s .args .at)) e
 
 pub number-in-spec : {M : Type 1} → statement M
 number-in-spec =
-    tie.close (tie.spec number-at-requires enum-known-x cast-result enum-told returns returns-2)
+    tie.close
+    (tie.spec
+    Inv-loop
+    μ-loop
+    loop-holds
+    mul-x
+    add-value-of
+    shared-slice-read-value-of
+    value-of-requires
+    add-x
+    add-k
+    loop-less
+    loop-again
+    cast-result
+    returns)

@@ -1,0 +1,96 @@
+-- A good line's end is known; else no byte passed is a line feed, so the first that is ends the line; without one the line ends with the bytes.
+use mathlib.Core.Path.{_≡_}
+use mathlib.Core.Logic.{⊎-elim}
+use Prim.Native.Nat.{ℕ, _-_, _≤_, _<_}
+use native.Mathlib.Nat.{eq-or-lt-of-le, le-of-suc-le-suc}
+use native.Mathlib.Omega.{arith}
+use lib.ListN.{length, getD}
+use Rattle.year.proofs.Lines.{ends-here, ends-last}
+use borrow.Author.Needs.{needs}
+use Rattle.year.proofs.scan.line_end.Statement.{statement}
+use Rattle.year.proofs.scan.line_end.Tie as tie
+
+abbrev Inv-loop : tie.InvT-loop
+Inv-loop bytes at i₀ i = (at ≤ i) × (i ≤ length bytes) × ((k : ℕ) → at ≤ k → k < i → getD bytes k 0 ≡ 10 → ⊥)
+
+abbrev μ-loop : tie.MeasureT-loop
+μ-loop bytes at i₀ i = length bytes - i
+
+ends-after-requires : tie.Need-ends-after-requires Inv-loop μ-loop
+ends-after-requires c κs = search needs
+
+add-result : tie.Need-add-result Inv-loop μ-loop
+add-result c = search needs
+
+returns : tie.Need-returns Inv-loop μ-loop
+returns c = c .before .ends-after .ensures (c .if1 .taken)
+
+ends-after-requires-2 : tie.Need-ends-after-requires-2 Inv-loop μ-loop
+ends-after-requires-2 c κs = search needs
+
+add-result-2 : tie.Need-add-result-2 Inv-loop μ-loop
+add-result-2 c = search needs
+
+returns-2 : tie.Need-returns-2 Inv-loop μ-loop
+returns-2 c = c .before .ends-after2 .ensures (c .if2 .taken)
+
+loop-holds : tie.Need-loop-holds Inv-loop μ-loop
+loop-holds c = (omega arith, omega (arith, c .before .before .before .before .before .pre), λ k h l e. omega arith)
+
+shared-slice-read-if3 : tie.Need-shared-slice-read-if3 Inv-loop μ-loop
+shared-slice-read-if3 c = search needs
+
+add-result-3 : tie.Need-add-result-3 Inv-loop μ-loop
+add-result-3 c = search needs
+
+returns-3 : tie.Need-returns-3 Inv-loop μ-loop
+returns-3 c =
+    let h = c .before .before .before in
+    let v = h .loop .inv in
+    ends-here _ _ _ (v .0) (v .2) (omega arith) (c .if3 .taken)
+
+add-i : tie.Need-add-i Inv-loop μ-loop
+add-i c = search needs
+
+loop-less : tie.Need-loop-less Inv-loop μ-loop
+loop-less c = search needs
+
+loop-again : tie.Need-loop-again Inv-loop μ-loop
+loop-again c =
+    let h = c .before .before .before in
+    let v = h .loop .inv in (
+      omega (arith, v .0),
+      omega arith,
+      λ k l g.
+          ⊎-elim
+          (λ (z : k ≡ h .loop .i). rw z (c .if3 .left))
+          (λ (z : k < h .loop .i). v .2 k l z)
+          (eq-or-lt-of-le (le-of-suc-le-suc (omega arith))),
+    )
+
+returns-4 : tie.Need-returns-4 Inv-loop μ-loop
+returns-4 c =
+    let h = c .before in
+    let v = h .loop .inv in
+    ends-last _ _ _ (v .0) (v .2) (omega (arith, v .1)) (h .before .before .before .before .before .before .pre)
+
+pub line-end-spec : {M : Type 1} → statement M
+line-end-spec =
+    tie.close
+    (tie.spec
+    Inv-loop
+    μ-loop
+    ends-after-requires
+    add-result
+    returns
+    ends-after-requires-2
+    add-result-2
+    returns-2
+    loop-holds
+    shared-slice-read-if3
+    add-result-3
+    returns-3
+    add-i
+    loop-less
+    loop-again
+    returns-4)
