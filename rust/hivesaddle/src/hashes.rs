@@ -9,6 +9,7 @@ use crate::{raw, Refusal};
 /// assert_eq!(hivesaddle::hash_xp(&[]), 0);
 /// assert_eq!(hivesaddle::hash_xp(&[65]), 54483988);
 /// ```
+#[inline]
 pub fn hash_xp(numbers: &[u32]) -> u32 {
     unsafe { raw::hs_hash_xp(numbers.as_ptr(), numbers.len()) }
 }
@@ -19,6 +20,7 @@ pub fn hash_xp(numbers: &[u32]) -> u32 {
 /// assert_eq!(hivesaddle::hash_vista(&[]), 314159);
 /// assert_eq!(hivesaddle::hash_vista(&[65, 66]), 430086142);
 /// ```
+#[inline]
 pub fn hash_vista(numbers: &[u32]) -> u32 {
     unsafe { raw::hs_hash_vista(numbers.as_ptr(), numbers.len()) }
 }
@@ -28,6 +30,7 @@ pub fn hash_vista(numbers: &[u32]) -> u32 {
 /// ```
 /// assert_eq!(hivesaddle::hash_2008(&[65]), 11623948);
 /// ```
+#[inline]
 pub fn hash_2008(numbers: &[u32]) -> u32 {
     unsafe { raw::hs_hash_2008(numbers.as_ptr(), numbers.len()) }
 }
@@ -47,6 +50,7 @@ pub fn hash_2008(numbers: &[u32]) -> u32 {
 /// // An odd number of bytes is fine.
 /// assert_eq!(hivesaddle::hash_xp_bytes(b"A"), hivesaddle::hash_xp(&[65]));
 /// ```
+#[inline]
 pub fn hash_xp_bytes(text: &[u8]) -> u32 {
     unsafe { raw::hs_hash_xp_bytes(text.as_ptr(), text.len()) }
 }
@@ -58,6 +62,7 @@ pub fn hash_xp_bytes(text: &[u8]) -> u32 {
 /// // With E9 read as a signed byte this would be 430082820.
 /// assert_eq!(hivesaddle::hash_vista_bytes(b"\xE9\0"), 430092292);
 /// ```
+#[inline]
 pub fn hash_vista_bytes(text: &[u8]) -> u32 {
     unsafe { raw::hs_hash_vista_bytes(text.as_ptr(), text.len()) }
 }
@@ -67,6 +72,7 @@ pub fn hash_vista_bytes(text: &[u8]) -> u32 {
 /// ```
 /// assert_eq!(hivesaddle::hash_2008_bytes(b"A\0"), 430086076);
 /// ```
+#[inline]
 pub fn hash_2008_bytes(text: &[u8]) -> u32 {
     unsafe { raw::hs_hash_2008_bytes(text.as_ptr(), text.len()) }
 }
@@ -81,6 +87,7 @@ pub fn hash_2008_bytes(text: &[u8]) -> u32 {
 /// let long: Vec<u32> = (0..2_000).collect();
 /// assert_eq!(hivesaddle::hash_powers(&long), hivesaddle::hash_vista(&long));
 /// ```
+#[inline]
 pub fn hash_powers(numbers: &[u32]) -> u32 {
     unsafe { raw::hs_hash_powers(numbers.as_ptr(), numbers.len()) }
 }
@@ -91,6 +98,7 @@ pub fn hash_powers(numbers: &[u32]) -> u32 {
 /// assert_eq!(hivesaddle::hash_powers_bytes(b"A\0"), 430086076);
 /// assert_eq!(hivesaddle::hash_powers_bytes(b"\xE9\0"), 430092292);
 /// ```
+#[inline]
 pub fn hash_powers_bytes(text: &[u8]) -> u32 {
     unsafe { raw::hs_hash_powers_bytes(text.as_ptr(), text.len()) }
 }
@@ -112,6 +120,7 @@ pub fn hash_powers_bytes(text: &[u8]) -> u32 {
 /// let refusal = hash_swap(hash_vista(&old), &old, 4, &[]).unwrap_err();
 /// assert_eq!((refusal.number, refusal.index, refusal.offset), (25, 0, 0));
 /// ```
+#[inline]
 pub fn hash_swap(old_hash: u32, old: &[u32], p: u64, start: &[u32]) -> Result<u32, Refusal> {
     let mut out = [0];
     let number = unsafe {
@@ -140,6 +149,7 @@ pub fn hash_swap(old_hash: u32, old: &[u32], p: u64, start: &[u32]) -> Result<u3
 /// assert_eq!(hash_swap_bytes(0x3D2AFDB4, &old, 46, &volume), Ok(0x86E0E9B9));
 /// assert_eq!(hash_swap_bytes(0x3D2AFDB4, &old, 87, &volume).unwrap_err().number, 25);
 /// ```
+#[inline]
 pub fn hash_swap_bytes(old_hash: u32, old: &[u8], p: u64, start: &[u8]) -> Result<u32, Refusal> {
     let mut out = [0];
     let number = unsafe {

@@ -56,12 +56,17 @@ fn path(random: &mut Random) -> Vec<u8> {
 /// Each path hashed once in a turn.
 fn all_paths(paths: &[Vec<u8>]) -> Times {
     assert!(paths.iter().all(|path| hivesaddle::hash_powers_bytes(path) == of_bytes(path)));
-    let all = |hash: fn(&[u8]) -> u32| {
-        let hash = black_box(hash);
-        let hashes = paths.iter().map(|path| hash(black_box(path)));
-        black_box(hashes.fold(0u32, u32::wrapping_add));
-    };
-    side_by_side(TURNS, 1, || all(hivesaddle::hash_powers_bytes), || all(of_bytes))
+    side_by_side(
+        TURNS,
+        1,
+        || all_of(paths.iter().map(|path| hivesaddle::hash_powers_bytes(black_box(path)))),
+        || all_of(paths.iter().map(|path| of_bytes(black_box(path)))),
+    )
+}
+
+/// Takes all hashes, so that none can be left out.
+fn all_of(hashes: impl Iterator<Item = u32>) {
+    black_box(hashes.fold(0u32, u32::wrapping_add));
 }
 
 /// The volume of each path swapped in a turn, beside the plain loop over the
@@ -78,30 +83,28 @@ fn swaps(paths: &[Vec<u8>]) -> Times {
     for ((&hash, path), joined) in hashes.iter().zip(paths).zip(&joined) {
         assert_eq!(swap(hash, path), of_bytes(joined));
     }
-    let anew = black_box(of_bytes as fn(&[u8]) -> u32);
     side_by_side(
         TURNS,
         1,
-        || {
-            let all = hashes.iter().zip(paths).map(|(&hash, path)| swap(hash, black_box(path)));
-            black_box(all.fold(0u32, u32::wrapping_add));
-        },
-        || {
-            let all = joined.iter().map(|path| anew(black_box(path)));
-            black_box(all.fold(0u32, u32::wrapping_add));
-        },
+        || all_of(hashes.iter().zip(paths).map(|(&hash, path)| swap(hash, black_box(path)))),
+        || all_of(joined.iter().map(|path| of_bytes(black_box(path)))),
     )
 }
 
 /// As many lists of one length as there are, for one list.
-fn lists<T>(all: &[T], length: usize, library: fn(&[T]) -> u32, plain: fn(&[T]) -> u32) -> Times {
+fn lists<T>(
+    all: &[T],
+    length: usize,
+    library: impl Fn(&[T]) -> u32,
+    plain: impl Fn(&[T]) -> u32,
+) -> Times {
     assert!(all.chunks_exact(length).all(|list| library(list) == plain(list)));
-    let hash = |hash: fn(&[T]) -> u32| {
-        let hash = black_box(hash);
-        let hashes = all.chunks_exact(length).map(|list| hash(black_box(list)));
-        black_box(hashes.fold(0u32, u32::wrapping_add));
-    };
-    let times = side_by_side(SHORT_TURNS, 1, || hash(library), || hash(plain));
+    let times = side_by_side(
+        SHORT_TURNS,
+        1,
+        || all_of(all.chunks_exact(length).map(|list| library(black_box(list)))),
+        || all_of(all.chunks_exact(length).map(|list| plain(black_box(list)))),
+    );
     let count = (all.len() / length) as f64;
     Times { library: times.library / count, plain: times.plain / count }
 }
