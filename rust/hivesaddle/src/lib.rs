@@ -5,14 +5,15 @@
 //!
 //! Every function takes any bytes, any index and any buffer length and comes
 //! to an end. Nothing is allocated, but by [`read_file_alloc`],
-//! [`list_paths_alloc`], [`write_file_alloc`], [`TestFile`], [`replay()`],
-//! [`Replay`] and [`year_table`].
+//! [`list_paths_alloc`], [`write_file_alloc`], [`TestFile`], [`DescribedFile`],
+//! [`replay()`], [`Replay`] and [`year_table`].
 //!
 //! Numbers in a file are little-endian. A text is UTF-16 units kept as they
 //! stand, and is handed over as bytes, low byte first.
 
 mod catalogue;
 mod constants;
+mod description;
 mod hashes;
 mod queries;
 pub mod raw;
@@ -27,6 +28,7 @@ pub use catalogue::{
     catalogue_read, catalogue_write, CatalogueFields, CATALOGUE_LINE_LENGTH,
     CATALOGUE_OLD_LINE_LENGTH,
 };
+pub use description::{DescribedFile, DescriptionError};
 pub use hashes::{
     hash_2008, hash_2008_bytes, hash_powers, hash_powers_bytes, hash_swap, hash_swap_bytes,
     hash_vista, hash_vista_bytes, hash_xp, hash_xp_bytes,

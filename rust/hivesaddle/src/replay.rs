@@ -252,6 +252,18 @@ impl Replay {
         }
     }
 
+    /// The first bad line, if it has been met: what follows changes nothing.
+    ///
+    /// ```
+    /// use hivesaddle::Replay;
+    /// let mut replay = Replay::new(&[]);
+    /// replay.feed(&[b'?'; 100_000]);
+    /// assert_eq!(replay.bad_line().map(|bad| bad.line), Some(1));
+    /// ```
+    pub fn bad_line(&self) -> Option<BadLine> {
+        self.bad
+    }
+
     /// The answers, once all has been fed. A line that has begun and not ended
     /// is bad.
     pub fn finish(mut self) -> Result<Vec<Option<Reading>>, BadLine> {

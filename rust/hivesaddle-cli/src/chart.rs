@@ -1,0 +1,52 @@
+//! `hivesaddle chart`: what a program loaded, as a picture.
+
+mod rows;
+mod svg;
+
+pub use svg::{grouped, several};
+
+use crate::args::{Args, Known};
+use crate::files::Reader;
+use crate::outcome::{failed, usage, Outcome};
+use crate::replay::refused;
+use crate::{output, refusal, text};
+use hivesaddle::program_name;
+use rows::Chart;
+use std::ffi::{OsStr, OsString};
+
+pub const HELP: &str = "\
+usage: hivesaddle chart FILE OUT.svg
+
+Draws the loading chart: a row for each file that the program loaded, and along
+the axis a bar for each trace entry, as wide as its blocks, in the order of the
+walk along the chains. A browser opens it. The first chain is the first file's,
+and so on. Version 30 has no chains: there the entries stand in the order of the
+array, in the rows that name them.
+
+FILE may be -, standard input, and OUT.svg may be -, standard output. A file that
+is refused has no chart.
+
+Exit status: 0; 1 if the file was refused; 2 if something could not be read or
+written.
+
+example: hivesaddle chart examples/samples/small.pf small.svg
+";
+
+pub fn run(words: Vec<OsString>) -> Outcome {
+    let operands = match Args::split(words, Known::default()) {
+        Ok(args) => args.operands,
+        Err(message) => return usage("chart", message),
+    };
+    match &operands[..] {
+        [file, out] => chart(file, out).unwrap_or_else(|stopped| stopped),
+        _ => usage("chart", "it takes a file and the name of the picture"),
+    }
+}
+
+fn chart(name: &OsStr, out: &OsStr) -> Result<Outcome, Outcome> {
+    let mut reader = Reader::default();
+    let file = reader.read(name).map_err(|trouble| failed(name, trouble))?;
+    let chart = Chart::of(file).map_err(|refusal| refused(name, refusal::line(refusal)))?;
+    let program = text::shown(program_name(file).unwrap_or_default());
+    Ok(output::write(out, svg::svg(&chart, &program).as_bytes(), &[name]))
+}

@@ -1,0 +1,224 @@
+//! Files and folders named on the command line, and their bytes.
+
+use crate::outcome::plain;
+use std::collections::BinaryHeap;
+use std::ffi::{OsStr, OsString};
+use std::fmt;
+use std::fs::{self, DirEntry, File, Metadata};
+use std::io::{self, Read};
+use std::path::Path;
+use std::time::SystemTime;
+
+/// The largest Prefetch file that the library reads.
+pub const LARGEST: usize = 67_108_864;
+/// Stands for standard input.
+const INPUT: &str = "-";
+/// Names of a folder that are held at a time, so that a folder of any size is
+/// gone through in order with bounded memory.
+const HELD: usize = 8_192;
+
+/// Why a file has no bytes to show.
+#[derive(Debug)]
+pub enum Trouble {
+    CannotRead(io::Error),
+    AboveLimit,
+    Empty,
+    Changed,
+    /// A folder in which no name ends in .pf.
+    NoFiles,
+}
+
+impl fmt::Display for Trouble {
+    fn fmt(&self, f: &mut fmt::Formatter) -> fmt::Result {
+        match self {
+            Trouble::CannotRead(error) => write!(f, "cannot read: {}", plain(error)),
+            Trouble::AboveLimit => write!(f, "above the limit of {LARGEST} bytes"),
+            Trouble::Empty => write!(f, "empty"),
+            Trouble::Changed => write!(f, "changed while it was read"),
+            Trouble::NoFiles => write!(f, "no .pf files in this folder"),
+        }
+    }
+}
+
+impl From<io::Error> for Trouble {
+    fn from(error: io::Error) -> Trouble {
+        Trouble::CannotRead(error)
+    }
+}
+
+/// Hands over each file named: a file as it is, a folder's files that end in
+/// .pf, in whatever letter case, in the order of their names and not those of
+/// folders inside it. Where a folder can't be read, its own name with the
+/// trouble.
+pub fn each_file<E>(
+    operands: &[OsString],
+    mut take: impl FnMut(&OsStr, Option<Trouble>) -> Result<(), E>,
+) -> Result<(), E> {
+    for operand in operands {
+        if operand != INPUT && Path::new(operand).is_dir() {
+            each_of_folder(operand, &mut take)?;
+        } else {
+            take(operand, None)?;
+        }
+    }
+    Ok(())
+}
+
+fn each_of_folder<E>(
+    folder: &OsStr,
+    take: &mut impl FnMut(&OsStr, Option<Trouble>) -> Result<(), E>,
+) -> Result<(), E> {
+    let folder = Path::new(folder);
+    let mut last = None;
+    loop {
+        let names = match names_behind(folder, last.as_deref(), HELD) {
+            Ok(names) => names,
+            Err(error) => return take(folder.as_os_str(), Some(error.into())),
+        };
+        if names.is_empty() && last.is_none() {
+            return take(folder.as_os_str(), Some(Trouble::NoFiles));
+        }
+        for name in &names {
+            take(folder.join(name).as_os_str(), None)?;
+        }
+        match names.into_iter().last() {
+            Some(name) => last = Some(name),
+            None => return Ok(()),
+        }
+    }
+}
+
+/// The next names in order behind the last one, as many as are to be held.
+fn names_behind(folder: &Path, last: Option<&OsStr>, held: usize) -> io::Result<Vec<OsString>> {
+    let mut names = BinaryHeap::new();
+    for entry in fs::read_dir(folder)? {
+        let entry = entry?;
+        let name = entry.file_name();
+        let is_next = has_ending(&name) && last.is_none_or(|last| &*name > last);
+        if is_next && may_be_file(&entry)? {
+            names.push(name);
+        }
+        if names.len() > held {
+            names.pop();
+        }
+    }
+    Ok(names.into_sorted_vec())
+}
+
+/// No folder, and no pipe, at which a reader would wait. A link that leads
+/// nowhere is found out when it is read.
+fn may_be_file(entry: &DirEntry) -> io::Result<bool> {
+    let kind = entry.file_type()?;
+    let leads_to_file = || fs::metadata(entry.path()).map_or(true, |data| data.is_file());
+    Ok(kind.is_file() || kind.is_symlink() && leads_to_file())
+}
+
+fn has_ending(name: &OsStr) -> bool {
+    let ending = Path::new(name).extension();
+    ending.is_some_and(|ending| ending.eq_ignore_ascii_case("pf"))
+}
+
+/// Reads one file after another into the same memory.
+#[derive(Default)]
+pub struct Reader {
+    buffer: Vec<u8>,
+}
+
+impl Reader {
+    /// All bytes of a file, or of standard input for `-`: one at least, and at
+    /// most as many as a Prefetch file has.
+    pub fn read(&mut self, name: &OsStr) -> Result<&[u8], Trouble> {
+        let length = if name == INPUT {
+            self.fill(&mut io::stdin().lock(), 0)?
+        } else {
+            self.read_path(Path::new(name))?
+        };
+        match length {
+            0 => Err(Trouble::Empty),
+            length => Ok(&self.buffer[..length]),
+        }
+    }
+
+    fn read_path(&mut self, path: &Path) -> Result<usize, Trouble> {
+        let mut file = File::open(path)?;
+        let before = file.metadata()?;
+        if !before.is_file() {
+            // A pipe, say, has no size to hold it to.
+            return self.fill(&mut file, 0);
+        }
+        if before.len() > LARGEST as u64 {
+            return Err(Trouble::AboveLimit);
+        }
+        let length = self.fill(&mut file, before.len() as usize)?;
+        if length as u64 != before.len() || stamp(&before) != stamp(&file.metadata()?) {
+            return Err(Trouble::Changed);
+        }
+        Ok(length)
+    }
+
+    /// Reads to the end, into the buffer's start; gives the number of bytes.
+    fn fill(&mut self, source: &mut impl Read, expected: usize) -> Result<usize, Trouble> {
+        let mut length = 0;
+        // One byte more than expected, so that the end is seen.
+        self.make_room(expected + 1);
+        loop {
+            match source.read(&mut self.buffer[length..]) {
+                Ok(0) => return Ok(length),
+                Ok(count) => length += count,
+                Err(error) if error.kind() == io::ErrorKind::Interrupted => {}
+                Err(error) => return Err(error.into()),
+            }
+            if length > LARGEST {
+                return Err(Trouble::AboveLimit);
+            }
+            if length == self.buffer.len() {
+                self.make_room((2 * length).max(65_536));
+            }
+        }
+    }
+
+    fn make_room(&mut self, length: usize) {
+        if self.buffer.len() < length {
+            self.buffer.resize(length.min(LARGEST + 1), 0);
+        }
+    }
+}
+
+/// What changes where a file is written to.
+fn stamp(data: &Metadata) -> (u64, Option<SystemTime>) {
+    (data.len(), data.modified().ok())
+}
+
+#[cfg(test)]
+mod tests {
+    use super::*;
+
+    #[test]
+    fn a_folder_is_gone_through_in_parts() {
+        let folder = std::env::temp_dir().join(format!("hivesaddle-parts-{}", std::process::id()));
+        fs::create_dir_all(&folder).unwrap();
+        for name in ["e.pf", "b.PF", "d.pf", "a.pf", "c.pf", "c.txt"] {
+            fs::write(folder.join(name), "").unwrap();
+        }
+        let behind = |last: Option<&str>| names_behind(&folder, last.map(OsStr::new), 2).unwrap();
+        assert_eq!(behind(None), ["a.pf", "b.PF"]);
+        assert_eq!(behind(Some("b.PF")), ["c.pf", "d.pf"]);
+        assert_eq!(behind(Some("d.pf")), ["e.pf"]);
+        assert!(behind(Some("e.pf")).is_empty());
+        fs::remove_dir_all(&folder).unwrap();
+    }
+
+    /// What came before leaves nothing behind.
+    #[test]
+    fn memory_serves_one_after_another() {
+        let mut reader = Reader::default();
+        for text in ["a long text", "short", ""] {
+            let length = reader.fill(&mut text.as_bytes(), text.len()).unwrap();
+            assert_eq!(&reader.buffer[..length], text.as_bytes());
+        }
+        let bytes = |count: usize| io::repeat(7).take(count as u64);
+        assert_eq!(reader.fill(&mut bytes(LARGEST), 0).unwrap(), LARGEST);
+        let above = reader.fill(&mut bytes(LARGEST + 1), 0);
+        assert!(matches!(above, Err(Trouble::AboveLimit)));
+    }
+}

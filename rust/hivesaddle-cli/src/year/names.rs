@@ -1,0 +1,60 @@
+//! The names of programs, from the files that they left.
+
+use crate::look::{each_look, Look};
+use crate::outcome::{complain, Outcome};
+use crate::refusal;
+use hivesaddle::program_name;
+use std::collections::BTreeMap;
+use std::ffi::OsString;
+
+/// Names shown of one hash. There is one as a rule.
+const MOST: usize = 4;
+
+/// The names of the hashes asked for, as they stand in the files: UTF-16, low
+/// byte first.
+pub struct Names {
+    of_hash: BTreeMap<u32, Vec<Vec<u8>>>,
+    /// The worst that came of a file. The others have their names all the same.
+    pub outcome: Outcome,
+}
+
+impl Names {
+    pub fn read(files: &[OsString], hashes: impl Iterator<Item = u32>) -> Names {
+        let mut of_hash: BTreeMap<u32, Vec<Vec<u8>>> =
+            hashes.map(|hash| (hash, Vec::new())).collect();
+        let looked = each_look(files, |name, look| {
+            match look {
+                Look::Accepted(file, record) => {
+                    if let Some(known) = of_hash.get_mut(&record.stored_hash) {
+                        add(known, program_name(file).unwrap_or_default());
+                    }
+                }
+                Look::Refused(_, refusal) => complain(name, refusal::line(refusal)),
+                Look::Troubled(trouble) => complain(name, trouble),
+            }
+            Ok(())
+        });
+        Names { of_hash, outcome: looked.unwrap_or(Outcome::Failed) }
+    }
+
+    /// All names of a hash, with commas between them; empty where none is known.
+    pub fn joined(&self, hash: u32) -> Vec<u8> {
+        let known = self.of_hash.get(&hash).map_or(&[][..], Vec::as_slice);
+        let mut names: Vec<Vec<u8>> = known.iter().take(MOST).cloned().collect();
+        if known.len() > MOST {
+            names.push(utf16("..."));
+        }
+        names.join(&utf16(", ")[..])
+    }
+}
+
+/// One more than are shown says that there are more.
+fn add(known: &mut Vec<Vec<u8>>, name: &[u8]) {
+    if known.len() <= MOST && !known.iter().any(|old| old == name) {
+        known.push(name.to_vec());
+    }
+}
+
+fn utf16(text: &str) -> Vec<u8> {
+    text.encode_utf16().flat_map(u16::to_le_bytes).collect()
+}

@@ -1,0 +1,8 @@
+//! The commands, run as a person runs them.
+
+mod folder;
+#[cfg(unix)]
+mod formats;
+mod help;
+mod input;
+mod stored;
