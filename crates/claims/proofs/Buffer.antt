@@ -40,5 +40,6 @@ allowed-linked p o a =
       short = omega (arith, size, few);
       at = linkAt o;
       count = chains (nextsIn o p);
-      passes = clear-passes (linkAt o) (nextsIn o p) (free-clear (nextsIn o p) _ size few (linkAt o) (record { links = a .links; unshared = a .unshared; acyclic = a .acyclic }));
+      passes = clear-passes (linkAt o) (nextsIn o p)
+          (free-clear (nextsIn o p) _ size few (linkAt o) (record { links = a .links; unshared = a .unshared; acyclic = a .acyclic }));
     }

@@ -251,7 +251,8 @@ module _ (p : List ℕ) (m : ℕ) where
       let fits = entries-met (h .volumes .count) (volumeEntry l) (h .volumes .len) _ refl e8 in
       let at14 = volume-row l h laid same shape sound top 14 (λ i. refl) fits h14 in
       let at15 = volume-row l h laid same shape sound top 15 (λ i. refl) fits h14 in
-      each-decide Any (Placed p) _ _ p (fair-volumes (Placed p) _ l (h .volumes .at) (h .volumes .count) 0 (λ i _ b. (at14 i (omega (arith, b)), at15 i (omega (arith, b)))))
+      each-decide Any (Placed p) _ _ p
+      (fair-volumes (Placed p) _ l (h .volumes .at) (h .volumes .count) 0 (λ i _ b. (at14 i (omega (arith, b)), at15 i (omega (arith, b)))))
       (each-done Any (Placed p) _ p tt)
 
   -- what a reader's verdict of refusal is

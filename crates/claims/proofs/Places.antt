@@ -161,7 +161,8 @@ places-say p buffer n v after q r = go (run openPlan p) refl
               refused _ i at s (room-enough m o p (omega arith)) z;
           short = λ k a l.
               let j : linkCount (o .layout) (o .head) ≡ k = same (sym (needed e) ∙ a) in
-              same-values v (Refused (refusal 7 0 traceCountAt)) (r .verdict ∙ ap answerValues (s ∙ room-short m o p (open-facts p .holds o e .whole) (omega arith)));
+              same-values v (Refused (refusal 7 0 traceCountAt))
+              (r .verdict ∙ ap answerValues (s ∙ room-short m o p (open-facts p .holds o e .whole) (omega arith)));
           unknown = λ a i at z. let y : _≡_ {A = ℕ} 0 1 = cc (needed e) in omega arith;
         }
     go (decided (refuse f)) e =

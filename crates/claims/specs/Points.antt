@@ -14,7 +14,8 @@ pub record PrefixPoints : Type 0 where
   pub no-bytes : (m : ℕ) → prefixAnswer [] m ≡ wants 4
   pub eight-bytes : (m : ℕ) → prefixAnswer (17 ∷ 0 ∷ 0 ∷ 0 ∷ 0x53 ∷ 0x43 ∷ 0x43 ∷ 0x41 ∷ []) m ≡ wants 16
   pub version-24 : (m : ℕ) → prefixAnswer (24 ∷ 0 ∷ 0 ∷ 0 ∷ []) m ≡ decided (refuse (refusal 1 0 0))
-  pub size-147 : (m : ℕ) → prefixAnswer (17 ∷ 0 ∷ 0 ∷ 0 ∷ 0x53 ∷ 0x43 ∷ 0x43 ∷ 0x41 ∷ 0 ∷ 0 ∷ 0 ∷ 0 ∷ 147 ∷ 0 ∷ 0 ∷ 0 ∷ []) m ≡ decided (refuse (refusal 3 0 12))
+  pub size-147 : (m : ℕ) → prefixAnswer (17 ∷ 0 ∷ 0 ∷ 0 ∷ 0x53 ∷ 0x43 ∷ 0x43 ∷ 0x41 ∷ 0 ∷ 0 ∷ 0 ∷ 0 ∷ 147 ∷ 0 ∷ 0 ∷ 0 ∷ []) m ≡ decided
+      (refuse (refusal 3 0 12))
 
 pub record Points : Type 0 where
   pub prefixes : PrefixPoints

@@ -77,8 +77,20 @@ module _ {B : Type 0} (f : Option Layout) (r : KnownForm) (g : Layout → Plan B
   pub form-unknown : r ≡ form.Unknown → decided (refuse (refusal 21 0 metricsOffsetAt)) ≡ run (andThen (given 21 metricsOffsetAt f) g) p
   form-unknown q = sym (given-none 21 metricsOffsetAt f g p (sym e ∙ ap formSaid q))
 
-pub ruleset steps =
-    (size-laid, start-laid, run-steps, version-known, version-unknown, name-ends, name-endless, start-refused-is, form-known, form-unknown, start-then, open-then)
+pub ruleset steps = (
+  size-laid,
+  start-laid,
+  run-steps,
+  version-known,
+  version-unknown,
+  name-ends,
+  name-endless,
+  start-refused-is,
+  form-known,
+  form-unknown,
+  start-then,
+  open-then,
+)
 
 -- checks 21, 5 and 6 one after another, and all after 1 to 4
 abbrev openingLines : Start → Plan Opening

@@ -70,7 +70,8 @@ module _ (p : List ℕ) (h : Bytes p) where
   unfolding refusedText
   refused-short r s = simp length-append (omega (arith, two-digits (r .number) (s .number), ten-digits (r .index) (s .index)))
 
-  answer-short : (b : Bool) (x : Answer Acceptable) → Each (λ y. SmallFields (y .fields)) SmallRefusal x → length (pick b (line too-long) (answerText x p)) ≤ room
+  answer-short : (b : Bool) (x : Answer Acceptable) → Each (λ y. SmallFields (y .fields)) SmallRefusal x → length
+      (pick b (line too-long) (answerText x p)) ≤ room
   answer-short true x k = omega arith
   answer-short false (decided (accept y)) k = accepted-short (y .fields) (k .accepts y refl)
   answer-short false (decided (refuse r)) k = refused-short r (k .refuses r refl)

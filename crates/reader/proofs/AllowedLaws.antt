@@ -224,7 +224,8 @@ module _ (p : List ℕ) (o : Opening) (f : OpenFacts p o) where
   nexts-take = go (hasNext (o .layout))
     where
       go : (b : Bool)
-          → nexts (part (o .head .trace) (take (pick b (o .head .trace .end) (headEnd (o .layout))) p)) (traceEntry (o .layout)) (pick b (o .head .trace .count) 0)
+          → nexts (part (o .head .trace) (take (pick b (o .head .trace .end) (headEnd (o .layout))) p)) (traceEntry (o .layout))
+          (pick b (o .head .trace .count) 0)
           ≡ nexts (part (o .head .trace) p) (traceEntry (o .layout)) (pick b (o .head .trace .count) 0)
       go true = rw (part-take (o .head .trace) (headEnd (o .layout)) (o .head .trace .end) p (open-shapes p o f .trace-end) (le-refl _))
       go false = refl

@@ -48,7 +48,8 @@ module _ (o : Opening) (p : List ℕ) where
 
   module _ (a : List ℕ) (h : o .head .metrics .end ≤ length p) (e : a ≡ part (o .head .metrics) (take (o .head .metrics .end) p)) (r : Fault)
       (f : r ≡ misfitFault (o .layout) (o .head .metrics .at) a (o .head .metrics .count) (o .head .strings .len)) where
-    misfit : r ≡ misfitFault (o .layout) (o .head .metrics .at) (part (o .head .metrics) (take (o .head .metrics .end) p)) (o .head .metrics .count) (o .head .strings .len)
+    misfit : r ≡ misfitFault (o .layout) (o .head .metrics .at) (part (o .head .metrics) (take (o .head .metrics .end) p)) (o .head .metrics .count)
+        (o .head .strings .len)
     misfit = rw (← e) f
 
     pub fits-refused : (i at : ℕ) (x : Refusal) → r ≡ At i at → x ≡ refusal 9 i at → decided (refuse x) ≡ run (fitsPlan o) p
@@ -76,7 +77,8 @@ module _ (o : Opening) (p : List ℕ) (k : ℕ) (at : k ≡ namesRequired (o .la
 
   module _ (a b : List ℕ) (h : k ≤ length p) (e : a ≡ part (o .head .metrics) (take k p)) (g : b ≡ part (o .head .strings) (take k p)) (r : Fault)
       (f : r ≡ unsoundFault (o .layout) (o .head .metrics .at) a (o .head .metrics .count) b) where
-    unsound : r ≡ unsoundFault (o .layout) (o .head .metrics .at) (part (o .head .metrics) (take k p)) (o .head .metrics .count) (part (o .head .strings) (take k p))
+    unsound : r ≡ unsoundFault (o .layout) (o .head .metrics .at) (part (o .head .metrics) (take k p)) (o .head .metrics .count)
+        (part (o .head .strings) (take k p))
     unsound = rw (← e, ← g) f
 
     pub texts-refused : (i at : ℕ) (x : Refusal) → r ≡ At i at → x ≡ refusal 10 i at → decided (refuse x) ≡ run (textsPlan o) p

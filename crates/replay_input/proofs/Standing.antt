@@ -173,7 +173,8 @@ module _ (s : List ℕ) (stage : Stage) (times boards work answers : List ℕ) (
         go (yes z) =
             let q = eq-eqb (t .taken .bad) 0 z in
             let p = eq-eqb (stage .progress .bad) 0 (h .bad ∙ z) in
-            let g = framed (t .taken) s r (stage .progress .lines) (h .lines) (rw p at (f .lines)) (rw p at (f .bad)) (rw p at (f .used)) (rw (begun, q) at m) in
+            let g = framed (t .taken) s r (stage .progress .lines) (h .lines) (rw p at (f .lines)) (rw p at (f .bad)) (rw p at (f .used))
+            (rw (begun, q) at m) in
             rw (begun, q) (stands (takenAt (t .taken) s) (g .lines) (g .bad) (g .stopped) (rw (g .found) (rw p at kept)), g .rest)
         go (no z) =
             let q = ne-eqb (t .taken .bad) 0 z in
@@ -183,7 +184,8 @@ module _ (s : List ℕ) (stage : Stage) (times boards work answers : List ℕ) (
               ap (λ (k : ℕ). drop k s) (rw p at (f .used)) ∙ drop-of-length-le s (le-refl (length s)) ∙ sym (h .stopped z),
             )
 
-  pub recording-takes : TakesBytes s stage times boards work answers (record { stage = record { starts = stage .starts; starting = false; progress = r .progress }; used = r .used }) times boards work answers′
+  pub recording-takes : TakesBytes s stage times boards work answers
+      (record { stage = record { starts = stage .starts; starting = false; progress = r .progress }; used = r .used }) times boards work answers′
   unfolding after
   recording-takes =
       record {
@@ -318,7 +320,8 @@ module _ (s : List ℕ) (stage : Stage) (times boards : List ℕ) (k : ℕ) (tim
         begun = rw (take-all (length s - 19 * k) (drop (19 * k) s) (omega (arith, length-drop (19 * k) s))) at b
 
         go : (t : Standing) → Stands t stage times boards work answers → atHand (mostOf times boards) t s .taken .lines + 1 < 2 ^ 64
-            → Stands (atHand (mostOf times boards) t s) (record { starts = stage .starts + k; starting = false; progress = r .progress }) times′ boards′ work′ answers′
+            → Stands (atHand (mostOf times boards) t s)
+            (record { starts = stage .starts + k; starting = false; progress = r .progress }) times′ boards′ work′ answers′
             × (drop (19 * k + r .used) s ≡ atHand (mostOf times boards) t s .taken .rest)
         go t h m =
             let c = many t h in
@@ -443,8 +446,10 @@ module _ (input : Input) (stage : Stage) (times boards work answers : List ℕ) 
   unfolding last answered
   ends says refused given working =
       record {
-        given = λ t h k m. let g = now t h in ends-given t (stage .progress) (input .kept) work answers r answers′ (g .lines) (g .bad) k m says (bad t g) (good t g);
-        says = λ t h k m. let g = now t h in ends-says t (stage .progress) (input .kept) work answers r answers′ (g .lines) (g .bad) k m says (bad t g) (good t g);
+        given = λ t h k m. let g = now t h in ends-given t (stage .progress) (input .kept) work answers r answers′ (g .lines) (g .bad) k m says (bad t g)
+            (good t g);
+        says = λ t h k m. let g = now t h in ends-says t (stage .progress) (input .kept) work answers r answers′ (g .lines) (g .bad) k m says (bad t g)
+            (good t g);
         working = working;
       }
     where

@@ -115,7 +115,8 @@ volumes-next s v start n i l e =
     let d : n - i ≡ suc (n - (i + 1)) = omega arith in
     rw (d, volumesFrom, e, add-one i)
 
-pub volumes-refused : (s : List ℕ) (v : Layout) (start n i : ℕ) (r : Refusal) → i < n → volumeChecks s v start i ≡ refuse r → volumesFrom s v start (n - i) i ≡ refuse r
+pub volumes-refused : (s : List ℕ) (v : Layout) (start n i : ℕ) (r : Refusal) → i < n → volumeChecks s v start i ≡ refuse r → volumesFrom s v start
+    (n - i) i ≡ refuse r
 unfolding volumesFrom
 volumes-refused s v start n i r l e =
     let d : n - i ≡ suc (n - (i + 1)) = omega arith in

@@ -19,7 +19,12 @@ same-length-3 : tie.Need-same-length-3
 same-length-3 c = search needs
 
 returns : tie.Need-returns
-returns c = let w = c .before .before .before .before .before .before .before .before .replay .ensures in record { said = rw (← w .says) (c .before .before .put-replay .ensures); given = w .given; working = w .working }
+returns c = let w = c .before .before .before .before .before .before .before .before .replay .ensures in record {
+  said = rw (← w .says)
+      (c .before .before .put-replay .ensures);
+  given = w .given;
+  working = w .working;
+}
 
 pub hs-replay-spec : {M : Type 1} → statement M
 hs-replay-spec =

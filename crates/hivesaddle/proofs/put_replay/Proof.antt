@@ -23,13 +23,17 @@ same-length : tie.Need-same-length
 same-length c = search needs
 
 returns : tie.Need-returns
-returns c = answered-case saidOf _ _ (c .before .before .before .before .before .before .before .args .answer) _ (c .before .before .before .before .before .before .before .args .out .now) _ (answers saidOf _ _ refl) (c .before .before .before .before .enum-told .given .1) refl (c .before .before .put-one .ensures)
+returns c = answered-case saidOf _ _ (c .before .before .before .before .before .before .before .args .answer) _
+    (c .before .before .before .before .before .before .before .args .out .now) _ (answers saidOf _ _ refl)
+    (c .before .before .before .before .enum-told .given .1) refl (c .before .before .put-one .ensures)
 
 same-length-2 : tie.Need-same-length-2
 same-length-2 c = search needs
 
 returns-2 : tie.Need-returns-2
-returns-2 c = answered-case saidOf _ _ (c .before .before .before .before .before .before .before .before .args .answer) _ (c .before .before .before .before .before .before .before .before .args .out .now) _ (answers saidOf _ _ refl) (c .before .before .before .before .before .answer .given .1) refl (c .before .before .put-one2 .ensures)
+returns-2 c = answered-case saidOf _ _ (c .before .before .before .before .before .before .before .before .args .answer) _
+    (c .before .before .before .before .before .before .before .before .args .out .now) _ (answers saidOf _ _ refl)
+    (c .before .before .before .before .before .answer .given .1) refl (c .before .before .put-one2 .ensures)
 
 pub put-replay-spec : {M : Type 1} → statement M
 put-replay-spec =

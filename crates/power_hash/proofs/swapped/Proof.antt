@@ -19,7 +19,8 @@ wrapping-add-u32-requires c κs = search needs
 returns : tie.Need-returns
 returns c =
     let a = c .before .before .before .before .args in
-    swap-turn (a .hash) (a .new) (a .old) (a .kept) _ _ _ _ (search needs) (c .before .before .before .wrapping-sub-u32 .ensures) (c .before .before .power .ensures)
+    swap-turn (a .hash) (a .new) (a .old) (a .kept) _ _ _ _ (search needs) (c .before .before .before .wrapping-sub-u32 .ensures)
+    (c .before .before .power .ensures)
     (c .before .times .ensures) (c .wrapping-add-u32 .ensures)
 
 pub swapped-spec : {M : Type 1} → statement M

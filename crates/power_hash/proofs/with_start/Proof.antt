@@ -24,7 +24,8 @@ wrapping-add-u32-requires c κs = search needs
 returns : tie.Need-returns
 returns c =
     let s = c .before .before .before .before in
-    start-turn (s .args .t .now) (s .args .n) (s .args .sum) _ _ _ (s .pre .2) (s .pre .0) (s .pre .1) (c .before .before .times .ensures) (c .before .times2 .ensures)
+    start-turn (s .args .t .now) (s .args .n) (s .args .sum) _ _ _ (s .pre .2) (s .pre .0) (s .pre .1) (c .before .before .times .ensures)
+    (c .before .times2 .ensures)
     (c .wrapping-add-u32 .ensures)
 
 pub with-start-spec : {M : Type 1} → statement M

@@ -37,7 +37,8 @@ read-input-requires c κs = search needs
 
 same-length : tie.Need-same-length Inv-loop μ-loop
 same-length c = let i = c .before .before .before .before .before .before .loop in
-    same-len-mid (i .input .kept) (length (i .buffer) - i .input .kept) (i .buffer) (c .before .before .before .read-input .last .0) (c .before .before .before .read-input .kept .0) ∙ i .inv .0
+    same-len-mid (i .input .kept) (length (i .buffer) - i .input .kept) (i .buffer) (c .before .before .before .read-input .last .0)
+    (c .before .before .before .read-input .kept .0) ∙ i .inv .0
 
 same-length-2 : tie.Need-same-length-2 Inv-loop μ-loop
 same-length-2 c = c .before .before .before .before .before .before .loop .inv .1
@@ -55,10 +56,13 @@ returns : tie.Need-returns Inv-loop μ-loop
 returns c = search needs
 
 add-take-step : tie.Need-add-take-step Inv-loop μ-loop
-add-take-step c = let i = c .before .before .before .before .before .before .before .loop in
+add-take-step c = let c₁ = c .before .before .before .before .before .before .before .before in
+    let i = c .before .before .before .before .before .before .before .loop in
     let k = i .input .kept in
     let b = i .buffer in
-    omega (arith, c .before .before .before .before .read-input .ensures, c .before .before .before .before .read-input .kept .0, i .inv .0, i .inv .5, length-take (length b - k) (drop k b), length-drop k b, c .before .before .before .before .before .before .before .before .before .before .before .before .before .before .good)
+    let r = c .before .before .before .before .read-input in
+    let g = c₁ .before .before .before .before .before .before .good in
+    omega (arith, r .ensures, r .kept .0, i .inv .0, i .inv .5, length-take (length b - k) (drop k b), length-drop k b, g)
 
 take-step-requires : tie.Need-take-step-requires Inv-loop μ-loop
 take-step-requires c κs = search needs

@@ -31,7 +31,8 @@ write-output-requires : tie.Need-write-output-requires Inv-loop μ-loop
 write-output-requires c κs = search needs
 
 add-i : tie.Need-add-i Inv-loop μ-loop
-add-i c = omega (arith, c .before .before .before .before .before .before .before .before .before .before .fits .starts, c .before .before .before .before .before .before .loop-test .taken)
+add-i c = let c₁ = c .before .before .before .before .before .before .before .before in
+    omega (arith, c₁ .before .before .fits .starts, c .before .before .before .before .before .before .loop-test .taken)
 
 loop-less : tie.Need-loop-less Inv-loop μ-loop
 loop-less c = search needs

@@ -16,7 +16,9 @@ same-length : tie.Need-same-length
 same-length c = search needs
 
 returns : tie.Need-returns
-returns c = rw (← none-past (c .before .before .before .before .before .before .before .before .args .answers .now) (c .before .before .before .before .before .before .before .before .args .i) (omega (arith, c .before .before .before .before .before .if1 .taken))) (c .before .before .put-all .ensures)
+returns c = rw (← none-past (c .before .before .before .before .before .before .before .before .args .answers .now)
+    (c .before .before .before .before .before .before .before .before .args .i) (omega (arith, c .before .before .before .before .before .if1 .taken)))
+    (c .before .before .put-all .ensures)
 
 mul-at : tie.Need-mul-at
 mul-at c = search needs
@@ -37,7 +39,10 @@ same-length-2 : tie.Need-same-length-2
 same-length-2 c = search needs
 
 returns-2 : tie.Need-returns-2
-returns-2 c = rw (← none-held (c .before .before .before .before .before .before .before .before .before .before .args .answers .now) (c .before .before .before .before .before .before .before .before .before .before .args .i) (omega (arith, c .before .before .before .before .before .before .before .if1 .left)) (c .before .before .before .before .before .if2 .taken)) (c .before .before .put-all2 .ensures)
+returns-2 c = rw (← none-held (c .before .before .before .before .before .before .before .before .before .before .args .answers .now)
+    (c .before .before .before .before .before .before .before .before .before .before .args .i)
+    (omega (arith, c .before .before .before .before .before .before .before .if1 .left)) (c .before .before .before .before .before .if2 .taken))
+    (c .before .before .put-all2 .ensures)
 
 add-put-hex : tie.Need-add-put-hex
 add-put-hex c = search needs
@@ -82,7 +87,12 @@ same-length-3 : tie.Need-same-length-3
 same-length-3 c = search needs
 
 returns-3 : tie.Need-returns-3
-returns-3 c = answer-line (c .before .before .before .before .before .before .before .before .before .before .before .before .before .before .before .before .before .before .before .before .before .before .before .before .args .answers .now) (c .before .before .before .before .before .before .before .before .before .before .before .before .before .before .before .before .before .before .before .before .before .before .before .before .args .i) (omega (arith, c .before .before .before .before .before .before .before .before .before .before .before .before .before .before .before .before .before .before .before .before .before .if1 .left)) (c .before .before .before .before .before .before .before .before .before .before .before .before .before .before .before .before .before .before .before .if2 .left) (c .before .before .before .before .before .before .before .before .before .before .before .before .before .before .before .before .put-hex .ensures) (c .before .before .before .before .before .before .before .before .before .before .before .put-hex2 .ensures) (c .before .before .before .before .before .before .put-hex3 .ensures) (c .before .before .put .ensures)
+returns-3 c = let c₁ = c .before .before .before .before .before .before .before .before in
+    let c₂ = c₁ .before .before .before .before .before .before .before .before in
+    let c₃ = c₂ .before .before .before .before .before .before .before .before in
+    answer-line (c₃ .args .answers .now) (c₃ .args .i) (omega (arith, c₂ .before .before .before .before .before .if1 .left))
+    (c₂ .before .before .before .if2 .left) (c₂ .put-hex .ensures) (c₁ .before .before .before .put-hex2 .ensures)
+    (c .before .before .before .before .before .before .put-hex3 .ensures) (c .before .before .put .ensures)
 
 pub put-answer-spec : {M : Type 1} → statement M
 put-answer-spec =

@@ -20,7 +20,8 @@ same-length : tie.Need-same-length
 same-length c = search needs
 
 returns : tie.Need-returns
-returns c = refused-line _ (c .before .before .before .before .before .before .before .before .before .before .put-all .ensures) (c .before .before .before .before .before .before .put-decimal .ensures) (c .before .before .put .ensures)
+returns c = refused-line _ (c .before .before .before .before .before .before .before .before .before .before .put-all .ensures)
+    (c .before .before .before .before .before .before .put-decimal .ensures) (c .before .before .put .ensures)
 
 pub put-refused-spec : {M : Type 1} → statement M
 put-refused-spec =

@@ -20,7 +20,12 @@ number-in-requires-2 : tie.Need-number-in-requires-2
 number-in-requires-2 c κs = (omega arith, start-field _ (c .before .before .before .before .pre .0) 16 2 (omega arith))
 
 cast-boards : tie.Need-cast-boards
-cast-boards c = omega (arith, c .number-in2 .ensures, start-below (c .before .before .before .before .before .args .line .now) (c .before .before .before .before .before .pre .0) 16 2 (omega arith))
+cast-boards c = omega (
+  arith,
+  c .number-in2 .ensures,
+  start-below (c .before .before .before .before .before .args .line .now)
+      (c .before .before .before .before .before .pre .0) 16 2 (omega arith),
+)
 
 slice-write-boards : tie.Need-slice-write-boards
 slice-write-boards c = search needs
@@ -32,7 +37,12 @@ same-length-2 : tie.Need-same-length-2
 same-length-2 c = search needs
 
 returns : tie.Need-returns
-returns c = (ap (set (c .before .before .before .before .before .args .times .now) (c .before .before .before .before .before .args .i)) (c .before .number-in .ensures), ap (set (c .before .before .before .before .before .args .boards .now) (c .before .before .before .before .before .args .i)) (c .number-in2 .ensures))
+returns c = (
+  ap (set (c .before .before .before .before .before .args .times .now) (c .before .before .before .before .before .args .i))
+      (c .before .number-in .ensures),
+  ap
+      (set (c .before .before .before .before .before .args .boards .now) (c .before .before .before .before .before .args .i)) (c .number-in2 .ensures),
+)
 
 pub put-start-spec : {M : Type 1} → statement M
 put-start-spec =

@@ -13,7 +13,8 @@ check-entry-requires : tie.Need-check-entry-requires
 check-entry-requires c κs = search needs
 
 returns : tie.Need-returns
-returns c = volume-checked _ (c .before .before .before .before .args .l) _ _ _ (c .before .before .entry-offset .ensures .0) (c .before .entry-at .ensures .0) (c .check-entry .ensures)
+returns c = volume-checked _ (c .before .before .before .before .args .l) _ _ _ (c .before .before .entry-offset .ensures .0) (c .before .entry-at .ensures .0)
+    (c .check-entry .ensures)
 
 pub check-volume-spec : {M : Type 1} → statement M
 check-volume-spec = tie.close (tie.spec entry-offset-requires entry-at-requires check-entry-requires returns)

@@ -25,7 +25,8 @@ same-length-2 : tie.Need-same-length-2
 same-length-2 c = search needs
 
 returns : tie.Need-returns
-returns c = recording-begins _ _ _ _ _ _ _ _ _ _ _ (c .before .before .before .before .before .before .before .before .before .begin .ensures) (c .before .before .take-frames .ensures)
+returns c = recording-begins _ _ _ _ _ _ _ _ _ _ _ (c .before .before .before .before .before .before .before .before .before .begin .ensures)
+    (c .before .before .take-frames .ensures)
 
 pub begin-recording-spec : {M : Type 1} → statement M
 begin-recording-spec =

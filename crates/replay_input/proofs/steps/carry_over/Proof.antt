@@ -26,12 +26,24 @@ add-buffer c = omega (arith, c .before .before .pre .0, c .before .before .pre .
 slice-read-buffer : tie.Need-slice-read-buffer Inv-loop μ-loop
 slice-read-buffer c = let i = c .before .before in
     let s = i .before in
-    omega (arith, s .pre .0, s .pre .1, carried-size (s .args .buffer .now) (s .args .used) (i .loop .k) _ (omega (arith, s .pre .0, s .pre .1, i .loop .inv .0)) (i .loop .inv .1))
+    omega (
+      arith,
+      s .pre .0,
+      s .pre .1,
+      carried-size (s .args .buffer .now) (s .args .used) (i .loop .k) _
+          (omega (arith, s .pre .0, s .pre .1, i .loop .inv .0)) (i .loop .inv .1),
+    )
 
 slice-write-buffer : tie.Need-slice-write-buffer Inv-loop μ-loop
 slice-write-buffer c = let i = c .before .before in
     let s = i .before in
-    omega (arith, s .pre .0, s .pre .1, carried-size (s .args .buffer .now) (s .args .used) (i .loop .k) _ (omega (arith, s .pre .0, s .pre .1, i .loop .inv .0)) (i .loop .inv .1))
+    omega (
+      arith,
+      s .pre .0,
+      s .pre .1,
+      carried-size (s .args .buffer .now) (s .args .used) (i .loop .k) _
+          (omega (arith, s .pre .0, s .pre .1, i .loop .inv .0)) (i .loop .inv .1),
+    )
 
 add-k : tie.Need-add-k Inv-loop μ-loop
 add-k c = search needs
@@ -41,8 +53,11 @@ loop-less c = search needs
 
 loop-again : tie.Need-loop-again Inv-loop μ-loop
 loop-again c = let i = c .before .before in
-    let s = i .before in
-    (omega (arith, c .before .loop-test .taken), carried-step (s .args .buffer .now) (s .args .used) (i .loop .k) (omega (arith, s .pre .0, s .pre .1, c .before .loop-test .taken)) _ (i .loop .inv .1))
+    let s = i .before in (
+      omega (arith, c .before .loop-test .taken),
+      carried-step (s .args .buffer .now) (s .args .used) (i .loop .k)
+          (omega (arith, s .pre .0, s .pre .1, c .before .loop-test .taken)) _ (i .loop .inv .1),
+    )
 
 same-length : tie.Need-same-length Inv-loop μ-loop
 same-length c = let i = c .before in

@@ -18,7 +18,9 @@ same-length-2 c = search needs
 
 returns : tie.Need-returns
 returns c = let s = c .before .before .before .before .before .before .before .before .before .before .before .before .before .before .before .args in
-    ends-starting (s .input) _ (s .times .now) (s .boards .now) (s .work .now) (s .answers .now) _ _ _ (c .before .before .before .before .before .before .before .before .before .fitting .ensures) (c .before .before .before .before .before .before .before .if1 .taken) (c .before .before .before .before .end-starting .ensures)
+    ends-starting (s .input) _ (s .times .now) (s .boards .now) (s .work .now) (s .answers .now) _ _ _
+    (c .before .before .before .before .before .before .before .before .before .fitting .ensures)
+    (c .before .before .before .before .before .before .before .if1 .taken) (c .before .before .before .before .end-starting .ensures)
 
 end-recording-requires : tie.Need-end-recording-requires
 end-recording-requires c κs = fitting-fits _ _ _ _ (c .before .before .before .before .fitting .ensures)
@@ -31,7 +33,9 @@ same-length-4 c = search needs
 
 returns-2 : tie.Need-returns-2
 returns-2 c = let s = c .before .before .before .before .before .before .before .before .before .before .before .before .before .before .before .args in
-    ends-recording (s .input) _ (s .times .now) (s .boards .now) (s .work .now) (s .answers .now) _ _ _ (c .before .before .before .before .before .before .before .before .before .fitting .ensures) (c .before .before .before .before .before .before .before .if1 .left) (c .before .before .before .before .end-recording .ensures)
+    ends-recording (s .input) _ (s .times .now) (s .boards .now) (s .work .now) (s .answers .now) _ _ _
+    (c .before .before .before .before .before .before .before .before .before .fitting .ensures)
+    (c .before .before .before .before .before .before .before .if1 .left) (c .before .before .before .before .end-recording .ensures)
 
 pub end-input-spec : {M : Type 1} → statement M
 end-input-spec =

@@ -12,8 +12,9 @@ least-requires-2 : tie.Need-least-requires-2
 least-requires-2 c κs = search needs
 
 returns : tie.Need-returns
-returns c = ap (λ (n : ℕ). record { starts = n; starting = c .before .before .before .args .stage .starting; progress = c .before .before .before .args .stage .progress })
-    (c .before .least2 .ensures ∙ ap (min (c .before .before .before .args .stage .starts)) (c .before .before .least .ensures))
+returns c = let s = c .before .before .before .args .stage in
+    ap (λ (n : ℕ). record { starts = n; starting = s .starting; progress = s .progress })
+    (c .before .least2 .ensures ∙ ap (min (s .starts)) (c .before .before .least .ensures))
 
 pub fitting-spec : {M : Type 1} → statement M
 fitting-spec = tie.close (tie.spec least-requires least-requires-2 returns)

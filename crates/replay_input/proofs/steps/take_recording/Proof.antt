@@ -11,7 +11,8 @@ same-length : tie.Need-same-length
 same-length c = search needs
 
 returns : tie.Need-returns
-returns c = recording-takes _ _ _ _ _ _ _ _ (c .before .before .before .before .before .before .before .before .before .before .before .pre .1) (c .before .before .before .take-frames .ensures)
+returns c = recording-takes _ _ _ _ _ _ _ _ (c .before .before .before .before .before .before .before .before .before .before .before .pre .1)
+    (c .before .before .before .take-frames .ensures)
 
 pub take-recording-spec : {M : Type 1} → statement M
 take-recording-spec = tie.close (tie.spec take-frames-requires same-length returns)

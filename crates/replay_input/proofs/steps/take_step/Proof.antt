@@ -24,9 +24,12 @@ take-bytes-requires : tie.Need-take-bytes-requires
 take-bytes-requires c κs = fitting-fits _ _ _ _ (c .before .before .before .before .before .fitting .ensures)
 
 carry-over-requires : tie.Need-carry-over-requires
-carry-over-requires c κs = let n = c .before .before .before .before .before .before .before .before .before .before .before .before .before .before .before .before .before .before .least in
-    let e : length (take (n .result) (c .before .before .before .before .before .before .before .before .before .before .before .before .before .before .before .before .before .before .before .before .before .before .before .before .args .buffer .now)) ≡ n .result = length-take-le _ _ (omega (arith, n .ensures)) in
-    (omega (arith, c .before .before .before .before .before .before .before .before .before .before .take-bytes .ensures .used), omega (arith, n .ensures))
+carry-over-requires c κs = let c₁ = c .before .before .before .before .before .before .before .before in
+    let c₂ = c₁ .before .before .before .before .before .before .before .before in
+    let c₃ = c₂ .before .before .before .before .before .before .before .before in
+    let n = c₂ .before .before .least in
+    let e : length (take (n .result) (c₃ .args .buffer .now)) ≡ n .result = length-take-le _ _ (omega (arith, n .ensures)) in
+    (omega (arith, c₁ .before .before .take-bytes .ensures .used), omega (arith, n .ensures))
 
 same-length : tie.Need-same-length
 same-length c = search needs
@@ -44,10 +47,14 @@ same-length-5 : tie.Need-same-length-5
 same-length-5 c = search needs
 
 returns : tie.Need-returns
-returns c = let s = c .before .before .before .before .before .before .before .before .before .before .before .before .before .before .before .before .before .before .before .before .before .before .before .before .before .before .before .args in
+returns c = let c₁ = c .before .before .before .before .before .before .before .before in
+    let c₂ = c₁ .before .before .before .before .before .before .before .before in
+    let c₃ = c₂ .before .before .before .before .before .before .before .before in
+    let s = c₃ .before .before .before .args in
     let o = c .before .before .carry-over .ensures in
-    step-holds (s .buffer .now) (s .end) (s .input) (s .times .now) (s .boards .now) (s .work .now) (s .answers .now) _ _ _ _ _ _ _ _ _ (c .before .before .before .before .before .before .before .before .before .before .before .before .before .before .before .before .before .before .before .before .before .least .ensures)
-    (c .before .before .before .before .before .before .before .before .before .before .before .before .before .before .before .before .before .before .before .fitting .ensures) (c .before .before .before .before .before .before .before .before .before .before .before .before .before .take-bytes .ensures) (o .0) (o .1)
+    step-holds (s .buffer .now) (s .end) (s .input) (s .times .now) (s .boards .now) (s .work .now) (s .answers .now) _ _ _ _ _ _ _ _ _
+    (c₂ .before .before .before .before .before .least .ensures) (c₂ .before .before .before .fitting .ensures)
+    (c₁ .before .before .before .before .before .take-bytes .ensures) (o .0) (o .1)
 
 pub take-step-spec : {M : Type 1} → statement M
 take-step-spec =
