@@ -38,6 +38,16 @@ impl Args {
         Ok(args)
     }
 
+    /// As [`Args::split`], for a command whose operands are files, one at least.
+    pub fn of_files(words: Vec<OsString>, known: Known) -> Result<Args, String> {
+        let args = Args::split(words, known)?;
+        input_once(&args.operands)?;
+        if args.operands.is_empty() {
+            return Err("no file is named".to_string());
+        }
+        Ok(args)
+    }
+
     pub fn has(&self, flag: &str) -> bool {
         self.options.iter().any(|(name, _)| name == flag)
     }
@@ -51,6 +61,14 @@ impl Args {
     /// The last of them.
     pub fn value<'a>(&'a self, name: &'a str) -> Option<&'a OsStr> {
         self.values(name).last()
+    }
+}
+
+/// Standard input can be one of the files and not two.
+pub fn input_once<'a>(names: impl IntoIterator<Item = &'a OsString>) -> Result<(), String> {
+    match names.into_iter().filter(|name| *name == "-").count() {
+        0 | 1 => Ok(()),
+        _ => Err("only one of the files can be -".to_string()),
     }
 }
 

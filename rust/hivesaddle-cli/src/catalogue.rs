@@ -23,8 +23,7 @@ example: hivesaddle catalogue examples/samples >catalogue.txt
 ";
 
 pub fn run(words: Vec<OsString>) -> Outcome {
-    match Args::split(words, Known::default()) {
-        Ok(args) if args.operands.is_empty() => usage("catalogue", "no file is named"),
+    match Args::of_files(words, Known::default()) {
         Ok(args) => written(catalogue(&args.operands)),
         Err(message) => usage("catalogue", message),
     }
@@ -35,7 +34,7 @@ fn catalogue(operands: &[OsString]) -> io::Result<Outcome> {
     let worst = each_look(operands, |name, look| {
         match look {
             Look::Accepted(_, record) => return write_line(&mut out, &record),
-            Look::Refused(_, refusal) => complain(name, refusal::line(refusal)),
+            Look::Refused(file, refusal) => complain(name, refusal::line(file, refusal)),
             Look::Troubled(trouble) => complain(name, trouble),
         }
         Ok(())
@@ -55,6 +54,6 @@ fn write_line(out: &mut impl Write, record: &Record) -> io::Result<()> {
     // The fields of an accepted file form a line.
     match catalogue_write(fields, &mut line) {
         Ok(()) => out.write_all(&line),
-        Err(refusal) => Err(io::Error::other(refusal::line(refusal))),
+        Err(refusal) => Err(io::Error::other(refusal::line(&[], refusal))),
     }
 }

@@ -23,7 +23,8 @@ walk along the chains. A browser opens it. The first chain is the first file's,
 and so on. Version 30 has no chains: there the entries stand in the order of the
 array, in the rows that name them.
 
-FILE may be -, standard input, and OUT.svg may be -, standard output. A file that
+FILE may be -, standard input, and OUT.svg may be -, standard output. An OUT.svg
+that is there already is written over, unless it is a Prefetch file. A file that
 is refused has no chart.
 
 Exit status: 0; 1 if the file was refused; 2 if something could not be read or
@@ -46,7 +47,7 @@ pub fn run(words: Vec<OsString>) -> Outcome {
 fn chart(name: &OsStr, out: &OsStr) -> Result<Outcome, Outcome> {
     let mut reader = Reader::default();
     let file = reader.read(name).map_err(|trouble| failed(name, trouble))?;
-    let chart = Chart::of(file).map_err(|refusal| refused(name, refusal::line(refusal)))?;
+    let chart = Chart::of(file).map_err(|refusal| refused(name, refusal::line(file, refusal)))?;
     let program = text::shown(program_name(file).unwrap_or_default());
-    Ok(output::write(out, svg::svg(&chart, &program).as_bytes(), &[name]))
+    Ok(output::write_view(out, &svg::svg(&chart, &program), &[name.to_owned()]))
 }

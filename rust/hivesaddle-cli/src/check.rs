@@ -26,8 +26,7 @@ example: hivesaddle make --list 13 >ring.txt
 ";
 
 pub fn run(words: Vec<OsString>) -> Outcome {
-    match Args::split(words, Known::default()) {
-        Ok(args) if args.operands.is_empty() => usage("check", "no file is named"),
+    match Args::of_files(words, Known::default()) {
         Ok(args) => written(check(&args.operands)),
         Err(message) => usage("check", message),
     }
@@ -49,14 +48,14 @@ fn check(operands: &[OsString]) -> io::Result<Outcome> {
 
 fn refused(name: &OsStr, file: &[u8], refusal: Refusal) -> String {
     let Refusal { number, offset, .. } = refusal;
-    let words = refusal::words(refusal);
+    let words = refusal::words(file, refusal);
     let value = number_at(file, refusal, words.length).unwrap_or_default();
     let rows = hex::marked(file, offset, words.length);
     let mut said = format!("{}: refused {number}: {}\n", text::shown_name(name), words.says);
     let bytes = text::count(file.len(), "byte");
     said += &format!("  at {offset:#X} of {bytes}, {}{value}:\n", words.field);
     said.extend(rows.lines().map(|row| format!("  {row}\n")));
-    said + &format!("  what to do: {}\n", advice(file, words.advice))
+    said + &format!("  what to do: {}\n", words.advice)
 }
 
 /// The number that the field holds, if it is one and the file has all of it.
@@ -68,11 +67,4 @@ fn number_at(file: &[u8], refusal: Refusal, length: usize) -> Option<String> {
     let field = file.get(usize::try_from(refusal.offset).ok()?..)?.first_chunk()?;
     let number = u32::from_le_bytes(*field);
     Some(format!(", which says {number} ({number:#X})"))
-}
-
-fn advice<'a>(file: &[u8], known: &'a str) -> &'a str {
-    if file.starts_with(b"MAM") {
-        return "this is a compressed file (MAM): unpack it first, with another tool";
-    }
-    known
 }

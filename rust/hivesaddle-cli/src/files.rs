@@ -17,6 +17,20 @@ const INPUT: &str = "-";
 /// gone through in order with bounded memory.
 const HELD: usize = 8_192;
 
+/// Begins as a Prefetch file does, sound or not.
+pub fn is_prefetch(bytes: &[u8]) -> bool {
+    has_signature(bytes) || is_compressed(bytes)
+}
+
+pub fn has_signature(bytes: &[u8]) -> bool {
+    bytes.get(4..8) == Some(b"SCCA")
+}
+
+/// As Windows 10 keeps them.
+pub fn is_compressed(bytes: &[u8]) -> bool {
+    bytes.starts_with(b"MAM")
+}
+
 /// Why a file has no bytes to show.
 #[derive(Debug)]
 pub enum Trouble {

@@ -80,8 +80,7 @@ struct Row {
 
 pub fn run(words: Vec<OsString>) -> Outcome {
     let known = Known { flags: &["csv", "json"], valued: &[] };
-    let args = match Args::split(words, known) {
-        Ok(args) if args.operands.is_empty() => return usage("list", "no file is named"),
+    let args = match Args::of_files(words, known) {
         Ok(args) => args,
         Err(message) => return usage("list", message),
     };
@@ -140,7 +139,7 @@ impl Row {
         Row {
             name: Cell::units(program_name(file)),
             refusal: [number.into(), index, offset].map(Cell::Number),
-            problem: Cell::words(refusal::line(refusal)),
+            problem: Cell::words(refusal::line(file, refusal)),
             ..Row::default()
         }
     }

@@ -6,7 +6,9 @@ use crate::outcome::{complain, failed, usage, Outcome};
 use crate::output::{say, write};
 use crate::text::{self, count};
 use crate::{odd, refusal};
-use hivesaddle::{read_file_alloc, DescriptionError, FileContents, TestFile};
+use hivesaddle::{
+    read_file_alloc, DescribedFile, DescriptionError, FileContents, Refusal, TestFile,
+};
 use std::ffi::{OsStr, OsString};
 
 pub const HELP: &str = r"usage: hivesaddle make DESCRIPTION FILE
@@ -18,7 +20,7 @@ not made, unless a line of the description is `odd`.
 
 A description has one thing on a line: a word, a blank, and what it says. Empty lines and lines that
 begin with # are passed over. Numbers are decimal, or hexadecimal after 0x. The first line says the
-version.
+version. What a file or a volume has one of is said once.
 
   version 23
   name CMD.EXE
@@ -89,19 +91,28 @@ fn make(description: &OsStr, path: &OsStr) -> Outcome {
         let shown = |error: DescriptionError| text::shown_name(error.to_string().as_ref());
         TestFile::from_description(&text).map_err(shown)
     });
-    match described.map(|described| described.make()) {
-        Ok(Ok(file)) => match write(path, &file, &[description]) {
+    match described.map(|described| described.make().map_err(|refusal| why(&described, refusal))) {
+        Ok(Ok(file)) => match write(path, &file, &[description.to_owned()]) {
             // What it says would stand behind the file.
             Outcome::Done if path != "-" => say(summary(&file).as_bytes()),
             outcome => outcome,
         },
-        Ok(Err(refusal)) => {
-            let line = refusal::line(refusal);
-            complain(description, format!("no file made, as no line says `odd`: {line}"));
+        Ok(Err(why)) => {
+            complain(description, format!("no file made, as no line says `odd`: {why}"));
             Outcome::Refused
         }
         Err(message) => failed(description, message),
     }
+}
+
+/// The writer refuses versions that the reader knows.
+fn why(described: &DescribedFile, refusal: Refusal) -> String {
+    let laid_out = described.file.lay_out();
+    let version = laid_out.first_chunk().map_or(0, |version| u32::from_le_bytes(*version));
+    if refusal.number == 1 && version != 17 && version != 23 {
+        return format!("refused 1: files of version 17 and 23 are made, and not of {version}");
+    }
+    refusal::line(&laid_out, refusal)
 }
 
 fn read_text(name: &OsStr) -> Result<String, String> {
@@ -118,7 +129,7 @@ fn read_text(name: &OsStr) -> Result<String, String> {
 fn summary(file: &[u8]) -> String {
     let bytes = count(file.len(), "byte");
     match read_file_alloc(file) {
-        Err(refusal) => format!("{bytes}, {}\n", refusal::line(refusal)),
+        Err(refusal) => format!("{bytes}, {}\n", refusal::line(file, refusal)),
         Ok(FileContents { record, .. }) => {
             let files = count(record.metrics_count as usize, "file");
             let chains = count(record.chain_count as usize, "chain");

@@ -2,8 +2,7 @@
 //! among them: it is about memory that the caller lends.
 
 /// A sound file of version 23. The lines that make it odd follow.
-const SOUND: &str = r"name CMD.EXE
-hash-of \DEVICE\HARDDISKVOLUME1\WINDOWS\SYSTEM32\CMD.EXE
+const SOUND: &str = r"hash-of \DEVICE\HARDDISKVOLUME1\WINDOWS\SYSTEM32\CMD.EXE
 run-time 133761942000000000
 run-count 42
 file \DEVICE\HARDDISKVOLUME1\WINDOWS\SYSTEM32\CMD.EXE
@@ -20,20 +19,21 @@ directory \DEVICE\HARDDISKVOLUME1\WINDOWS
 struct Odd {
     number: u32,
     version: u32,
+    name: &'static str,
     title: &'static str,
     /// Behind those of the sound file.
     lines: &'static str,
 }
 
 const fn odd(number: u32, title: &'static str, lines: &'static str) -> Odd {
-    Odd { number, version: 23, title, lines }
+    Odd { number, version: 23, name: "CMD.EXE", title, lines }
 }
 
 const ODD: [Odd; 17] = [
     Odd { version: 24, ..odd(1, "a version that is not known", "") },
     odd(2, "another signature", "bytes-at 4 53 43 43 42"),
     odd(3, "a declared size that holds no head", "bytes-at 12 10 00 00 00"),
-    odd(4, "a program name of thirty units", "name A-NAME-OF-THIRTY-UNITS-OR-MORE"),
+    Odd { name: "A-NAME-OF-THIRTY-UNITS-OR-MORE", ..odd(4, "a program name of thirty units", "") },
     odd(5, "strings that start behind the end of the file", "bytes-at 100 00 10 00 00"),
     odd(6, "a trace that starts where the metrics do", "bytes-at 92 F0 00 00 00"),
     odd(8, "more volumes than there is room for", "volume-count 100"),
@@ -56,7 +56,8 @@ pub fn numbers() -> impl Iterator<Item = u32> {
 
 /// The description that gives this refusal, if there is one.
 pub fn description(number: u32) -> Option<String> {
-    let Odd { version, title, lines, .. } = ODD.iter().find(|odd| odd.number == number)?;
+    let Odd { version, name, title, lines, .. } = ODD.iter().find(|odd| odd.number == number)?;
     let lines = if lines.is_empty() { String::new() } else { format!("{lines}\n") };
-    Some(format!("# Refusal {number}: {title}.\nversion {version}\nodd\n{SOUND}{lines}"))
+    let head = format!("# Refusal {number}: {title}.\nversion {version}\nodd\nname {name}\n");
+    Some(format!("{head}{SOUND}{lines}"))
 }

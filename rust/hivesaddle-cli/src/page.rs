@@ -41,9 +41,10 @@ The <a href=\"#table\">table</a> has the numbers, and the plot is in its order.<
 
 const MEAN: &str = "\
 <p class=\"soft\">Lowest, mean and highest are in degrees, over the readings at the program's \
-starts: for each start, the last reading of its board up to then. The mean is their sum divided by \
-their number, rounded down to a tenth of a degree, below zero too. Files and runs are those of the \
-catalogue. A program without a reading shows none.</p>
+starts: for each start, the last reading of its board up to then. Readings counts the starts that \
+have one; two starts may have the same. The mean is their sum divided by their number, rounded \
+down to a tenth of a degree, below zero too. Files and runs are those of the catalogue. A program \
+without a reading shows none.</p>
 ";
 
 impl Page<'_> {
@@ -69,7 +70,7 @@ impl Page<'_> {
             ("Programs", self.rows.len() as u64),
             ("Files", self.rows.iter().map(|row| row.lines).sum()),
             ("Runs", self.rows.iter().map(|row| row.run_counts).sum()),
-            ("Readings", readings),
+            ("Starts with a reading", readings),
         ];
         let _ = writeln!(out, "<h1>The year: programs and temperatures</h1>");
         let _ = writeln!(out, "<p class=\"soft\">{starts}</p>\n<dl class=\"counts\">");

@@ -1,5 +1,6 @@
 //! The readers' refusals in words.
 
+use crate::files::{has_signature, is_compressed};
 use hivesaddle::Refusal;
 
 /// What there is to say about a refusal.
@@ -13,15 +14,24 @@ pub struct Words {
     pub advice: &'static str,
 }
 
-/// As `refused 12 3 at 0x1A4: two trace entries or more lead to trace entry 3`.
-pub fn line(refusal: Refusal) -> String {
+/// As `refused 12 3 at 0x1A4: two trace entries or more lead to trace entry 3`. A
+/// compressed file has nothing at a place, and is told what to do.
+pub fn line(file: &[u8], refusal: Refusal) -> String {
     let Refusal { number, index, offset } = refusal;
-    format!("refused {number} {index} at {offset:#X}: {}", words(refusal).says)
+    let Words { says, advice, .. } = words(file, refusal);
+    if number == 1 && is_compressed(file) {
+        return format!("refused {number}: {says}; {advice}");
+    }
+    format!("refused {number} {index} at {offset:#X}: {says}")
 }
 
-pub fn words(refusal: Refusal) -> Words {
-    let meaning = MEANINGS.iter().find(|meaning| meaning.number == refusal.number);
-    let &Meaning { says, field, length, advice, .. } = meaning.unwrap_or(&UNKNOWN);
+pub fn words(file: &[u8], refusal: Refusal) -> Words {
+    let meaning = match MEANINGS.iter().find(|meaning| meaning.number == refusal.number) {
+        Some(Meaning { number: 1, .. }) if is_compressed(file) => &COMPRESSED,
+        Some(Meaning { number: 1, .. }) if !has_signature(file) => &NO_PREFETCH,
+        found => found.unwrap_or(&UNKNOWN),
+    };
+    let &Meaning { says, field, length, advice, .. } = meaning;
     let section = usize::try_from(refusal.index).ok().and_then(|index| SECTIONS.get(index));
     let says =
         says.replace("{section}", section.unwrap_or(&"")).replace("{}", &refusal.index.to_string());
@@ -55,6 +65,8 @@ const NAME: (&str, usize) = ("where the name of that entry starts in the strings
 const ENTRY: (&str, usize) = ("that trace entry", 12);
 const VOLUME: (&str, usize) = ("the entry of that volume", 16);
 
+const VERSION: &str = "the version is not 17, 23, 26 or 30";
+const NO_FILE: &str = "this is no Prefetch file";
 const FETCH: &str = "the file is damaged: fetch it again";
 const NAMES: &str = "the file is damaged: fetch it again; `names` still shows the sound names";
 const LINKS: &str = "the file is damaged: fetch it again; `names` and `volumes` still show theirs";
@@ -63,8 +75,8 @@ const VOLUMES: &str =
 
 /// Those that the reader of whole files has; include/hivesaddle.h has the rules.
 const MEANINGS: [Meaning; 18] = [
-    meaning(1, "the version is not 17, 23, 26 or 30", ("the version", 4), "take another tool"),
-    meaning(2, "no SCCA after the version", ("the signature", 4), "this is no Prefetch file"),
+    meaning(1, VERSION, ("the version", 4), "take another tool"),
+    meaning(2, "no SCCA after the version", ("the signature", 4), NO_FILE),
     meaning(3, "the declared size is impossible", SIZE, FETCH),
     meaning(4, "the program name has no end", ("the program name", 16), FETCH),
     meaning(
@@ -118,6 +130,13 @@ const MEANINGS: [Meaning; 18] = [
     ),
 ];
 
+/// Refusal 1 of a file without the signature, as a text.
+const NO_PREFETCH: Meaning = meaning(1, VERSION, ("the version", 4), NO_FILE);
+
+/// Refusal 1 of a file that may be sound inside.
+const COMPRESSED: Meaning =
+    meaning(1, "compressed (MAM)", ("the letters", 3), "unpack it first, with another tool");
+
 const UNKNOWN: Meaning =
     meaning(0, "no meaning is known", ("the field", 4), "ask who made this tool");
 
@@ -126,7 +145,7 @@ mod tests {
     use super::*;
 
     fn said(number: u32, index: u64) -> String {
-        line(Refusal { number, index, offset: 420 })
+        line(b"\x17\0\0\0SCCA", Refusal { number, index, offset: 420 })
     }
 
     #[test]
@@ -136,6 +155,15 @@ mod tests {
             said(13, 7),
             "refused 13 7 at 0x1A4: the links from trace entry 7 lead back to it"
         );
+    }
+
+    #[test]
+    fn words_for_what_is_no_plain_prefetch_file() {
+        let refusal = Refusal { number: 1, index: 0, offset: 0 };
+        let packed = "refused 1: compressed (MAM); unpack it first, with another tool";
+        assert_eq!(line(b"MAM\x04", refusal), packed);
+        assert_eq!(words(b"version 23\n", refusal).advice, "this is no Prefetch file");
+        assert_eq!(words(b"\x18\0\0\0SCCA", refusal).advice, "take another tool");
     }
 
     #[test]

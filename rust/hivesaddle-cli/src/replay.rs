@@ -1,11 +1,13 @@
 //! `hivesaddle replay`: the reading that each start has in a recording.
 
 mod input;
+mod line;
 mod progress;
 
-pub use input::{is_input_once, refused, Input};
+pub use input::{has_no_lines, refused, Input};
+pub use line::refuse_line;
 
-use crate::args::{Args, Known};
+use crate::args::{input_once, Args, Known};
 use crate::outcome::{usage, written, Outcome};
 use crate::starts::lines;
 use crate::table::{Cell, Style, Table};
@@ -40,8 +42,10 @@ pub fn run(words: Vec<OsString>) -> Outcome {
         Err(message) => return usage("replay", message),
     };
     match &operands[..] {
-        [_, _] if !is_input_once(&operands) => usage("replay", "only one of the files can be -"),
-        [starts, recording] => replay(starts, recording).unwrap_or_else(|stopped| stopped),
+        [starts, recording] => match input_once(&operands) {
+            Ok(()) => replay(starts, recording).unwrap_or_else(|stopped| stopped),
+            Err(message) => usage("replay", message),
+        },
         _ => usage("replay", "it takes two files, STARTS and RECORDING"),
     }
 }
@@ -58,17 +62,30 @@ fn replay(starts: &OsStr, recording: &OsStr) -> Result<Outcome, Outcome> {
     Ok(written(shown.map(|()| Outcome::Done)))
 }
 
+/// Bytes of a reading's line.
+const READING: u64 = 23;
+/// Bytes of a bad line that are looked at.
+const LOOKED_AT: usize = 64;
+
 /// What a recording says about each start. It is read in pieces, so that memory
 /// does not grow with its length.
 pub fn answers(recording: &OsStr, starts: &[Start]) -> Result<Vec<Option<Reading>>, Outcome> {
     let mut replay = Replay::new(starts);
-    Input::open(recording)?.each_piece(|piece| {
+    let mut input = Input::open(recording)?;
+    let mut is_empty = true;
+    input.each_piece(|piece| {
+        is_empty = false;
         replay.feed(piece);
         replay.bad_line().is_none()
     })?;
+    if is_empty {
+        has_no_lines(recording);
+    }
     replay.finish().map_err(|bad| {
-        let rule = "22 digits 0-9 A-F and a line feed";
-        refused(recording, format_args!("refused 22: line {} is no reading, {rule}", bad.line))
+        // All lines before it are readings.
+        let bytes = input.bytes_at(READING * (bad.line - 1), LOOKED_AT);
+        let rule = "reading, 22 digits 0-9 A-F and a line feed";
+        refuse_line(recording, bad.line, rule, &bytes, LOOKED_AT)
     })
 }
 

@@ -40,7 +40,7 @@ impl Single {
             Look::Accepted(file, _) => self.write(file, style)?,
             Look::Refused(file, refusal) => {
                 self.write(file, style)?;
-                complain(name, refusal::line(refusal));
+                complain(name, refusal::line(file, refusal));
             }
             Look::Troubled(ref trouble) => complain(name, trouble),
         }

@@ -2,7 +2,7 @@
 
 pub mod lines;
 
-use crate::args::{Args, Known};
+use crate::args::{input_once, Args, Known};
 use crate::look::{each_look, Look};
 use crate::outcome::{complain, usage, written, Outcome};
 use crate::{refusal, text};
@@ -27,13 +27,15 @@ example: hivesaddle starts 3=examples/samples/small.pf >starts.txt
 ";
 
 pub fn run(words: Vec<OsString>) -> Outcome {
-    let operands = match Args::split(words, Known::default()) {
-        Ok(args) if args.operands.is_empty() => return usage("starts", "no file is named"),
+    let operands = match Args::of_files(words, Known::default()) {
         Ok(args) => args.operands,
         Err(message) => return usage("starts", message),
     };
     let boards: Result<Vec<_>, String> = operands.iter().map(|operand| board(operand)).collect();
-    match boards {
+    let once = |boards: Vec<(u8, OsString)>| {
+        input_once(boards.iter().map(|(_, name)| name)).map(|()| boards)
+    };
+    match boards.and_then(once) {
         Ok(boards) => written(write(&boards)),
         Err(message) => usage("starts", message),
     }
@@ -42,6 +44,7 @@ pub fn run(words: Vec<OsString>) -> Outcome {
 /// The number before the first `=`, and the name behind it.
 fn board(operand: &OsStr) -> Result<(u8, OsString), String> {
     let parts = operand.to_str().and_then(|operand| operand.split_once('='));
+    let parts = parts.filter(|parts| !parts.1.is_empty());
     // A plus sign would pass as part of a number.
     let is_number = |digits: &str| digits.bytes().all(|byte| byte.is_ascii_digit());
     let board = parts.filter(|parts| is_number(parts.0)).and_then(|parts| parts.0.parse().ok());
@@ -58,7 +61,7 @@ fn write(boards: &[(u8, OsString)]) -> io::Result<Outcome> {
         let outcome = each_look(std::slice::from_ref(name), |name, look| {
             match look {
                 Look::Accepted(_, record) => return write_starts(&mut out, *board, &record),
-                Look::Refused(_, refusal) => complain(name, refusal::line(refusal)),
+                Look::Refused(file, refusal) => complain(name, refusal::line(file, refusal)),
                 Look::Troubled(trouble) => complain(name, trouble),
             }
             Ok(())

@@ -4,10 +4,10 @@
 mod inputs;
 mod names;
 
-use crate::args::{Args, Known};
+use crate::args::{input_once, Args, Known};
 use crate::outcome::{usage, written, Outcome};
 use crate::page::{tenths, Page};
-use crate::replay::{degrees, is_input_once};
+use crate::replay::degrees;
 use crate::table::{Cell, Style, Table};
 use crate::{output, text};
 use hivesaddle::YearRow;
@@ -30,15 +30,18 @@ takes it. One of the three may be -, standard input.
 
   --csv           as CSV
   --json          as JSON
-  --html OUT      as a page to open in a browser; - is standard output
+  --html OUT      as a page to open in a browser; - is standard output, and a
+                  Prefetch file is not written over
   --names FOLDER  with the programs' names, from a folder of their Prefetch
                   files, or from a file; may be given more than once
 
 A line that is something else is refused, and no table is made. A file of
---names that is refused goes to standard error, and the table is made.
+--names that is refused goes to standard error, and the table is made. Starts
+whose hash no catalogue line has make rows too, and standard error says how many
+they are; where all starts are such, no table is made.
 
 Exit status: 0; 1 if a line or a file was refused; 2 if something could not be
-read or written.
+read or written, or if no start is of the catalogue.
 
 example: hivesaddle catalogue examples/samples/small.pf >catalogue.txt
          hivesaddle starts 3=examples/samples/small.pf >starts.txt
@@ -58,12 +61,12 @@ pub fn run(words: Vec<OsString>) -> Outcome {
     }
     match (&args.operands[..], Style::of(&args)) {
         (_, Err(message)) => usage("year", message),
-        ([_, _, _], _) if !is_input_once(&args.operands) => {
-            usage("year", "only one of the files can be -")
-        }
         ([catalogue, starts, recording], Ok(style)) => {
             let out = args.value("html").map_or(Out::Table(style), Out::Page);
             let folders: Vec<OsString> = args.values("names").map(OsStr::to_owned).collect();
+            if let Err(message) = input_once(args.operands.iter().chain(&folders)) {
+                return usage("year", message);
+            }
             year([catalogue, starts, recording], &folders, out).unwrap_or_else(|stopped| stopped)
         }
         _ => usage("year", "it takes three files, CATALOGUE, STARTS and RECORDING"),
@@ -85,7 +88,8 @@ fn year(files: [&OsStr; 3], folders: &[OsString], out: Out) -> Result<Outcome, O
         Out::Page(out) => {
             let name = |hash| text::shown(&names.joined(hash));
             let page = Page { rows: &rows, name: &name, times: inputs.times() };
-            output::write(out, page.html().as_bytes(), &files)
+            let inputs = files.iter().map(|file| file.to_os_string()).chain(folders.to_vec());
+            output::write_view(out, &page.html(), &inputs.collect::<Vec<OsString>>())
         }
     };
     Ok(made.worst(names.outcome))

@@ -41,7 +41,8 @@ impl std::error::Error for DescriptionError {}
 impl TestFile {
     /// Reads a description. It has one thing on a line: a word, a blank, and what
     /// it says. Empty lines and lines that begin with # are passed over. Numbers
-    /// are decimal, or hexadecimal after 0x. The first line says the version.
+    /// are decimal, or hexadecimal after 0x. The first line says the version. What
+    /// a file or a volume has one of is said once.
     ///
     /// ```text
     /// version 23
@@ -85,6 +86,8 @@ impl TestFile {
     ///
     /// let error = TestFile::from_description("version 17\nnaem CMD.EXE").unwrap_err();
     /// assert_eq!(error.to_string(), "line 2: no such word: `naem`");
+    /// let error = TestFile::from_description("version 17\nhash 1\nhash-of A").unwrap_err();
+    /// assert_eq!(error.to_string(), "line 3: the hash is said already");
     /// ```
     pub fn from_description(text: &str) -> Result<DescribedFile, DescriptionError> {
         let mut so_far: Option<Lines> = None;
@@ -172,6 +175,34 @@ struct Lines {
     described: DescribedFile,
     /// The last volume, as long as lines can be about it.
     volume: Option<TestVolume>,
+    /// What is said of the file, and of this volume, and can't be said again.
+    said: Vec<&'static str>,
+    said_of_volume: Vec<&'static str>,
+}
+
+/// What a word says, if there is one of it in a file or in a volume.
+fn once(word: &str) -> Option<&'static str> {
+    Some(match word {
+        "version" => "version",
+        "name" | "name-units" => "name",
+        "hash" | "hash-of" => "hash",
+        "run-time" => "run time",
+        "run-count" => "run count",
+        "volume-count" => "volume count",
+        "serial" => "serial number",
+        "created" => "creation time",
+        _ => return None,
+    })
+}
+
+fn say(said: &mut Vec<&'static str>, word: &str) -> Result<(), String> {
+    match once(word) {
+        Some(thing) if said.contains(&thing) => Err(format!("the {thing} is said already")),
+        thing => {
+            said.extend(thing);
+            Ok(())
+        }
+    }
 }
 
 fn first_line(word: &str, rest: &str) -> Result<Lines, String> {
@@ -180,7 +211,8 @@ fn first_line(word: &str, rest: &str) -> Result<Lines, String> {
     }
     let file = TestFile::new(number(rest)?);
     let described = DescribedFile { file, odd: false, changes: Vec::new() };
-    Ok(Lines { described, volume: None })
+    let said = once(word).into_iter().collect();
+    Ok(Lines { described, volume: None, said, said_of_volume: Vec::new() })
 }
 
 impl Lines {
@@ -195,13 +227,17 @@ impl Lines {
     fn line(mut self, word: &str, rest: &str) -> Result<Lines, String> {
         if let "serial" | "created" | "reference" | "directory" = word {
             let volume = self.volume.as_mut().ok_or(format!("`{word}` comes below a volume"))?;
+            say(&mut self.said_of_volume, word)?;
             of_volume(volume, word, rest)?;
             return Ok(self);
         }
-        let Lines { mut described, mut volume } = self.without_volume();
+        say(&mut self.said, word)?;
+        self = self.without_volume();
+        let Lines { described, volume, said_of_volume, .. } = &mut self;
         match word {
             "volume" => {
-                volume = Some(TestVolume { path: rest.to_string(), ..TestVolume::default() });
+                said_of_volume.clear();
+                *volume = Some(TestVolume { path: rest.to_string(), ..TestVolume::default() });
             }
             "odd" => described.odd = true,
             "bytes-at" => {
@@ -209,10 +245,9 @@ impl Lines {
                 described.changes.push(Change::new(Change::Bytes(number(at)?, bytes(hex)?))?);
             }
             "file-length" => described.changes.push(Change::new(Change::Length(number(rest)?))?),
-            "version" => return Err("the version is said already".to_string()),
-            _ => described.file = of_file(described.file, word, rest)?,
+            _ => self.described.file = of_file(self.described.file, word, rest)?,
         }
-        Ok(Lines { described, volume })
+        Ok(self)
     }
 }
 
@@ -271,9 +306,16 @@ fn number<T: TryFrom<u64>>(text: &str) -> Result<T, String> {
         Some(digits) => u64::from_str_radix(digits, 16),
         None => text.parse(),
     };
-    let value = value.map_err(|_| format!("no number: `{text}`"))?;
+    let value = value.map_err(|_| no_number(text))?;
     let bits = 8 * std::mem::size_of::<T>();
     T::try_from(value).map_err(|_| format!("{value} is more than {bits} bits hold"))
+}
+
+fn no_number(text: &str) -> String {
+    let is_hexadecimal = text.bytes().all(|byte| byte.is_ascii_hexdigit())
+        && text.bytes().any(|byte| byte.is_ascii_alphabetic());
+    let hint = if is_hexadecimal { "; a hexadecimal number begins with 0x" } else { "" };
+    format!("no number: `{text}`{hint}")
 }
 
 fn list<T: TryFrom<u64>>(text: &str) -> Result<Vec<T>, String> {
@@ -296,4 +338,46 @@ fn bytes(text: &str) -> Result<Vec<u8>, String> {
         value.ok_or(format!("no two hexadecimal digits: `{pair}`"))
     };
     digits.chunks(2).map(byte).collect()
+}
+
+#[cfg(test)]
+mod tests {
+    use super::*;
+
+    fn error(lines: &str) -> Option<String> {
+        let described = TestFile::from_description(&format!("version 23\n{lines}"));
+        described.err().map(|error| error.to_string())
+    }
+
+    #[test]
+    fn what_there_is_one_of_is_said_once() {
+        let cases = [
+            ("version 23", "line 2: the version is said already"),
+            ("name A\nname-units 65", "line 3: the name is said already"),
+            ("run-time 1\nrun-time 1", "line 3: the run time is said already"),
+            ("run-count 1\nfile A\nrun-count 2", "line 4: the run count is said already"),
+            ("volume A\nserial 1\nserial 1", "line 4: the serial number is said already"),
+        ];
+        for (lines, expected) in cases {
+            assert_eq!(error(lines).as_deref(), Some(expected));
+        }
+        let two = "volume A\nserial 1\ncreated 1\nvolume B\nserial 1\ncreated 1";
+        let changes = "odd\nodd\nfile A\nfile A\nbytes-at 0 01\nbytes-at 0 02";
+        assert_eq!((error(two), error(changes)), (None, None));
+    }
+
+    #[test]
+    fn what_is_no_number() {
+        let cases = [
+            ("4A81B364", "; a hexadecimal number begins with 0x"),
+            ("", ""),
+            ("0x", ""),
+            ("12 3", ""),
+            ("99999999999999999999", ""),
+        ];
+        for (text, hint) in cases {
+            let expected = format!("line 2: no number: `{text}`{hint}");
+            assert_eq!(error(&format!("hash {text}")), Some(expected));
+        }
+    }
 }

@@ -3,10 +3,10 @@
 
 use super::progress::Progress;
 use crate::outcome::{complain, failed, plain, Outcome};
-use std::ffi::{OsStr, OsString};
+use std::ffi::OsStr;
 use std::fmt::Display;
 use std::fs::File;
-use std::io::{self, BufRead, BufReader, Read};
+use std::io::{self, BufRead, BufReader, Read, Seek, SeekFrom};
 use std::time::SystemTime;
 
 /// Bytes that are read at a time.
@@ -18,9 +18,9 @@ pub fn refused(name: &OsStr, message: impl Display) -> Outcome {
     Outcome::Refused
 }
 
-/// Standard input can be one of the inputs and not two.
-pub fn is_input_once(names: &[OsString]) -> bool {
-    names.iter().filter(|name| *name == "-").count() <= 1
+/// Allowed, and seldom meant: as a rule the command that was to write it failed.
+pub fn has_no_lines(name: &OsStr) {
+    complain(name, "has no lines");
 }
 
 /// A file, or standard input for `-`.
@@ -43,7 +43,7 @@ impl<'a> Input<'a> {
 
     /// A piece after the other, as long as they are wanted, with a bar on a
     /// terminal.
-    pub fn each_piece(mut self, mut take: impl FnMut(&[u8]) -> bool) -> Result<(), Outcome> {
+    pub fn each_piece(&mut self, mut take: impl FnMut(&[u8]) -> bool) -> Result<(), Outcome> {
         let mut progress = Progress::new(self.file.as_ref().map(|(_, stamp)| stamp.0));
         loop {
             let (length, wanted) = match self.reader.fill_buf() {
@@ -73,10 +73,24 @@ impl<'a> Input<'a> {
         read.map(|_| ()).map_err(|error| cannot_read(self.name, &error))
     }
 
+    /// The bytes at a place of a file, so many at most; of a pipe none. Only for
+    /// when all else is read, as reading would go on from there.
+    pub fn bytes_at(&mut self, offset: u64, most: usize) -> Vec<u8> {
+        let mut bytes = Vec::new();
+        let read = self.file.as_mut().map(|(file, _)| {
+            file.seek(SeekFrom::Start(offset))?;
+            file.take(most as u64).read_to_end(&mut bytes)
+        });
+        if !matches!(read, Some(Ok(_))) {
+            bytes.clear();
+        }
+        bytes
+    }
+
     /// What has been read is the file, if nobody has written to it since.
-    pub fn end(self) -> Result<(), Outcome> {
-        match self.file {
-            Some((file, before)) if stamp(&file).ok() != Some(before) => {
+    pub fn end(&self) -> Result<(), Outcome> {
+        match &self.file {
+            Some((file, before)) if stamp(file).as_ref().ok() != Some(before) => {
                 Err(failed(self.name, "changed while it was read"))
             }
             _ => Ok(()),
@@ -110,6 +124,7 @@ fn cannot_read(name: &OsStr, error: &io::Error) -> Outcome {
 #[cfg(test)]
 mod tests {
     use super::*;
+    use std::ffi::OsString;
     use std::io::Write;
 
     /// A file of the process' own, which holds a line.
@@ -123,7 +138,7 @@ mod tests {
     #[test]
     fn a_file_that_grows_is_seen_to() {
         let name = file("grows");
-        let input = Input::open(&name).unwrap();
+        let mut input = Input::open(&name).unwrap();
         File::options().append(true).open(&name).unwrap().write_all(b"more\n").unwrap();
         assert_eq!(input.each_piece(|_| true), Err(Outcome::Failed));
         std::fs::remove_file(&name).unwrap();
@@ -144,6 +159,8 @@ mod tests {
             assert_eq!(all, expected.as_bytes());
         }
         assert_eq!(input.end(), Ok(()));
+        assert_eq!((input.bytes_at(1, 2), input.bytes_at(3, 9)), (b"in".to_vec(), b"e\n".to_vec()));
+        assert_eq!(input.bytes_at(9, 9), b"");
         std::fs::remove_file(&name).unwrap();
     }
 }

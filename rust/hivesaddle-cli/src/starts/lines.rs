@@ -1,7 +1,7 @@
 //! Program starts, a line of digits each.
 
 use crate::outcome::Outcome;
-use crate::replay::{refused, Input};
+use crate::replay::{has_no_lines, refuse_line, Input};
 use hivesaddle::Start;
 use std::ffi::OsStr;
 
@@ -14,29 +14,32 @@ pub struct StartLine {
 }
 
 /// One byte more than the longest line, so that a longer one is seen to be.
-const MOST: u64 = 28;
+const MOST: usize = 28;
 
 /// All starts of a file, of any number.
 pub fn read(name: &OsStr) -> Result<Vec<StartLine>, Outcome> {
     let mut input = Input::open(name)?;
     let (mut starts, mut line) = (Vec::new(), Vec::new());
     loop {
-        input.line(MOST, &mut line)?;
+        input.line(MOST as u64, &mut line)?;
         if line.is_empty() {
             break;
         }
         match start(&line) {
             Some(start) => starts.push(start),
-            None => return Err(no_start(name, starts.len() + 1)),
+            None => return Err(no_start(name, starts.len() + 1, &line)),
         }
     }
     input.end()?;
+    if starts.is_empty() {
+        has_no_lines(name);
+    }
     Ok(starts)
 }
 
-fn no_start(name: &OsStr, line: usize) -> Outcome {
-    let rule = "18 or 26 digits 0-9 A-F and a line feed";
-    refused(name, format_args!("refused 22: line {line} is no start, {rule}"))
+fn no_start(name: &OsStr, number: usize, line: &[u8]) -> Outcome {
+    let rule = "start, 18 or 26 digits 0-9 A-F and a line feed";
+    refuse_line(name, number as u64, rule, line, MOST)
 }
 
 fn start(line: &[u8]) -> Option<StartLine> {

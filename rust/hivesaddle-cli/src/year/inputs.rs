@@ -1,10 +1,12 @@
 //! What the year's table is made of.
 
 use crate::files::{Reader, Trouble};
-use crate::outcome::{failed, Outcome};
-use crate::replay::{answers, refused};
+use crate::outcome::{complain, failed, Outcome};
+use crate::output::is_among;
+use crate::replay::{answers, has_no_lines, refused};
 use crate::starts::lines::{self, StartLine};
 use hivesaddle::{year_table, Reading, Start, YearRefusal, YearRow, YearStart, YEAR_MOST_LINES};
+use std::collections::BTreeSet;
 use std::ffi::OsStr;
 
 /// The catalogue and the starts, with the name of each file.
@@ -22,7 +24,10 @@ impl<'a> Inputs<'a> {
         let lines = match Reader::default().read(catalogue) {
             Ok(lines) => lines.to_vec(),
             // No lines are a catalogue too.
-            Err(Trouble::Empty) => Vec::new(),
+            Err(Trouble::Empty) => {
+                has_no_lines(catalogue);
+                Vec::new()
+            }
             Err(trouble) => return Err(failed(catalogue, trouble)),
         };
         let read = lines::read(starts_file)?;
@@ -40,8 +45,36 @@ impl<'a> Inputs<'a> {
     /// A refusal of the table does not depend on the readings, so it comes before
     /// a long recording is gone through.
     pub fn table(&self, recording: &OsStr) -> Result<Vec<YearRow>, Outcome> {
-        self.table_with(&vec![None; self.starts.len()])?;
+        let rows = self.table_with(&vec![None; self.starts.len()])?;
+        self.look_at_order(&rows)?;
         self.table_with(&answers(recording, &self.starts)?)
+    }
+
+    /// Catalogue lines have as many digits as starts. Given in place of them they
+    /// are told apart only by hashes that the catalogue does not have.
+    fn look_at_order(&self, rows: &[YearRow]) -> Result<(), Outcome> {
+        // Of an empty catalogue it is said that it is empty.
+        if self.lines.is_empty() || self.starts.is_empty() {
+            return Ok(());
+        }
+        if is_among(self.starts_file, &[self.catalogue.to_owned()]) {
+            return Err(failed(self.starts_file, format_args!("is the catalogue too; {ORDER}")));
+        }
+        let missing: BTreeSet<u32> =
+            rows.iter().filter(|row| row.lines == 0).map(|row| row.stored_hash).collect();
+        let count = self.hashes.iter().filter(|hash| missing.contains(hash)).count();
+        let said = match count {
+            0 => return Ok(()),
+            1 => "1 start is of a hash".to_string(),
+            _ => format!("{count} starts are of hashes"),
+        };
+        complain(self.starts_file, format_args!("{said} that no catalogue line has; {ORDER}"));
+        // Where these are all, it is hardly a file of starts.
+        if count < self.hashes.len() {
+            Ok(())
+        } else {
+            Err(Outcome::Failed)
+        }
     }
 
     fn table_with(&self, answers: &[Option<Reading>]) -> Result<Vec<YearRow>, Outcome> {
@@ -80,6 +113,7 @@ impl<'a> Inputs<'a> {
 
 const LINE: &str = "26 digits 0-9 A-F, or 24 in an old one, and a line feed, \
     with a known version and a size that it can have";
+const ORDER: &str = "are the files in the order CATALOGUE STARTS RECORDING?";
 const FEWER: &str = "1,025th program; make a table of fewer";
 
 /// The hash of each start, which a line of 18 digits does not have.

@@ -29,7 +29,7 @@ impl Names {
                         add(known, program_name(file).unwrap_or_default());
                     }
                 }
-                Look::Refused(_, refusal) => complain(name, refusal::line(refusal)),
+                Look::Refused(file, refusal) => complain(name, refusal::line(file, refusal)),
                 Look::Troubled(trouble) => complain(name, trouble),
             }
             Ok(())

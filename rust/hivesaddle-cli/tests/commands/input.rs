@@ -150,6 +150,25 @@ fn standard_input() {
     assert_eq!(ends(&out(&endless))[0].1, "above the limit of 67108864 bytes");
 }
 
+#[test]
+fn standard_input_is_there_once() {
+    let folder = Folder::new("once");
+    for (command, words) in [
+        ("list", "- -"),
+        ("check", "- small.pf -"),
+        ("catalogue", "- -"),
+        ("starts", "3=- 7=-"),
+        ("year", "a b - --names -"),
+    ] {
+        let words: Vec<&str> = std::iter::once(command).chain(words.split(' ')).collect();
+        let output = folder.run_with(&words, &small());
+        let once = "only one of the files can be -; see hivesaddle help";
+        let expected = format!("hivesaddle: {command}: {once} {command}\n");
+        assert_eq!((out(&output), err(&output)), (String::new(), expected));
+        assert_eq!(status(&output), 2);
+    }
+}
+
 /// `hivesaddle list .. | head` ends quietly.
 #[test]
 fn a_reader_that_has_seen_enough() {

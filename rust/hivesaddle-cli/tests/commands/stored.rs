@@ -107,7 +107,22 @@ fn checks_of_short_files() {
     folder.put("head.pf", &small()[..100]);
     folder.put("letter.pf", "M");
     folder.put("packed.pf", b"MAM\x04\x10\0\0\0packed");
-    each_is_expected(&folder, &[("check-short", &["check", "."])]);
+    folder.put("text.pf", "version 23\n");
+    each_is_expected(
+        &folder,
+        &[("check-short", &["check", "."]), ("list-short", &["list", "--csv", "."])],
+    );
+    let packed = "packed.pf: refused 1: compressed (MAM); unpack it first, with another tool\n";
+    for words in [
+        "names packed.pf",
+        "volumes packed.pf",
+        "catalogue packed.pf",
+        "starts 3=packed.pf",
+        "chart packed.pf packed.svg",
+    ] {
+        let output = folder.run(&words.split(' ').collect::<Vec<&str>>());
+        assert_eq!((err(&output), status(&output)), (format!("hivesaddle: {packed}"), 1));
+    }
 }
 
 #[test]
@@ -167,6 +182,7 @@ fn makes() {
     folder.put("ring.txt", "version 23\ntrace 1 8\ntrace 0 8\n");
     folder.put("odd.txt", "version 23\ntrace 1 8\ntrace 0 8\nodd\n");
     folder.put("wrong.txt", "version 23\n# a slip\nnmae A.EXE\n");
+    folder.put("ten.txt", "version 30\nname A.EXE\n");
     folder.put("long.txt", "version 23\nfile-length 67108866\n");
     folder.put("empty.txt", "");
     folder.put("latin.txt", b"version 23\nname \xC4.EXE\n");
@@ -176,6 +192,7 @@ fn makes() {
             ("make", &["make", "sound.txt", "made.pf"]),
             ("make-odd", &["make", "odd.txt", "made.pf"]),
             ("make-refused", &["make", "ring.txt", "refused.pf"]),
+            ("make-version", &["make", "ten.txt", "refused.pf"]),
             ("make-wrong", &["make", "wrong.txt", "wrong.pf"]),
             ("make-long", &["make", "long.txt", "wrong.pf"]),
             ("make-empty", &["make", "empty.txt", "wrong.pf"]),

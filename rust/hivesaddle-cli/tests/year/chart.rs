@@ -22,6 +22,25 @@ fn outputs() {
     assert_eq!(folder.read("small.pf"), crate::folder::small());
 }
 
+/// As in `chart *.pf`, sound files or not.
+#[test]
+fn prefetch_files_are_not_written_over() {
+    let folder = example("over");
+    folder.make("odd.pf", &out(&run(&folder, "make --list 1")));
+    folder.put("packed.pf", b"MAM\x04\x10\0\0\0packed");
+    for name in ["odd.pf", "packed.pf", "./small.pf"] {
+        let before = folder.read(name);
+        let said = complaint(&run(&folder, &format!("chart small.pf {name}")), 2);
+        let over = "is a Prefetch file, and would be written over; give the output another name";
+        assert_eq!(said, format!("{name}: {over}"));
+        assert_eq!(folder.read(name), before);
+    }
+    for text in ["", "MA", "<svg", "SCCA"] {
+        folder.put("old.svg", text);
+        assert_eq!(status(&run(&folder, "chart small.pf old.svg")), 0);
+    }
+}
+
 /// Each row as another program reads it: title, label and number of bars.
 fn rows(folder: &Folder, file: &[u8]) -> Vec<String> {
     folder.put("file.pf", file);

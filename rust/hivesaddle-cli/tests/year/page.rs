@@ -68,6 +68,15 @@ fn a_page_that_can_not_be_written() {
     assert!(said.starts_with("missing/year.html: cannot write: "), "{said}");
     let said = complaint(&run(&folder, &format!("{words} ./chamber.txt")), 2);
     assert!(said.starts_with("./chamber.txt: is what it would be made from"), "{said}");
+    let said = complaint(&run(&folder, &format!("{words} small.pf --names small.pf")), 2);
+    assert!(said.starts_with("small.pf: is a Prefetch file, and would be"), "{said}");
+    assert_eq!(folder.read("small.pf"), crate::folder::small());
+    // A file of a folder of --names, though it is no Prefetch file.
+    std::fs::create_dir(folder.0.join("names")).expect("a folder");
+    folder.put("names/text.pf", "as it was");
+    let made = run(&folder, &format!("{words} names/text.pf --names small.pf --names names"));
+    assert!(err(&made).contains("names/text.pf: is what it would be made from"), "{}", err(&made));
+    assert_eq!((status(&made), folder.read("names/text.pf")), (2, b"as it was".to_vec()));
     // Nothing is written where something is refused.
     folder.put("bad.txt", "bad\n");
     folder.put("year.html", "as it was");

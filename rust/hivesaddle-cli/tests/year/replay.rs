@@ -13,6 +13,7 @@ fn outputs() {
         ("starts-missing.txt", "starts 3=missing.pf 3=small.pf"),
         ("starts-board.txt", "starts 256=small.pf"),
         ("starts-words.txt", "starts small.pf"),
+        ("starts-no-file.txt", "starts 3="),
         ("replay.txt", "replay starts.txt chamber.txt"),
         ("replay-no-starts.txt", "replay none.txt chamber.txt"),
         ("replay-no-readings.txt", "replay starts.txt none.txt"),
@@ -74,18 +75,59 @@ fn lines_that_are_no_start_or_no_reading() {
         complaint(&run(&folder, "replay starts.txt recording.txt"), 1)
     };
     let rule = "is no start, 18 or 26 digits 0-9 A-F and a line feed";
-    for bad in ["\n", "00\n", "00000000000000050g\n", &format!("{reading}\n"), start, "0000\r\n"] {
+    for bad in ["\n", "00\n", "00000000000000050g\n", &format!("{reading}\n")] {
         let said = starts(format!("{start}\n{start}\n{bad}"));
         assert_eq!(said, format!("starts.txt: refused 22: line 3 {rule}"));
     }
     // Without an end, however long.
-    assert!(starts("0".repeat(1_000_000)).starts_with("starts.txt: refused 22: line 1 is"));
-    for (bad, line) in [("\n", 2), (reading, 2), (start, 2), ("00000000000000050\n", 2)] {
+    let said = starts("0".repeat(1_000_000));
+    assert_eq!(said, format!("starts.txt: refused 22: line 1 {rule}"));
+    for bad in ["\n", &format!("{start}\n"), "00000000000000050\n", &"0".repeat(1_000_000)] {
         folder.put("starts.txt", format!("{start}\n"));
         folder.put("recording.txt", format!("{reading}\n{bad}"));
         let said = complaint(&run(&folder, "replay starts.txt recording.txt"), 1);
         let rule = "is no reading, 22 digits 0-9 A-F and a line feed";
-        assert_eq!(said, format!("recording.txt: refused 22: line {line} {rule}"));
+        assert_eq!(said, format!("recording.txt: refused 22: line 2 {rule}"));
+    }
+}
+
+/// What an editor does not show is said.
+#[test]
+fn why_a_line_is_bad() {
+    let folder = Folder::new("why");
+    let (start, reading) = ("00000000000000050300000041", "000000000000000503FF38");
+    let wide = |line: &str| line.encode_utf16().flat_map(u16::to_le_bytes).collect::<Vec<u8>>();
+    let windows = "it ends in a carriage return, as Windows writes it; save with line ends LF";
+    for (is_start, line) in [(true, start), (false, reading)] {
+        let small = line.to_lowercase().replace("41", "4a");
+        let two = |bad: &str| format!("{line}\n{bad}").into_bytes();
+        let cases = [
+            (1, format!("{line}\r\n").repeat(2).into_bytes(), windows),
+            (2, two(&format!("{line}\r\n{line}\r\n")), windows),
+            (2, two(&format!("{small}\n{line}\n")), "it has lowercase digits"),
+            (2, two(line), "it is the last, and has no line feed behind it"),
+            (
+                1,
+                format!("\u{FEFF}{line}\n").into(),
+                "it begins with a byte order mark; save as text without one",
+            ),
+            (1, wide(&format!("{line}\n")), "it is in UTF-16; save as ASCII"),
+        ];
+        for (number, bad, why) in cases {
+            folder.put("starts.txt", format!("{start}\n"));
+            folder.put("recording.txt", format!("{reading}\n"));
+            let (name, words) = match is_start {
+                true => ("starts.txt", "replay - recording.txt"),
+                false => ("recording.txt", "replay starts.txt -"),
+            };
+            folder.put(name, &bad);
+            let said = complaint(&run(&folder, "replay starts.txt recording.txt"), 1);
+            let is_no = format!("{name}: refused 22: line {number} is no ");
+            assert!(said.starts_with(&is_no) && said.ends_with(&format!(": {why}")), "{said}");
+            // A recording from a pipe is not there to be read again.
+            let piped = folder.run_with(&words.split(' ').collect::<Vec<&str>>(), &bad);
+            assert_eq!(complaint(&piped, 1).ends_with(why), is_start);
+        }
     }
 }
 

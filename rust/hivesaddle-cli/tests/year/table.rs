@@ -160,6 +160,32 @@ fn refusals_name_the_file_and_the_line() {
     assert_eq!(refuse("x", &start.repeat(1_048_577), ""), format!("starts.txt: {many}"));
 }
 
+/// Both have lines of 26 digits.
+#[test]
+fn a_catalogue_in_place_of_the_starts() {
+    let folder = Folder::new("order");
+    let order = "are the files in the order CATALOGUE STARTS RECORDING?";
+    let (line, start) = ("00000094000000410000000111\n", "00000000000000050300000041\n");
+    let other = "00000000000000050300000042\n";
+    folder.put("catalogue.txt", line);
+    folder.put("copy.txt", line.repeat(2));
+    folder.put("recording.txt", "000000000000000503FF38\n");
+    let year = |starts: &str| run(&folder, &format!("year catalogue.txt {starts} recording.txt"));
+    let said = complaint(&year("./catalogue.txt"), 2);
+    assert_eq!(said, format!("./catalogue.txt: is the catalogue too; {order}"));
+    let said = complaint(&year("copy.txt"), 2);
+    let hashes = "2 starts are of hashes that no catalogue line has";
+    assert_eq!(said, format!("copy.txt: {hashes}; {order}"));
+
+    folder.put("starts.txt", [start, other].concat());
+    let made = year("starts.txt");
+    let rows = "00000041\t\t1\t1\t1\t-20.0\t-20.0\t-20.0\n\
+                00000042\t\t0\t0\t1\t-20.0\t-20.0\t-20.0\n";
+    let hash = "1 start is of a hash that no catalogue line has";
+    let error = format!("-- standard error\nhivesaddle: starts.txt: {hash}; {order}\n");
+    assert_eq!(crate::said(&made), format!("{rows}{error}-- status 0\n"));
+}
+
 /// As many as a table is made of.
 #[test]
 fn the_largest_year() {
