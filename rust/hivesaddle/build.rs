@@ -8,8 +8,10 @@ use std::process::Command;
 use std::time::SystemTime;
 
 const ARCHIVE: &str = "libhivesaddle.a";
+/// What makes it.
+const MAKER: &str = "tools/library";
 /// What the archive is made of, from the repository's root.
-const SOURCES: [&str; 2] = ["crates.txt", "crates"];
+const SOURCES: [&str; 3] = ["crates.txt", "crates", MAKER];
 
 fn main() {
     println!("cargo:rerun-if-env-changed=HIVESADDLE_LIB_DIR");
@@ -59,10 +61,6 @@ fn newest(path: &Path) -> Option<SystemTime> {
 }
 
 fn make_archive(root: &Path) {
-    let status = Command::new("rt")
-        .args(["staticlib", "hivesaddle"])
-        .current_dir(root)
-        .status()
-        .expect("rt could not be started");
-    assert!(status.success(), "rt staticlib hivesaddle failed");
+    let status = Command::new(root.join(MAKER)).status();
+    assert!(status.expect("tools/library could not be started").success(), "tools/library failed");
 }

@@ -1,4 +1,4 @@
--- The plain step at the last numbers, and four and eight steps at once.
+-- The plain step at the last numbers, four and eight steps at once, and the end of a short list.
 use mathlib.Core.Path.{_≡_, refl, sym, ap, _∙_}
 use mathlib.Core.List.{List}
 use Prim.Native.Nat.{ℕ, _+_, _-_, _*_, _/_, _%_, _^_, _≤_}

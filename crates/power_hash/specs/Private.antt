@@ -1,7 +1,8 @@
--- What the private functions give: the hash from a sum, and four plain steps at once.
+-- What the private functions give: the hash from a sum, four plain steps at once, and the end of a list.
 use mathlib.Core.List.{List}
-use Prim.Native.Nat.{ℕ, _+_, _*_, _%_, _^_}
-use lib.ListN.{getD}
+use Prim.Native.Nat.{ℕ, _+_, _-_, _*_, _%_, _^_}
+use lib.ListN.{length, getD, drop}
+use Rattle.path_hash.specs.Hash.{plain}
 
 -- 314159 and a sum, at n numbers
 abbrev pub fromSum : ℕ → ℕ → ℕ
@@ -22,3 +23,7 @@ fourStep h a = (37 ^ 4 * h + a) % 2 ^ 32
 -- eight steps at the numbers of a list from k
 abbrev pub eightsStep : ℕ → List ℕ → ℕ → ℕ
 eightsStep h s k = fourStep (fourStep h (fourAt s k)) (fourAt s (k + 4))
+
+-- the plain step at the numbers of a list from i, and then the entry of a table for their count
+abbrev pub ended : ℕ → List ℕ → ℕ → List ℕ → ℕ
+ended h s i starts = (plain h (drop i s) + getD starts (length s - i) 0) % 2 ^ 32

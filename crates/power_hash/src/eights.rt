@@ -3,10 +3,22 @@ ghost use mathlib.Core.Path.{_≡_};
 ghost use Prim.Native.Nat.{_+_, _*_, _%_, _^_, _≤_, _<_};
 ghost use lib.ListN.{length, drop};
 ghost use Rattle.path_hash.specs.Hash.{step, plain, vista};
-ghost use Rattle.power_hash.specs.Private.{fourSum, fourAt, fourStep, eightsStep};
+ghost use Rattle.power_hash.specs.Private.{fourSum, fourAt, fourStep, eightsStep, ended};
 
 // Where Vista starts.
 pub(crate) const START: u32 = 314159;
+
+// What the start weighs at the end of a list: 314159 times 37 to the count of its numbers, from 0, 4, 8 and 12 of them on.
+const STARTS_0: [u32; 4] = [314159, 11623883, 430083671, 3028193939];
+
+const STARTS_4: [u32; 4] = [374026047, 954061851, 940550119, 440616035];
+
+const STARTS_8: [u32; 4] = [3417891407, 1907930475, 1873950839, 616704307];
+
+const STARTS_12: [u32; 4] = [1343222879, 2454606267, 626118663, 1691554051];
+
+// For numbers that are hashed on from a start.
+const NO_STARTS: [u32; 4] = [0, 0, 0, 0];
 
 pub(crate) fn wide(b: u8) -> u32
     ensures { λ r. ⌜ r ≡ b ⌝ }
@@ -62,43 +74,44 @@ fn eight_step(h: u32, a: u32, b: u32) -> u32
     ((3491173089 * (h as u64) + 1874161 * (a as u64) + (b as u64)) % 4294967296) as u32
 }
 
-// The plain step at the last numbers, three at most.
-pub(crate) fn last_numbers(h: u32, cs: &[u32], i: usize) -> u32
+// The plain step at the last numbers, three at most, and then what the start weighs. Each count has a way out of its own: a jump to
+// one that all share would cost a short list a fifth of its time.
+fn end_numbers(h: u32, cs: &[u32], i: usize, starts: &[u32; 4]) -> u32
     requires { ⌜ (i ≤ length (now cs)) × (length (now cs) < i + 4) ⌝ }
-    ensures { λ r. ⌜ r ≡ plain h (drop i (now (cs .entry))) ⌝ }
+    ensures { λ r. ⌜ r ≡ ended h (now (cs .entry)) i (now (starts .entry)) ⌝ }
 {
     let left = cs.len() - i;
     if left == 0 {
-        return h;
+        return std::num::wrapping_add_u32(h, starts[0]);
     }
     let a = next(h, cs[i]);
     if left == 1 {
-        return a;
+        return std::num::wrapping_add_u32(a, starts[1]);
     }
     let b = next(a, cs[i + 1]);
     if left == 2 {
-        return b;
+        return std::num::wrapping_add_u32(b, starts[2]);
     }
-    next(b, cs[i + 2])
+    std::num::wrapping_add_u32(next(b, cs[i + 2]), starts[3])
 }
 
-pub(crate) fn last_bytes(h: u32, text: &[u8], i: usize) -> u32
+fn end_bytes(h: u32, text: &[u8], i: usize, starts: &[u32; 4]) -> u32
     requires { ⌜ (i ≤ length (now text)) × (length (now text) < i + 4) ⌝ }
-    ensures { λ r. ⌜ r ≡ plain h (drop i (now (text .entry))) ⌝ }
+    ensures { λ r. ⌜ r ≡ ended h (now (text .entry)) i (now (starts .entry)) ⌝ }
 {
     let left = text.len() - i;
     if left == 0 {
-        return h;
+        return std::num::wrapping_add_u32(h, starts[0]);
     }
     let a = next(h, wide(text[i]));
     if left == 1 {
-        return a;
+        return std::num::wrapping_add_u32(a, starts[1]);
     }
     let b = next(a, wide(text[i + 1]));
     if left == 2 {
-        return b;
+        return std::num::wrapping_add_u32(b, starts[2]);
     }
-    next(b, wide(text[i + 2]))
+    std::num::wrapping_add_u32(next(b, wide(text[i + 2])), starts[3])
 }
 
 // Eight bytes at once. Neighbours are joined in lanes of 16 bits, and these in lanes of 32: each mask keeps the lower half of a
@@ -133,9 +146,9 @@ fn rest_numbers(h: u32, cs: &[u32], i: usize) -> u32
     ensures { λ r. ⌜ r ≡ plain h (drop i (now (cs .entry))) ⌝ }
 {
     if 4 <= cs.len() - i {
-        return last_numbers(four_step(h, four_numbers(cs, i)), cs, i + 4);
+        return end_numbers(four_step(h, four_numbers(cs, i)), cs, i + 4, &NO_STARTS);
     }
-    last_numbers(h, cs, i)
+    end_numbers(h, cs, i, &NO_STARTS)
 }
 
 fn rest_bytes(h: u32, text: &[u8], i: usize) -> u32
@@ -143,39 +156,62 @@ fn rest_bytes(h: u32, text: &[u8], i: usize) -> u32
     ensures { λ r. ⌜ r ≡ plain h (drop i (now (text .entry))) ⌝ }
 {
     if 4 <= text.len() - i {
-        return last_bytes(four_step(h, four_bytes(text, i)), text, i + 4);
+        return end_bytes(four_step(h, four_bytes(text, i)), text, i + 4, &NO_STARTS);
     }
-    last_bytes(h, text, i)
+    end_bytes(h, text, i, &NO_STARTS)
 }
 
-// The hash of the first four numbers. That of all goes on from it.
-pub(crate) fn first_numbers(cs: &[u32]) -> u32
-    requires { ⌜ 4 ≤ length (now cs) ⌝ }
-    ensures { λ r. ⌜ plain r (drop 4 (now (cs .entry))) ≡ vista (now (cs .entry)) ⌝ }
+// Up to three numbers.
+pub(crate) fn few_numbers(cs: &[u32]) -> u32
+    requires { ⌜ length (now cs) < 4 ⌝ }
+    ensures { λ r. ⌜ r ≡ vista (now (cs .entry)) ⌝ }
 {
-    four_step(START, four_numbers(cs, 0))
+    end_numbers(0, cs, 0, &STARTS_0)
 }
 
-pub(crate) fn first_bytes(text: &[u8]) -> u32
-    requires { ⌜ 4 ≤ length (now text) ⌝ }
-    ensures { λ r. ⌜ plain r (drop 4 (now (text .entry))) ≡ vista (now (text .entry)) ⌝ }
+pub(crate) fn few_bytes(text: &[u8]) -> u32
+    requires { ⌜ length (now text) < 4 ⌝ }
+    ensures { λ r. ⌜ r ≡ vista (now (text .entry)) ⌝ }
 {
-    four_step(START, four_bytes(text, 0))
+    end_bytes(0, text, 0, &STARTS_0)
 }
 
-// Eight to fifteen numbers, with no loop.
+// Four to seven.
+pub(crate) fn from_four_numbers(cs: &[u32]) -> u32
+    requires { ⌜ (4 ≤ length (now cs)) × (length (now cs) < 8) ⌝ }
+    ensures { λ r. ⌜ r ≡ vista (now (cs .entry)) ⌝ }
+{
+    end_numbers(four_numbers(cs, 0), cs, 4, &STARTS_4)
+}
+
+pub(crate) fn from_four_bytes(text: &[u8]) -> u32
+    requires { ⌜ (4 ≤ length (now text)) × (length (now text) < 8) ⌝ }
+    ensures { λ r. ⌜ r ≡ vista (now (text .entry)) ⌝ }
+{
+    end_bytes(four_bytes(text, 0), text, 4, &STARTS_4)
+}
+
+// Eight to fifteen.
 pub(crate) fn from_eight_numbers(cs: &[u32]) -> u32
     requires { ⌜ (8 ≤ length (now cs)) × (length (now cs) < 16) ⌝ }
     ensures { λ r. ⌜ r ≡ vista (now (cs .entry)) ⌝ }
 {
-    rest_numbers(eight_numbers(START, cs, 0), cs, 8)
+    let h = eight_numbers(0, cs, 0);
+    if cs.len() < 12 {
+        return end_numbers(h, cs, 8, &STARTS_8);
+    }
+    end_numbers(four_step(h, four_numbers(cs, 8)), cs, 12, &STARTS_12)
 }
 
 pub(crate) fn from_eight_bytes(text: &[u8]) -> u32
     requires { ⌜ (8 ≤ length (now text)) × (length (now text) < 16) ⌝ }
     ensures { λ r. ⌜ r ≡ vista (now (text .entry)) ⌝ }
 {
-    rest_bytes(eight_bytes(START, text, 0), text, 8)
+    let h = eight_bytes(0, text, 0);
+    if text.len() < 12 {
+        return end_bytes(h, text, 8, &STARTS_8);
+    }
+    end_bytes(four_step(h, four_bytes(text, 8)), text, 12, &STARTS_12)
 }
 
 // Eight numbers at a time: only one product in eight waits for the one before.

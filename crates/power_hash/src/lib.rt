@@ -12,12 +12,12 @@ mod entries;
 
 use eights::START;
 use eights::bytes_by_eights;
-use eights::first_bytes;
-use eights::first_numbers;
+use eights::few_bytes;
+use eights::few_numbers;
 use eights::from_eight_bytes;
 use eights::from_eight_numbers;
-use eights::last_bytes;
-use eights::last_numbers;
+use eights::from_four_bytes;
+use eights::from_four_numbers;
 use eights::numbers_by_eights;
 use eights::wide;
 use entries::POWERS;
@@ -157,52 +157,37 @@ fn many_bytes(text: &[u8]) -> u32
     bytes_by_eights(text)
 }
 
-// Eight numbers or more.
-fn more_numbers(cs: &[u32]) -> u32
-    requires { ⌜ 8 ≤ length (now cs) ⌝ }
-    ensures { λ r. ⌜ r ≡ hashPowers (now (cs .entry)) ⌝ }
-{
-    if cs.len() < NO_LOOP {
-        return from_eight_numbers(cs);
-    }
-    many_numbers(cs)
-}
-
-fn more_bytes(text: &[u8]) -> u32
-    requires { ⌜ 8 ≤ length (now text) ⌝ }
-    ensures { λ r. ⌜ r ≡ hashPowers (now (text .entry)) ⌝ }
-{
-    if text.len() < NO_LOOP {
-        return from_eight_bytes(text);
-    }
-    many_bytes(text)
-}
-
 // The Vista hash of a list of numbers: up to 1,024 of them by the powers of 37, past that by the plain step. The shortest lists are
 // asked for first, and need nothing on the stack.
 pub fn hash_powers(cs: &[u32]) -> u32
     ensures { λ r. ⌜ r ≡ hashPowers (now (cs .entry)) ⌝ }
 {
-    if cs.len() < 4 {
-        return last_numbers(START, cs, 0);
-    }
     if cs.len() < 8 {
-        return last_numbers(first_numbers(cs), cs, 4);
+        if cs.len() < 4 {
+            return few_numbers(cs);
+        }
+        return from_four_numbers(cs);
     }
-    more_numbers(cs)
+    if NO_LOOP <= cs.len() {
+        return many_numbers(cs);
+    }
+    from_eight_numbers(cs)
 }
 
 // The same of a text, each byte of which is a number.
 pub fn hash_powers_bytes(text: &[u8]) -> u32
     ensures { λ r. ⌜ r ≡ hashPowers (now (text .entry)) ⌝ }
 {
-    if text.len() < 4 {
-        return last_bytes(START, text, 0);
-    }
     if text.len() < 8 {
-        return last_bytes(first_bytes(text), text, 4);
+        if text.len() < 4 {
+            return few_bytes(text);
+        }
+        return from_four_bytes(text);
     }
-    more_bytes(text)
+    if NO_LOOP <= text.len() {
+        return many_bytes(text);
+    }
+    from_eight_bytes(text)
 }
 
 // The first p numbers of the old list swapped for another start. Only the starts are read, so the cost does not grow with what is

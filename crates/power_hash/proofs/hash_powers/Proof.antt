@@ -5,27 +5,39 @@ use borrow.Author.Needs.{needs}
 use Rattle.power_hash.proofs.hash_powers.Statement.{statement}
 use Rattle.power_hash.proofs.hash_powers.Tie as tie
 
-last-numbers-requires : tie.Need-last-numbers-requires
-last-numbers-requires c κs = search needs
+few-numbers-requires : tie.Need-few-numbers-requires
+few-numbers-requires c κs = search needs
 
 returns : tie.Need-returns
-returns c = c .last-numbers .ensures ∙ sym (powers-vista _)
+returns c = c .few-numbers .ensures ∙ sym (powers-vista _)
 
-first-numbers-requires : tie.Need-first-numbers-requires
-first-numbers-requires c κs = search needs
-
-last-numbers-requires-2 : tie.Need-last-numbers-requires-2
-last-numbers-requires-2 c κs = search needs
+from-four-numbers-requires : tie.Need-from-four-numbers-requires
+from-four-numbers-requires c κs = search needs
 
 returns-2 : tie.Need-returns-2
-returns-2 c = c .last-numbers2 .ensures ∙ c .before .first-numbers .ensures ∙ sym (powers-vista _)
+returns-2 c = c .from-four-numbers .ensures ∙ sym (powers-vista _)
 
-more-numbers-requires : tie.Need-more-numbers-requires
-more-numbers-requires c κs = search needs
+many-numbers-requires : tie.Need-many-numbers-requires
+many-numbers-requires c κs = search needs
 
 returns-3 : tie.Need-returns-3
 returns-3 c = search needs
 
+from-eight-numbers-requires : tie.Need-from-eight-numbers-requires
+from-eight-numbers-requires c κs = search needs
+
+returns-4 : tie.Need-returns-4
+returns-4 c = c .from-eight-numbers .ensures ∙ sym (powers-vista _)
+
 pub hash-powers-spec : {M : Type 1} → statement M
 hash-powers-spec =
-    tie.close (tie.spec last-numbers-requires returns first-numbers-requires last-numbers-requires-2 returns-2 more-numbers-requires returns-3)
+    tie.close
+    (tie.spec
+    few-numbers-requires
+    returns
+    from-four-numbers-requires
+    returns-2
+    many-numbers-requires
+    returns-3
+    from-eight-numbers-requires
+    returns-4)

@@ -1,7 +1,6 @@
--- The first eight at once, then the rest.
-use mathlib.Core.Path.{sym, _∙_}
+-- The first eight at once from 0, and four more where they are there, with the start weighed last.
 use native.Mathlib.Omega.{arith}
-use Rattle.power_hash.proofs.Steps.{plain-fours}
+use Rattle.power_hash.proofs.Ends.{end-vista, eight-first, twelve-first}
 use borrow.Author.Needs.{needs}
 use Rattle.power_hash.proofs.eights.from_eight_bytes.Statement.{statement}
 use Rattle.power_hash.proofs.eights.from_eight_bytes.Tie as tie
@@ -9,13 +8,40 @@ use Rattle.power_hash.proofs.eights.from_eight_bytes.Tie as tie
 eight-bytes-requires : tie.Need-eight-bytes-requires
 eight-bytes-requires c κs = search needs
 
-rest-bytes-requires : tie.Need-rest-bytes-requires
-rest-bytes-requires c κs = search needs
+end-bytes-requires : tie.Need-end-bytes-requires
+end-bytes-requires c κs = search needs
 
 returns : tie.Need-returns
 returns c =
-    let s = c .before .before .before .args .text .now in
-    c .rest-bytes .ensures ∙ rw (c .before .eight-bytes .ensures) (sym (plain-fours s 314159 0 (omega arith)))
+    let s = c .before .before .before .before .before .args .text .now in
+    end-vista s _ 8 _ (omega arith) (omega arith) (rw (c .before .before .before .eight-bytes .ensures) (eight-first s (omega arith)))
+    (c .end-bytes .ensures)
+
+four-bytes-requires : tie.Need-four-bytes-requires
+four-bytes-requires c κs = search needs
+
+four-step-requires : tie.Need-four-step-requires
+four-step-requires c κs = search needs
+
+end-bytes-requires-2 : tie.Need-end-bytes-requires-2
+end-bytes-requires-2 c κs = search needs
+
+returns-2 : tie.Need-returns-2
+returns-2 c =
+    let s = c .before .before .before .before .before .before .before .args .text .now in
+    let e = c .before .before .before .before .before .eight-bytes .ensures in
+    end-vista s _ 12 _ (omega arith) (omega arith)
+    (rw (c .before .before .four-step .ensures, c .before .before .before .four-bytes .ensures, e) (twelve-first s (omega arith)))
+    (c .end-bytes2 .ensures)
 
 pub from-eight-bytes-spec : {M : Type 1} → statement M
-from-eight-bytes-spec = tie.close (tie.spec eight-bytes-requires rest-bytes-requires returns)
+from-eight-bytes-spec =
+    tie.close
+    (tie.spec
+    eight-bytes-requires
+    end-bytes-requires
+    returns
+    four-bytes-requires
+    four-step-requires
+    end-bytes-requires-2
+    returns-2)

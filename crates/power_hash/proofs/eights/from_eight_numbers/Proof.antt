@@ -1,7 +1,6 @@
--- The first eight at once, then the rest.
-use mathlib.Core.Path.{sym, _∙_}
+-- The first eight at once from 0, and four more where they are there, with the start weighed last.
 use native.Mathlib.Omega.{arith}
-use Rattle.power_hash.proofs.Steps.{plain-fours}
+use Rattle.power_hash.proofs.Ends.{end-vista, eight-first, twelve-first}
 use borrow.Author.Needs.{needs}
 use Rattle.power_hash.proofs.eights.from_eight_numbers.Statement.{statement}
 use Rattle.power_hash.proofs.eights.from_eight_numbers.Tie as tie
@@ -9,13 +8,40 @@ use Rattle.power_hash.proofs.eights.from_eight_numbers.Tie as tie
 eight-numbers-requires : tie.Need-eight-numbers-requires
 eight-numbers-requires c κs = search needs
 
-rest-numbers-requires : tie.Need-rest-numbers-requires
-rest-numbers-requires c κs = search needs
+end-numbers-requires : tie.Need-end-numbers-requires
+end-numbers-requires c κs = search needs
 
 returns : tie.Need-returns
 returns c =
-    let s = c .before .before .before .args .cs .now in
-    c .rest-numbers .ensures ∙ rw (c .before .eight-numbers .ensures) (sym (plain-fours s 314159 0 (omega arith)))
+    let s = c .before .before .before .before .before .args .cs .now in
+    end-vista s _ 8 _ (omega arith) (omega arith) (rw (c .before .before .before .eight-numbers .ensures) (eight-first s (omega arith)))
+    (c .end-numbers .ensures)
+
+four-numbers-requires : tie.Need-four-numbers-requires
+four-numbers-requires c κs = search needs
+
+four-step-requires : tie.Need-four-step-requires
+four-step-requires c κs = search needs
+
+end-numbers-requires-2 : tie.Need-end-numbers-requires-2
+end-numbers-requires-2 c κs = search needs
+
+returns-2 : tie.Need-returns-2
+returns-2 c =
+    let s = c .before .before .before .before .before .before .before .args .cs .now in
+    let e = c .before .before .before .before .before .eight-numbers .ensures in
+    end-vista s _ 12 _ (omega arith) (omega arith)
+    (rw (c .before .before .four-step .ensures, c .before .before .before .four-numbers .ensures, e) (twelve-first s (omega arith)))
+    (c .end-numbers2 .ensures)
 
 pub from-eight-numbers-spec : {M : Type 1} → statement M
-from-eight-numbers-spec = tie.close (tie.spec eight-numbers-requires rest-numbers-requires returns)
+from-eight-numbers-spec =
+    tie.close
+    (tie.spec
+    eight-numbers-requires
+    end-numbers-requires
+    returns
+    four-numbers-requires
+    four-step-requires
+    end-numbers-requires-2
+    returns-2)

@@ -1,6 +1,8 @@
 -- Four numbers at once are four plain steps.
 use mathlib.Core.Path.{sym, _∙_}
+use Prim.Native.Nat.{_+_}
 use native.Mathlib.Omega.{arith}
+use Rattle.power_hash.proofs.Ends.{end-plain}
 use Rattle.power_hash.proofs.Steps.{plain-four}
 use borrow.Author.Needs.{needs}
 use Rattle.power_hash.proofs.eights.rest_bytes.Statement.{statement}
@@ -15,24 +17,26 @@ four-bytes-requires c κs = search needs
 four-step-requires : tie.Need-four-step-requires
 four-step-requires c κs = search needs
 
-add-last-bytes : tie.Need-add-last-bytes
-add-last-bytes c = search needs
+add-end-bytes : tie.Need-add-end-bytes
+add-end-bytes c = search needs
 
-last-bytes-requires : tie.Need-last-bytes-requires
-last-bytes-requires c κs = search needs
+end-bytes-requires : tie.Need-end-bytes-requires
+end-bytes-requires c κs = search needs
 
 returns : tie.Need-returns
 returns c =
-    let s = c .before .before .before .before .before in
-    c .last-bytes .ensures
-    ∙ rw (c .before .four-step .ensures, c .before .before .four-bytes .ensures)
-    (sym (plain-four (s .args .text .now) (s .args .h) (s .args .i) (omega arith)))
+    let a = c .before .before .before .before .before .before .args in
+    end-plain (a .text .now) (c .before .before .four-step .result) (a .i + 4) _ (search needs) (c .end-bytes .ensures)
+    ∙ rw (c .before .before .four-step .ensures, c .before .before .before .four-bytes .ensures)
+    (sym (plain-four (a .text .now) (a .h) (a .i) (omega arith)))
 
-last-bytes-requires-2 : tie.Need-last-bytes-requires-2
-last-bytes-requires-2 c κs = search needs
+end-bytes-requires-2 : tie.Need-end-bytes-requires-2
+end-bytes-requires-2 c κs = search needs
 
 returns-2 : tie.Need-returns-2
-returns-2 c = search needs
+returns-2 c =
+    let a = c .before .before .before .before .args in
+    end-plain (a .text .now) (a .h) (a .i) _ (search needs) (c .end-bytes2 .ensures)
 
 pub rest-bytes-spec : {M : Type 1} → statement M
 rest-bytes-spec =
@@ -41,8 +45,8 @@ rest-bytes-spec =
     sub-if1
     four-bytes-requires
     four-step-requires
-    add-last-bytes
-    last-bytes-requires
+    add-end-bytes
+    end-bytes-requires
     returns
-    last-bytes-requires-2
+    end-bytes-requires-2
     returns-2)

@@ -1,6 +1,8 @@
 -- Four numbers at once are four plain steps.
 use mathlib.Core.Path.{sym, _∙_}
+use Prim.Native.Nat.{_+_}
 use native.Mathlib.Omega.{arith}
+use Rattle.power_hash.proofs.Ends.{end-plain}
 use Rattle.power_hash.proofs.Steps.{plain-four}
 use borrow.Author.Needs.{needs}
 use Rattle.power_hash.proofs.eights.rest_numbers.Statement.{statement}
@@ -15,24 +17,26 @@ four-numbers-requires c κs = search needs
 four-step-requires : tie.Need-four-step-requires
 four-step-requires c κs = search needs
 
-add-last-numbers : tie.Need-add-last-numbers
-add-last-numbers c = search needs
+add-end-numbers : tie.Need-add-end-numbers
+add-end-numbers c = search needs
 
-last-numbers-requires : tie.Need-last-numbers-requires
-last-numbers-requires c κs = search needs
+end-numbers-requires : tie.Need-end-numbers-requires
+end-numbers-requires c κs = search needs
 
 returns : tie.Need-returns
 returns c =
-    let s = c .before .before .before .before .before in
-    c .last-numbers .ensures
-    ∙ rw (c .before .four-step .ensures, c .before .before .four-numbers .ensures)
-    (sym (plain-four (s .args .cs .now) (s .args .h) (s .args .i) (omega arith)))
+    let a = c .before .before .before .before .before .before .args in
+    end-plain (a .cs .now) (c .before .before .four-step .result) (a .i + 4) _ (search needs) (c .end-numbers .ensures)
+    ∙ rw (c .before .before .four-step .ensures, c .before .before .before .four-numbers .ensures)
+    (sym (plain-four (a .cs .now) (a .h) (a .i) (omega arith)))
 
-last-numbers-requires-2 : tie.Need-last-numbers-requires-2
-last-numbers-requires-2 c κs = search needs
+end-numbers-requires-2 : tie.Need-end-numbers-requires-2
+end-numbers-requires-2 c κs = search needs
 
 returns-2 : tie.Need-returns-2
-returns-2 c = search needs
+returns-2 c =
+    let a = c .before .before .before .before .args in
+    end-plain (a .cs .now) (a .h) (a .i) _ (search needs) (c .end-numbers2 .ensures)
 
 pub rest-numbers-spec : {M : Type 1} → statement M
 rest-numbers-spec =
@@ -41,8 +45,8 @@ rest-numbers-spec =
     sub-if1
     four-numbers-requires
     four-step-requires
-    add-last-numbers
-    last-numbers-requires
+    add-end-numbers
+    end-numbers-requires
     returns
-    last-numbers-requires-2
+    end-numbers-requires-2
     returns-2)

@@ -1,0 +1,18 @@
+-- From 0, with the start weighed last.
+use mathlib.Core.Path.{refl}
+use native.Mathlib.Omega.{arith}
+use Rattle.power_hash.proofs.Ends.{end-vista}
+use borrow.Author.Needs.{needs}
+use Rattle.power_hash.proofs.eights.few_bytes.Statement.{statement}
+use Rattle.power_hash.proofs.eights.few_bytes.Tie as tie
+
+end-bytes-requires : tie.Need-end-bytes-requires
+end-bytes-requires c κs = search needs
+
+returns : tie.Need-returns
+returns c =
+    let s = c .before .before .before .args .text .now in
+    end-vista s 0 0 _ (omega arith) (omega arith) refl (c .end-bytes .ensures)
+
+pub few-bytes-spec : {M : Type 1} → statement M
+few-bytes-spec = tie.close (tie.spec end-bytes-requires returns)
