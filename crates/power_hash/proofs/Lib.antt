@@ -1,3 +1,4 @@
+pub mod Digits
 pub mod Ends
 pub mod Lanes
 pub mod Powers

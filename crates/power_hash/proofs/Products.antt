@@ -54,8 +54,8 @@ pub record Stands (r b q g : ℕ) : Type 0 where
   pub below : r < 2 ^ 32
   pub same : r * b ^ q % 2 ^ 32 ≡ g
 
-pub stands-start : (k : ℕ) → Stands 1 37 k (37 ^ k % 2 ^ 32)
-stands-start k = record { below = lit< tt; same = ap (λ (n : ℕ). n % 2 ^ 32) (omega arith) }
+pub stands-start : (r b k : ℕ) → r < 2 ^ 32 → Stands r b k (r * b ^ k % 2 ^ 32)
+stands-start r b k l = record { below = l; same = refl }
 
 pub stands-odd : (r b q g r′ b′ : ℕ) → Stands r b q g → q % 2 ≡ 1 → r′ ≡ r * b % 2 ^ 32 → b′ ≡ b * b % 2 ^ 32 → Stands r′ b′ (q / 2) g
 stands-odd r b q g r′ b′ w o e d =

@@ -9,6 +9,7 @@ ghost use Rattle.power_hash.specs.Powers.{PowerTable, powerSum, hashPowe
 
 mod eights;
 mod entries;
+mod raise;
 
 use eights::START;
 use eights::bytes_by_eights;
@@ -21,6 +22,8 @@ use eights::from_four_numbers;
 use eights::numbers_by_eights;
 use eights::wide;
 use entries::POWERS;
+use raise::power;
+use raise::times;
 
 pub enum Swap {
     Swapped(u32),
@@ -38,12 +41,6 @@ const LEAST: usize = 512;
 const MOST: usize = 1024;
 
 const NO_NUMBERS: [u32; 0] = [];
-
-fn times(a: u32, b: u32) -> u32
-    ensures { λ r. ⌜ r ≡ a * b % 2 ^ 32 ⌝ }
-{
-    ((a as u64) * (b as u64) % 4294967296) as u32
-}
 
 // Each number times its power, added up. The products don't wait for each other.
 fn sum_numbers(cs: &[u32], t: &[u32; 1024]) -> u32
@@ -104,23 +101,6 @@ fn bytes_by_table(text: &[u8]) -> u32
     ensures { λ r. ⌜ r ≡ hashPowers (now (text .entry)) ⌝ }
 {
     by_table(&NO_NUMBERS, text)
-}
-
-// Powers by squaring: the cost grows with the logarithm of the exponent.
-fn power(k: usize) -> u32
-    ensures { λ r. ⌜ r ≡ 37 ^ k % 2 ^ 32 ⌝ }
-{
-    let mut r = 1;
-    let mut b = 37;
-    let mut q = k;
-    while 0 < q {
-        if q % 2 == 1 {
-            r = times(r, b);
-        }
-        b = times(b, b);
-        q = q / 2;
-    }
-    r
 }
 
 // The old hash plus the difference of the starts' hashes times the power of what is kept.

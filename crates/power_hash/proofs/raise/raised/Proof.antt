@@ -1,20 +1,20 @@
 -- What is gathered and the square to the exponent left stand for the power.
 use mathlib.Core.Path.{_∙_}
 use mathlib.Core.Logic.{⊎-elim}
-use Prim.Native.Nat.{_%_, _^_}
+use Prim.Native.Nat.{_*_, _%_, _^_}
 use Rattle.power_hash.proofs.Products.{Stands, stands-start, stands-odd, stands-even, stands-done}
 use borrow.Author.Needs.{needs}
-use Rattle.power_hash.proofs.power.Statement.{statement}
-use Rattle.power_hash.proofs.power.Tie as tie
+use Rattle.power_hash.proofs.raise.raised.Statement.{statement}
+use Rattle.power_hash.proofs.raise.raised.Tie as tie
 
 abbrev Inv-loop : tie.InvT-loop
-Inv-loop k r₀ b₀ q₀ r b q = Stands r b q (37 ^ k % 2 ^ 32)
+Inv-loop from base k r₀ b₀ q₀ r b q = Stands r b q (from * base ^ k % 2 ^ 32)
 
 abbrev μ-loop : tie.MeasureT-loop
-μ-loop k r₀ b₀ q₀ r b q = q
+μ-loop from base k r₀ b₀ q₀ r b q = q
 
 loop-holds : tie.Need-loop-holds Inv-loop μ-loop
-loop-holds c = stands-start (c .args .k)
+loop-holds c = stands-start (c .args .from) (c .args .base) (c .args .k) (search needs)
 
 times-requires : tie.Need-times-requires Inv-loop μ-loop
 times-requires c κs = search needs
@@ -37,8 +37,8 @@ loop-again c =
 returns : tie.Need-returns Inv-loop μ-loop
 returns c = let b = c .before in stands-done (b .loop .r) (b .loop .b) (b .loop .q) _ (b .loop .inv) (c .loop-test .left)
 
-pub power-spec : {M : Type 1} → statement M
-power-spec =
+pub raised-spec : {M : Type 1} → statement M
+raised-spec =
     tie.close
     (tie.spec
     Inv-loop
