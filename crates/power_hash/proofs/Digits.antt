@@ -1,4 +1,4 @@
--- A power by its digits of base 16: tables of the powers of a digit, and what their product is.
+-- Tables in which each entry is so many times the one before, and a power by its digits of base 16.
 use mathlib.Core.Path.{_≡_, refl, sym, ap, _∙_}
 use mathlib.Core.List.{List, [], _∷_}
 use Prim.Native.Nat.{ℕ, zero, suc, _+_, _*_, _/_, _%_, _^_, _<_}

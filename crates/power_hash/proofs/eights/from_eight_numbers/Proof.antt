@@ -1,5 +1,6 @@
 -- The first eight at once from 0, and four more where they are there, with the start weighed last.
 use native.Mathlib.Omega.{arith}
+use Rattle.power_hash.proofs.Digits.{geometric}
 use Rattle.power_hash.proofs.Ends.{end-vista, eight-first, twelve-first}
 use borrow.Author.Needs.{needs}
 use Rattle.power_hash.proofs.eights.from_eight_numbers.Statement.{statement}
@@ -12,6 +13,7 @@ end-numbers-requires : tie.Need-end-numbers-requires
 end-numbers-requires c κs = search needs
 
 returns : tie.Need-returns
+unfolding geometric
 returns c =
     let s = c .before .before .before .before .before .args .cs .now in
     end-vista s _ 8 _ (omega arith) (omega arith) (rw (c .before .before .before .eight-numbers .ensures) (eight-first s (omega arith)))
@@ -27,6 +29,7 @@ end-numbers-requires-2 : tie.Need-end-numbers-requires-2
 end-numbers-requires-2 c κs = search needs
 
 returns-2 : tie.Need-returns-2
+unfolding geometric
 returns-2 c =
     let s = c .before .before .before .before .before .before .before .args .cs .now in
     let e = c .before .before .before .before .before .eight-numbers .ensures in

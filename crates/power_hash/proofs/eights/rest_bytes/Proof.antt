@@ -2,6 +2,7 @@
 use mathlib.Core.Path.{sym, _∙_}
 use Prim.Native.Nat.{_+_}
 use native.Mathlib.Omega.{arith}
+use Rattle.power_hash.proofs.Digits.{geometric}
 use Rattle.power_hash.proofs.Ends.{end-plain}
 use Rattle.power_hash.proofs.Steps.{plain-four}
 use borrow.Author.Needs.{needs}
@@ -24,9 +25,10 @@ end-bytes-requires : tie.Need-end-bytes-requires
 end-bytes-requires c κs = search needs
 
 returns : tie.Need-returns
+unfolding geometric
 returns c =
     let a = c .before .before .before .before .before .before .args in
-    end-plain (a .text .now) (c .before .before .four-step .result) (a .i + 4) _ (search needs) (c .end-bytes .ensures)
+    end-plain (a .text .now) (c .before .before .four-step .result) (a .i + 4) _ (search needs) (omega arith) (c .end-bytes .ensures)
     ∙ rw (c .before .before .four-step .ensures, c .before .before .before .four-bytes .ensures)
     (sym (plain-four (a .text .now) (a .h) (a .i) (omega arith)))
 
@@ -34,9 +36,10 @@ end-bytes-requires-2 : tie.Need-end-bytes-requires-2
 end-bytes-requires-2 c κs = search needs
 
 returns-2 : tie.Need-returns-2
+unfolding geometric
 returns-2 c =
     let a = c .before .before .before .before .args in
-    end-plain (a .text .now) (a .h) (a .i) _ (search needs) (c .end-bytes2 .ensures)
+    end-plain (a .text .now) (a .h) (a .i) _ (search needs) (omega arith) (c .end-bytes2 .ensures)
 
 pub rest-bytes-spec : {M : Type 1} → statement M
 rest-bytes-spec =

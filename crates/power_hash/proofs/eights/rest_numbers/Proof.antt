@@ -2,6 +2,7 @@
 use mathlib.Core.Path.{sym, _∙_}
 use Prim.Native.Nat.{_+_}
 use native.Mathlib.Omega.{arith}
+use Rattle.power_hash.proofs.Digits.{geometric}
 use Rattle.power_hash.proofs.Ends.{end-plain}
 use Rattle.power_hash.proofs.Steps.{plain-four}
 use borrow.Author.Needs.{needs}
@@ -24,9 +25,10 @@ end-numbers-requires : tie.Need-end-numbers-requires
 end-numbers-requires c κs = search needs
 
 returns : tie.Need-returns
+unfolding geometric
 returns c =
     let a = c .before .before .before .before .before .before .args in
-    end-plain (a .cs .now) (c .before .before .four-step .result) (a .i + 4) _ (search needs) (c .end-numbers .ensures)
+    end-plain (a .cs .now) (c .before .before .four-step .result) (a .i + 4) _ (search needs) (omega arith) (c .end-numbers .ensures)
     ∙ rw (c .before .before .four-step .ensures, c .before .before .before .four-numbers .ensures)
     (sym (plain-four (a .cs .now) (a .h) (a .i) (omega arith)))
 
@@ -34,9 +36,10 @@ end-numbers-requires-2 : tie.Need-end-numbers-requires-2
 end-numbers-requires-2 c κs = search needs
 
 returns-2 : tie.Need-returns-2
+unfolding geometric
 returns-2 c =
     let a = c .before .before .before .before .args in
-    end-plain (a .cs .now) (a .h) (a .i) _ (search needs) (c .end-numbers2 .ensures)
+    end-plain (a .cs .now) (a .h) (a .i) _ (search needs) (omega arith) (c .end-numbers2 .ensures)
 
 pub rest-numbers-spec : {M : Type 1} → statement M
 rest-numbers-spec =
