@@ -5,7 +5,8 @@
 //! bench powers
 //!
 //! The second hash engine on device paths and on single lengths, and its swap
-//! of a path's volume, beside the plain Rust loop.
+//! of a path's volume, beside the plain Rust loop. A single length is timed from
+//! loops at four places in a line, and the mean of their medians is shown.
 //!
 //! bench readers
 //!
