@@ -5,18 +5,6 @@ use borrow.Author.Needs.{needs}
 use Rattle.catalogue.proofs.can_form.Statement.{statement}
 use Rattle.catalogue.proofs.can_form.Tie as tie
 
-of-requires : tie.Need-of-requires
-of-requires c κs = search needs
-
-enum-known-v : tie.Need-enum-known-v
-enum-known-v c = search needs
-
-size-in-range-requires : tie.Need-size-in-range-requires
-size-in-range-requires c κs = search needs
-
-enum-told : tie.Need-enum-told
-enum-told c = search needs
-
 returns : tie.Need-returns
 returns c =
     let known = c .before .before in
@@ -29,4 +17,4 @@ returns-2 c = sym (form-unknown _ (c .before .before .before .args .fields) _ (c
 pub can-form-spec : {M : Type 1} → statement M
 can-form-spec =
     tie.close
-    (tie.spec of-requires enum-known-v size-in-range-requires enum-told returns returns-2)
+    (tie.spec (λ c κs. search needs) (λ c. search needs) (λ c κs. search needs) (λ c. search needs) returns returns-2)

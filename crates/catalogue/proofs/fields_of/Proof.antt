@@ -12,14 +12,8 @@ number-in-requires c κs = let p = c .before .pre in (omega arith, frame-field _
 number-in-requires-2 : tie.Need-number-in-requires-2
 number-in-requires-2 c κs = let p = c .before .before .pre in (omega arith, frame-field _ _ (p .1) _ _ (omega arith))
 
-add-number-in : tie.Need-add-number-in
-add-number-in c = search needs
-
 number-in-requires-3 : tie.Need-number-in-requires-3
 number-in-requires-3 c κs = let p = c .before .before .before .pre in (omega arith, frame-field _ _ (p .1) _ _ (omega arith))
-
-add-number-in-2 : tie.Need-add-number-in-2
-add-number-in-2 c = search needs
 
 number-in-requires-4 : tie.Need-number-in-requires-4
 number-in-requires-4 c κs = let p = c .before .before .before .before .pre in (omega arith, frame-field _ _ (p .1) _ _ (omega arith))
@@ -34,8 +28,8 @@ fields-of-spec =
     (tie.spec
     number-in-requires
     number-in-requires-2
-    add-number-in
+    (λ c. search needs)
     number-in-requires-3
-    add-number-in-2
+    (λ c. search needs)
     number-in-requires-4
     returns)

@@ -6,26 +6,11 @@ use borrow.Author.Needs.{needs}
 use Rattle.catalogue.proofs.is_frame.Statement.{statement}
 use Rattle.catalogue.proofs.is_frame.Tie as tie
 
-add-if1 : tie.Need-add-if1
-add-if1 c = search needs
-
 returns : tie.Need-returns
 returns c = sym (frame-size _ _ (c .if1 .taken))
 
-add-are-digits : tie.Need-add-are-digits
-add-are-digits c = search needs
-
-are-digits-requires : tie.Need-are-digits-requires
-are-digits-requires c κs = search needs
-
 returns-2 : tie.Need-returns-2
 returns-2 c = sym (frame-digits _ _ (c .before .before .if1 .left) (sym (c .before .are-digits .ensures) ∙ not-true _ (c .if2 .taken)))
-
-add-result : tie.Need-add-result
-add-result c = search needs
-
-shared-slice-read-result : tie.Need-shared-slice-read-result
-shared-slice-read-result c = search needs
 
 returns-3 : tie.Need-returns-3
 returns-3 c =
@@ -36,11 +21,11 @@ pub is-frame-spec : {M : Type 1} → statement M
 is-frame-spec =
     tie.close
     (tie.spec
-    add-if1
+    (λ c. search needs)
     returns
-    add-are-digits
-    are-digits-requires
+    (λ c. search needs)
+    (λ c κs. search needs)
     returns-2
-    add-result
-    shared-slice-read-result
+    (λ c. search needs)
+    (λ c. search needs)
     returns-3)

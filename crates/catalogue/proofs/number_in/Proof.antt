@@ -51,12 +51,6 @@ add-x c =
       digit-law _ (d .1 (b .loop .k) (omega arith)) .small,
     )
 
-add-k : tie.Need-add-k Inv-loop μ-loop
-add-k c = search needs
-
-loop-less : tie.Need-loop-less Inv-loop μ-loop
-loop-less c = search needs
-
 loop-again : tie.Need-loop-again Inv-loop μ-loop
 unfolding hexAt
 loop-again c =
@@ -89,8 +83,8 @@ number-in-spec =
     shared-slice-read-value-of
     value-of-requires
     add-x
-    add-k
-    loop-less
+    (λ c. search needs)
+    (λ c. search needs)
     loop-again
     cast-result
     returns)

@@ -6,17 +6,11 @@ use borrow.Author.Needs.{needs}
 use Rattle.catalogue.proofs.read_as.Statement.{statement}
 use Rattle.catalogue.proofs.read_as.Tie as tie
 
-is-frame-requires : tie.Need-is-frame-requires
-is-frame-requires c κs = search needs
-
 returns : tie.Need-returns
 returns c = read-no-frame _ _ _ (sym (c .before .is-frame .ensures) ∙ not-true _ (c .if1 .taken))
 
 fields-of-requires : tie.Need-fields-of-requires
 fields-of-requires c κs = (search needs, frame-true _ _ (sym (c .before .is-frame .ensures) ∙ not-false _ (c .if1 .left)))
-
-can-form-requires : tie.Need-can-form-requires
-can-form-requires c κs = search needs
 
 returns-2 : tie.Need-returns-2
 returns-2 c =
@@ -33,4 +27,4 @@ returns-3 c =
 pub read-as-spec : {M : Type 1} → statement M
 read-as-spec =
     tie.close
-    (tie.spec is-frame-requires returns fields-of-requires can-form-requires returns-2 returns-3)
+    (tie.spec (λ c κs. search needs) returns fields-of-requires (λ c κs. search needs) returns-2 returns-3)

@@ -5,12 +5,6 @@ use borrow.Author.Needs.{needs}
 use Rattle.catalogue.proofs.read_line.Statement.{statement}
 use Rattle.catalogue.proofs.read_line.Tie as tie
 
-read-as-requires : tie.Need-read-as-requires
-read-as-requires c κs = search needs
-
-read-as-requires-2 : tie.Need-read-as-requires-2
-read-as-requires-2 c κs = search needs
-
 returns : tie.Need-returns
 returns c = c .read-as .ensures ∙ read-old _ (c .before .if1 .taken)
 
@@ -18,4 +12,4 @@ returns-2 : tie.Need-returns-2
 returns-2 c = c .read-as2 .ensures ∙ read-new _ (c .before .if1 .left)
 
 pub read-line-spec : {M : Type 1} → statement M
-read-line-spec = tie.close (tie.spec read-as-requires read-as-requires-2 returns returns-2)
+read-line-spec = tie.close (tie.spec (λ c κs. search needs) (λ c κs. search needs) returns returns-2)

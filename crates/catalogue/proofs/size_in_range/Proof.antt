@@ -9,12 +9,6 @@ use borrow.Author.Needs.{needs}
 use Rattle.catalogue.proofs.size_in_range.Statement.{statement}
 use Rattle.catalogue.proofs.size_in_range.Tie as tie
 
-of-requires : tie.Need-of-requires
-of-requires c κs = search needs
-
-cast-if1 : tie.Need-cast-if1
-cast-if1 c = search needs
-
 returns : tie.Need-returns
 returns c =
     let a = c .before .before .before .args in
@@ -30,4 +24,4 @@ returns-2 c =
     rw (le-leb _ _ z)
 
 pub size-in-range-spec : {M : Type 1} → statement M
-size-in-range-spec = tie.close (tie.spec of-requires cast-if1 returns returns-2)
+size-in-range-spec = tie.close (tie.spec (λ c κs. search needs) (λ c. search needs) returns returns-2)

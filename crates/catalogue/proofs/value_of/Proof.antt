@@ -9,9 +9,6 @@ use Rattle.catalogue.proofs.value_of.Tie as tie
 sub-result : tie.Need-sub-result
 sub-result c = omega (arith, digit-law _ (c .pre .0) .low)
 
-cast-result : tie.Need-cast-result
-cast-result c = search needs
-
 element-copy-out-result : tie.Need-element-copy-out-result
 element-copy-out-result c = omega (arith, digit-law _ (c .pre .0) .low, digit-range _ (c .pre .0))
 
@@ -23,4 +20,4 @@ returns c = let p = c .before .pre in p .1 _ (p .0)
 
 pub value-of-spec : {M : Type 1} → statement M
 value-of-spec =
-    tie.close (tie.spec sub-result cast-result element-copy-out-result cast-result-2 returns)
+    tie.close (tie.spec sub-result (λ c. search needs) element-copy-out-result cast-result-2 returns)

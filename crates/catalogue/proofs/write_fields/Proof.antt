@@ -6,42 +6,6 @@ use borrow.Author.Needs.{needs}
 use Rattle.catalogue.proofs.write_fields.Statement.{statement}
 use Rattle.catalogue.proofs.write_fields.Tie as tie
 
-cast-write-number : tie.Need-cast-write-number
-cast-write-number c = search needs
-
-write-number-requires : tie.Need-write-number-requires
-write-number-requires c κs = search needs
-
-cast-write-number-2 : tie.Need-cast-write-number-2
-cast-write-number-2 c = search needs
-
-write-number-requires-2 : tie.Need-write-number-requires-2
-write-number-requires-2 c κs = search needs
-
-add-write-number : tie.Need-add-write-number
-add-write-number c = search needs
-
-cast-write-number-3 : tie.Need-cast-write-number-3
-cast-write-number-3 c = search needs
-
-write-number-requires-3 : tie.Need-write-number-requires-3
-write-number-requires-3 c κs = search needs
-
-add-write-number-2 : tie.Need-add-write-number-2
-add-write-number-2 c = search needs
-
-cast-write-number-4 : tie.Need-cast-write-number-4
-cast-write-number-4 c = search needs
-
-write-number-requires-4 : tie.Need-write-number-requires-4
-write-number-requires-4 c κs = search needs
-
-add-output : tie.Need-add-output
-add-output c = search needs
-
-slice-write-output : tie.Need-slice-write-output
-slice-write-output c = search needs
-
 same-length : tie.Need-same-length
 same-length c = simp length-set (omega arith)
 
@@ -62,17 +26,17 @@ pub write-fields-spec : {M : Type 1} → statement M
 write-fields-spec =
     tie.close
     (tie.spec
-    cast-write-number
-    write-number-requires
-    cast-write-number-2
-    write-number-requires-2
-    add-write-number
-    cast-write-number-3
-    write-number-requires-3
-    add-write-number-2
-    cast-write-number-4
-    write-number-requires-4
-    add-output
-    slice-write-output
+    (λ c. search needs)
+    (λ c κs. search needs)
+    (λ c. search needs)
+    (λ c κs. search needs)
+    (λ c. search needs)
+    (λ c. search needs)
+    (λ c κs. search needs)
+    (λ c. search needs)
+    (λ c. search needs)
+    (λ c κs. search needs)
+    (λ c. search needs)
+    (λ c. search needs)
     same-length
     returns)

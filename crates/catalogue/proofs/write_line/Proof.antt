@@ -7,15 +7,6 @@ use Rattle.catalogue.proofs.write_line.Tie as tie
 returns : tie.Need-returns
 returns c = write-short _ _ (c .if1 .taken)
 
-can-form-requires : tie.Need-can-form-requires
-can-form-requires c κs = search needs
-
-write-fields-requires : tie.Need-write-fields-requires
-write-fields-requires c κs = search needs
-
-same-length : tie.Need-same-length
-same-length c = search needs
-
 returns-2 : tie.Need-returns-2
 returns-2 c =
     let d = c .before .before in
@@ -28,4 +19,4 @@ returns-3 c = write-unformed _ _ _ (c .before .before .if1 .left) (c .before .ca
 pub write-line-spec : {M : Type 1} → statement M
 write-line-spec =
     tie.close
-    (tie.spec returns can-form-requires write-fields-requires same-length returns-2 returns-3)
+    (tie.spec returns (λ c κs. search needs) (λ c κs. search needs) (λ c. search needs) returns-2 returns-3)

@@ -5,18 +5,6 @@ use borrow.Author.Needs.{needs}
 use Rattle.hex.proofs.digit_value.Statement.{statement}
 use Rattle.hex.proofs.digit_value.Tie as tie
 
-sub-result : tie.Need-sub-result
-sub-result c = search needs
-
-cast-result : tie.Need-cast-result
-cast-result c = search needs
-
-sub-result-2 : tie.Need-sub-result-2
-sub-result-2 c = search needs
-
-cast-result-2 : tie.Need-cast-result-2
-cast-result-2 c = search needs
-
 returns : tie.Need-returns
 unfolding digitValue
 returns c = search tests
@@ -27,4 +15,4 @@ returns-2 c = search tests
 
 pub digit-value-spec : {M : Type 1} → statement M
 digit-value-spec =
-    tie.close (tie.spec sub-result cast-result sub-result-2 cast-result-2 returns returns-2)
+    tie.close (tie.spec (λ c. search needs) (λ c. search needs) (λ c. search needs) (λ c. search needs) returns returns-2)

@@ -21,12 +21,6 @@ returns c = sym (zero-digit _ _ (omega arith) (c .if1 .taken))
 loop-holds : tie.Need-loop-holds Inv-loop μ-loop
 loop-holds c = (omega arith, let a = c .before .args in let e : a .place - a .place ≡ 0 = omega arith in rw (e, pow-zero) (sym (div-one (a .x))))
 
-sub-p : tie.Need-sub-p Inv-loop μ-loop
-sub-p c = search needs
-
-loop-less : tie.Need-loop-less Inv-loop μ-loop
-loop-less c = search needs
-
 loop-again : tie.Need-loop-again Inv-loop μ-loop
 loop-again c =
     let b = c .before in
@@ -35,12 +29,6 @@ loop-again c =
     let p = b .loop .p in
     let e : place - (p - 1) ≡ suc (place - p) = omega arith in
     (omega arith, rw (e, pow-suc, b .loop .inv .1) (div-div-eq-div-mul x (16 ^ (place - p)) 16))
-
-cast-digit-of : tie.Need-cast-digit-of Inv-loop μ-loop
-cast-digit-of c = search needs
-
-digit-of-requires : tie.Need-digit-of-requires Inv-loop μ-loop
-digit-of-requires c κs = search needs
 
 returns-2 : tie.Need-returns-2 Inv-loop μ-loop
 returns-2 c =
@@ -56,9 +44,9 @@ hex-digit-spec =
     μ-loop
     returns
     loop-holds
-    sub-p
-    loop-less
+    (λ c. search needs)
+    (λ c. search needs)
     loop-again
-    cast-digit-of
-    digit-of-requires
+    (λ c. search needs)
+    (λ c κs. search needs)
     returns-2)

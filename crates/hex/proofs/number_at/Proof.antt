@@ -12,9 +12,6 @@ use Rattle.hex.proofs.number_at.Tie as tie
 returns : tie.Need-returns
 returns c = answers readSaid _ _ (sym (read-wide _ _ _ (c .if1 .taken)))
 
-are-digits-requires : tie.Need-are-digits-requires
-are-digits-requires c κs = search needs
-
 returns-2 : tie.Need-returns-2
 returns-2 c =
     answers readSaid _ _
@@ -34,4 +31,4 @@ returns-3 c =
 
 pub number-at-spec : {M : Type 1} → statement M
 number-at-spec =
-    tie.close (tie.spec returns are-digits-requires returns-2 value-at-requires returns-3)
+    tie.close (tie.spec returns (λ c κs. search needs) returns-2 value-at-requires returns-3)

@@ -25,12 +25,6 @@ mul-r c =
     let s = b .before .before in
     omega (arith, hex-room (b .loop .k) (s .args .width) (s .args .line .now) (s .args .at) (c .loop-test .taken) (s .pre .0) (s .pre .2))
 
-add-digit-value : tie.Need-add-digit-value Inv-loop μ-loop
-add-digit-value c = search needs
-
-shared-slice-read-digit-value : tie.Need-shared-slice-read-digit-value Inv-loop μ-loop
-shared-slice-read-digit-value c = search needs
-
 digit-value-requires : tie.Need-digit-value-requires Inv-loop μ-loop
 digit-value-requires c κs =
     let b = c .before .before in
@@ -46,12 +40,6 @@ add-r c =
       hex-room (b .loop .k) (s .args .width) (s .args .line .now) (s .args .at) (omega arith) (s .pre .0) (s .pre .2),
       digit-law _ (s .pre .2 (b .loop .k) (omega arith)) .small,
     )
-
-add-k : tie.Need-add-k Inv-loop μ-loop
-add-k c = search needs
-
-loop-less : tie.Need-loop-less Inv-loop μ-loop
-loop-less c = search needs
 
 loop-again : tie.Need-loop-again Inv-loop μ-loop
 unfolding hexAt
@@ -73,11 +61,11 @@ value-at-spec =
     μ-loop
     loop-holds
     mul-r
-    add-digit-value
-    shared-slice-read-digit-value
+    (λ c. search needs)
+    (λ c. search needs)
     digit-value-requires
     add-r
-    add-k
-    loop-less
+    (λ c. search needs)
+    (λ c. search needs)
     loop-again
     returns)

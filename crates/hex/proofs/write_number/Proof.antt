@@ -22,9 +22,6 @@ abbrev μ-loop : tie.MeasureT-loop
 returns : tie.Need-returns Inv-loop μ-loop
 returns c = let a = c .before .before .args in written-outside (a .output .now) (a .at) (a .width) (a .x) (omega arith)
 
-sub-if2 : tie.Need-sub-if2 Inv-loop μ-loop
-sub-if2 c = search needs
-
 returns-2 : tie.Need-returns-2 Inv-loop μ-loop
 returns-2 c = let a = c .before .before .before .args in written-outside (a .output .now) (a .at) (a .width) (a .x) (omega arith)
 
@@ -32,27 +29,6 @@ loop-holds : tie.Need-loop-holds Inv-loop μ-loop
 loop-holds c =
     let a = c .before .before .before .args in
     (omega arith, refl, paste-zero (a .output .now) (a .at) (hexDigits (a .width) (a .x)), omega arith)
-
-sub-hex-digit : tie.Need-sub-hex-digit Inv-loop μ-loop
-sub-hex-digit c = search needs
-
-sub-hex-digit-2 : tie.Need-sub-hex-digit-2 Inv-loop μ-loop
-sub-hex-digit-2 c = search needs
-
-hex-digit-requires : tie.Need-hex-digit-requires Inv-loop μ-loop
-hex-digit-requires c κs = search needs
-
-add-output : tie.Need-add-output Inv-loop μ-loop
-add-output c = search needs
-
-slice-write-output : tie.Need-slice-write-output Inv-loop μ-loop
-slice-write-output c = search needs
-
-add-j : tie.Need-add-j Inv-loop μ-loop
-add-j c = search needs
-
-loop-less : tie.Need-loop-less Inv-loop μ-loop
-loop-less c = search needs
 
 loop-again : tie.Need-loop-again Inv-loop μ-loop
 loop-again c =
@@ -68,9 +44,6 @@ loop-again c =
       rw (b .loop .inv .2, d, add-one j) (paste-suc (a .output .now) (a .at) ds j 0 h l),
       b .loop .inv .3,
     )
-
-same-length : tie.Need-same-length Inv-loop μ-loop
-same-length c = search needs
 
 returns-3 : tie.Need-returns-3 Inv-loop μ-loop
 returns-3 c =
@@ -88,16 +61,16 @@ write-number-spec =
     Inv-loop
     μ-loop
     returns
-    sub-if2
+    (λ c. search needs)
     returns-2
     loop-holds
-    sub-hex-digit
-    sub-hex-digit-2
-    hex-digit-requires
-    add-output
-    slice-write-output
-    add-j
-    loop-less
+    (λ c. search needs)
+    (λ c. search needs)
+    (λ c κs. search needs)
+    (λ c. search needs)
+    (λ c. search needs)
+    (λ c. search needs)
+    (λ c. search needs)
     loop-again
-    same-length
+    (λ c. search needs)
     returns-3)

@@ -5,32 +5,11 @@ use borrow.Author.Needs.{needs}
 use Rattle.hivesaddle.proofs.hs_catalogue_read.Statement.{statement}
 use Rattle.hivesaddle.proofs.hs_catalogue_read.Tie as tie
 
-read-line-requires : tie.Need-read-line-requires
-read-line-requires c κs = search needs
-
-enum-known-f : tie.Need-enum-known-f
-enum-known-f c = search needs
-
-put-line-requires : tie.Need-put-line-requires
-put-line-requires c κs = search needs
-
-enum-told : tie.Need-enum-told
-enum-told c = search needs
-
-put-line-requires-2 : tie.Need-put-line-requires-2
-put-line-requires-2 c κs = search needs
-
-same-length : tie.Need-same-length
-same-length c = search needs
-
 returns : tie.Need-returns
 returns c =
     let w = c .before .before in
     let f = w .before .before .before in
     rw (read-is _ _ _ (f .before .before .read-line .ensures) (f .f .given .1)) (refl, w .put-line .ensures)
-
-same-length-2 : tie.Need-same-length-2
-same-length-2 c = search needs
 
 returns-2 : tie.Need-returns-2
 returns-2 c =
@@ -42,12 +21,12 @@ pub hs-catalogue-read-spec : {M : Type 1} → statement M
 hs-catalogue-read-spec =
     tie.close
     (tie.spec
-    read-line-requires
-    enum-known-f
-    put-line-requires
-    enum-told
-    put-line-requires-2
-    same-length
+    (λ c κs. search needs)
+    (λ c. search needs)
+    (λ c κs. search needs)
+    (λ c. search needs)
+    (λ c κs. search needs)
+    (λ c. search needs)
     returns
-    same-length-2
+    (λ c. search needs)
     returns-2)

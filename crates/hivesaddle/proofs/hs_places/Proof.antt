@@ -6,27 +6,6 @@ use borrow.Author.Needs.{needs}
 use Rattle.hivesaddle.proofs.hs_places.Statement.{statement}
 use Rattle.hivesaddle.proofs.hs_places.Tie as tie
 
-places-requires : tie.Need-places-requires
-places-requires c κs = search needs
-
-enum-known-n : tie.Need-enum-known-n
-enum-known-n c = search needs
-
-cast-put-one : tie.Need-cast-put-one
-cast-put-one c = search needs
-
-put-one-requires : tie.Need-put-one-requires
-put-one-requires c κs = search needs
-
-enum-told : tie.Need-enum-told
-enum-told c = search needs
-
-put-one-requires-2 : tie.Need-put-one-requires-2
-put-one-requires-2 c κs = search needs
-
-same-length : tie.Need-same-length
-same-length c = search needs
-
 returns : tie.Need-returns
 returns c =
     let put = c .before .before in
@@ -34,9 +13,6 @@ returns c =
     let places = arm .before .before in
     let start = places .before .before .before in
     answered-case placesSaid (places .places .result) _ _ _ (start .args .out .now) _ (places .places .ensures) (arm .n .given .1) refl (put .put-one .ensures)
-
-same-length-2 : tie.Need-same-length-2
-same-length-2 c = search needs
 
 returns-2 : tie.Need-returns-2
 returns-2 c =
@@ -51,13 +27,13 @@ pub hs-places-spec : {M : Type 1} → statement M
 hs-places-spec =
     tie.close
     (tie.spec
-    places-requires
-    enum-known-n
-    cast-put-one
-    put-one-requires
-    enum-told
-    put-one-requires-2
-    same-length
+    (λ c κs. search needs)
+    (λ c. search needs)
+    (λ c. search needs)
+    (λ c κs. search needs)
+    (λ c. search needs)
+    (λ c κs. search needs)
+    (λ c. search needs)
     returns
-    same-length-2
+    (λ c. search needs)
     returns-2)

@@ -3,18 +3,6 @@ use borrow.Author.Needs.{needs}
 use Rattle.hivesaddle.proofs.hs_read_file.Statement.{statement}
 use Rattle.hivesaddle.proofs.hs_read_file.Tie as tie
 
-read-file-requires : tie.Need-read-file-requires
-read-file-requires c κs = search needs
-
-put-verdict-requires : tie.Need-put-verdict-requires
-put-verdict-requires c κs = search needs
-
-same-length : tie.Need-same-length
-same-length c = search needs
-
-same-length-2 : tie.Need-same-length-2
-same-length-2 c = search needs
-
 returns : tie.Need-returns
 returns c =
     let put = c .before .before in
@@ -25,4 +13,4 @@ returns c =
 
 pub hs-read-file-spec : {M : Type 1} → statement M
 hs-read-file-spec =
-    tie.close (tie.spec read-file-requires put-verdict-requires same-length same-length-2 returns)
+    tie.close (tie.spec (λ c κs. search needs) (λ c κs. search needs) (λ c. search needs) (λ c. search needs) returns)

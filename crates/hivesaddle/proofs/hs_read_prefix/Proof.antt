@@ -3,18 +3,6 @@ use borrow.Author.Needs.{needs}
 use Rattle.hivesaddle.proofs.hs_read_prefix.Statement.{statement}
 use Rattle.hivesaddle.proofs.hs_read_prefix.Tie as tie
 
-read-prefix-requires : tie.Need-read-prefix-requires
-read-prefix-requires c κs = search needs
-
-put-verdict-requires : tie.Need-put-verdict-requires
-put-verdict-requires c κs = search needs
-
-same-length : tie.Need-same-length
-same-length c = search needs
-
-same-length-2 : tie.Need-same-length-2
-same-length-2 c = search needs
-
 returns : tie.Need-returns
 returns c =
     let put = c .before .before in
@@ -26,4 +14,4 @@ returns c =
 pub hs-read-prefix-spec : {M : Type 1} → statement M
 hs-read-prefix-spec =
     tie.close
-    (tie.spec read-prefix-requires put-verdict-requires same-length same-length-2 returns)
+    (tie.spec (λ c κs. search needs) (λ c κs. search needs) (λ c. search needs) (λ c. search needs) returns)

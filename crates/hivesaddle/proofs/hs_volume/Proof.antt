@@ -6,27 +6,6 @@ use borrow.Author.Needs.{needs}
 use Rattle.hivesaddle.proofs.hs_volume.Statement.{statement}
 use Rattle.hivesaddle.proofs.hs_volume.Tie as tie
 
-volume-requires : tie.Need-volume-requires
-volume-requires c κs = search needs
-
-enum-known-f : tie.Need-enum-known-f
-enum-known-f c = search needs
-
-put-facts-requires : tie.Need-put-facts-requires
-put-facts-requires c κs = search needs
-
-enum-told : tie.Need-enum-told
-enum-told c = search needs
-
-no-facts-requires : tie.Need-no-facts-requires
-no-facts-requires c κs = search needs
-
-put-facts-requires-2 : tie.Need-put-facts-requires-2
-put-facts-requires-2 c κs = search needs
-
-same-length : tie.Need-same-length
-same-length c = search needs
-
 returns : tie.Need-returns
 returns c =
     let put = c .before .before in
@@ -35,9 +14,6 @@ returns c =
     let start = volume .before .before .before in
     answered-case volumeSaid (volume .volume .result) _ _ _ (start .args .out .now) _ (volume .volume .ensures) (arm .f .given .1) refl
     (put .put-facts .ensures)
-
-same-length-2 : tie.Need-same-length-2
-same-length-2 c = search needs
 
 returns-2 : tie.Need-returns-2
 returns-2 c =
@@ -53,13 +29,13 @@ pub hs-volume-spec : {M : Type 1} → statement M
 hs-volume-spec =
     tie.close
     (tie.spec
-    volume-requires
-    enum-known-f
-    put-facts-requires
-    enum-told
-    no-facts-requires
-    put-facts-requires-2
-    same-length
+    (λ c κs. search needs)
+    (λ c. search needs)
+    (λ c κs. search needs)
+    (λ c. search needs)
+    (λ c κs. search needs)
+    (λ c κs. search needs)
+    (λ c. search needs)
     returns
-    same-length-2
+    (λ c. search needs)
     returns-2)

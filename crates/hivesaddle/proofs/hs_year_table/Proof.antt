@@ -6,21 +6,6 @@ use borrow.Author.Needs.{needs}
 use Rattle.hivesaddle.proofs.hs_year_table.Statement.{statement}
 use Rattle.hivesaddle.proofs.hs_year_table.Tie as tie
 
-year-rows-requires : tie.Need-year-rows-requires
-year-rows-requires c κs = search needs
-
-slice-aggregate-put : tie.Need-slice-aggregate-put
-slice-aggregate-put c = search needs
-
-put-requires : tie.Need-put-requires
-put-requires c κs = search needs
-
-same-length : tie.Need-same-length
-same-length c = search needs
-
-same-length-2 : tie.Need-same-length-2
-same-length-2 c = search needs
-
 returns : tie.Need-returns
 returns c =
     let put = c .before .before in
@@ -39,9 +24,9 @@ pub hs-year-table-spec : {M : Type 1} → statement M
 hs-year-table-spec =
     tie.close
     (tie.spec
-    year-rows-requires
-    slice-aggregate-put
-    put-requires
-    same-length
-    same-length-2
+    (λ c κs. search needs)
+    (λ c. search needs)
+    (λ c κs. search needs)
+    (λ c. search needs)
+    (λ c. search needs)
     returns)

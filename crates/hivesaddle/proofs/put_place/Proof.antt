@@ -7,21 +7,6 @@ use borrow.Author.Needs.{needs}
 use Rattle.hivesaddle.proofs.put_place.Statement.{statement}
 use Rattle.hivesaddle.proofs.put_place.Tie as tie
 
-enum-known-answer : tie.Need-enum-known-answer
-enum-known-answer c = search needs
-
-put-two-requires : tie.Need-put-two-requires
-put-two-requires c κs = search needs
-
-enum-told : tie.Need-enum-told
-enum-told c = search needs
-
-put-two-requires-2 : tie.Need-put-two-requires-2
-put-two-requires-2 c κs = search needs
-
-same-length : tie.Need-same-length
-same-length c = search needs
-
 returns : tie.Need-returns
 returns c =
     let put = c .before .before in
@@ -29,9 +14,6 @@ returns c =
     let start = arm .before .before .before in
     answered-case placeSaid _ _ (start .args .answer) _ (start .args .out .now) _ (answers placeSaid _ _ refl) (arm .answer .given .1) refl
     (put .put-two .ensures)
-
-same-length-2 : tie.Need-same-length-2
-same-length-2 c = search needs
 
 returns-2 : tie.Need-returns-2
 returns-2 c =
@@ -45,11 +27,11 @@ pub put-place-spec : {M : Type 1} → statement M
 put-place-spec =
     tie.close
     (tie.spec
-    enum-known-answer
-    put-two-requires
-    enum-told
-    put-two-requires-2
-    same-length
+    (λ c. search needs)
+    (λ c κs. search needs)
+    (λ c. search needs)
+    (λ c κs. search needs)
+    (λ c. search needs)
     returns
-    same-length-2
+    (λ c. search needs)
     returns-2)

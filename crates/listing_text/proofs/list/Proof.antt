@@ -6,18 +6,6 @@ use borrow.Author.Needs.{needs}
 use Rattle.listing_text.proofs.list.Statement.{statement}
 use Rattle.listing_text.proofs.list.Tie as tie
 
-fill-requires : tie.Need-fill-requires
-fill-requires c κs = search needs
-
-put-too-long-requires : tie.Need-put-too-long-requires
-put-too-long-requires c κs = search needs
-
-same-length : tie.Need-same-length
-same-length c = search needs
-
-same-length-2 : tie.Need-same-length-2
-same-length-2 c = search needs
-
 returns : tie.Need-returns
 returns c =
     let text = c .before .before in
@@ -29,12 +17,6 @@ returns c =
     (filled .fill .ensures)
     (text .put-too-long .ensures)
 
-read-file-requires : tie.Need-read-file-requires
-read-file-requires c κs = search needs
-
-enum-known-a : tie.Need-enum-known-a
-enum-known-a c = search needs
-
 put-accepted-requires : tie.Need-put-accepted-requires
 put-accepted-requires c κs =
     let a = c .before .before in
@@ -44,21 +26,6 @@ put-accepted-requires c κs =
       arith,
       accepted-units _ _ _ _ _ (λ i. omega (arith, known .shared-slice-known .given i)) (read .read-file .ensures) (a .a .given .1),
     )
-
-enum-known-r : tie.Need-enum-known-r
-enum-known-r c = search needs
-
-put-refused-requires : tie.Need-put-refused-requires
-put-refused-requires c κs = search needs
-
-enum-told : tie.Need-enum-told
-enum-told c = search needs
-
-same-length-3 : tie.Need-same-length-3
-same-length-3 c = search needs
-
-same-length-4 : tie.Need-same-length-4
-same-length-4 c = search needs
 
 returns-2 : tie.Need-returns-2
 returns-2 c =
@@ -72,12 +39,6 @@ returns-2 c =
     (case .a .given .1)
     (text .put-accepted .ensures)
 
-same-length-5 : tie.Need-same-length-5
-same-length-5 c = search needs
-
-same-length-6 : tie.Need-same-length-6
-same-length-6 c = search needs
-
 returns-3 : tie.Need-returns-3
 returns-3 c =
     let text = c .before .before in
@@ -90,9 +51,6 @@ returns-3 c =
     (case .r .given .1)
     (text .put-refused .ensures)
 
-same-length-7 : tie.Need-same-length-7
-same-length-7 c = search needs
-
 returns-4 : tie.Need-returns-4
 returns-4 c =
     let read = c .before .before .before .before in
@@ -104,22 +62,22 @@ pub list-spec : {M : Type 1} → statement M
 list-spec =
     tie.close
     (tie.spec
-    fill-requires
-    put-too-long-requires
-    same-length
-    same-length-2
+    (λ c κs. search needs)
+    (λ c κs. search needs)
+    (λ c. search needs)
+    (λ c. search needs)
     returns
-    read-file-requires
-    enum-known-a
+    (λ c κs. search needs)
+    (λ c. search needs)
     put-accepted-requires
-    enum-known-r
-    put-refused-requires
-    enum-told
-    same-length-3
-    same-length-4
+    (λ c. search needs)
+    (λ c κs. search needs)
+    (λ c. search needs)
+    (λ c. search needs)
+    (λ c. search needs)
     returns-2
-    same-length-5
-    same-length-6
+    (λ c. search needs)
+    (λ c. search needs)
     returns-3
-    same-length-7
+    (λ c. search needs)
     returns-4)

@@ -4,21 +4,6 @@ use borrow.Author.Needs.{needs}
 use Rattle.listing_text.proofs.put_hash_line.Statement.{statement}
 use Rattle.listing_text.proofs.put_hash_line.Tie as tie
 
-slice-aggregate-put-all : tie.Need-slice-aggregate-put-all
-slice-aggregate-put-all c = search needs
-
-put-all-requires : tie.Need-put-all-requires
-put-all-requires c κs = search needs
-
-put-hex-requires : tie.Need-put-hex-requires
-put-hex-requires c κs = search needs
-
-put-requires : tie.Need-put-requires
-put-requires c κs = search needs
-
-same-length : tie.Need-same-length
-same-length c = search needs
-
 returns : tie.Need-returns
 returns c =
     let feed = c .before .before in
@@ -30,9 +15,9 @@ pub put-hash-line-spec : {M : Type 1} → statement M
 put-hash-line-spec =
     tie.close
     (tie.spec
-    slice-aggregate-put-all
-    put-all-requires
-    put-hex-requires
-    put-requires
-    same-length
+    (λ c. search needs)
+    (λ c κs. search needs)
+    (λ c κs. search needs)
+    (λ c κs. search needs)
+    (λ c. search needs)
     returns)

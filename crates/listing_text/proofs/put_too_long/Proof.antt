@@ -4,18 +4,6 @@ use borrow.Author.Needs.{needs}
 use Rattle.listing_text.proofs.put_too_long.Statement.{statement}
 use Rattle.listing_text.proofs.put_too_long.Tie as tie
 
-slice-aggregate-put-all : tie.Need-slice-aggregate-put-all
-slice-aggregate-put-all c = search needs
-
-put-all-requires : tie.Need-put-all-requires
-put-all-requires c κs = search needs
-
-put-requires : tie.Need-put-requires
-put-requires c κs = search needs
-
-same-length : tie.Need-same-length
-same-length c = search needs
-
 returns : tie.Need-returns
 returns c =
     let feed = c .before .before in
@@ -24,4 +12,4 @@ returns c =
 
 pub put-too-long-spec : {M : Type 1} → statement M
 put-too-long-spec =
-    tie.close (tie.spec slice-aggregate-put-all put-all-requires put-requires same-length returns)
+    tie.close (tie.spec (λ c. search needs) (λ c κs. search needs) (λ c κs. search needs) (λ c. search needs) returns)

@@ -10,11 +10,8 @@ returns c = rw (lt-leb 33 _ (c .if1 .taken))
 returns-2 : tie.Need-returns-2
 returns-2 c = rw (le-leb 33 _ (c .before .if1 .left), lt-leb _ 126 (c .if2 .taken))
 
-cast-result : tie.Need-cast-result
-cast-result c = search needs
-
 returns-3 : tie.Need-returns-3
 returns-3 c = rw (le-leb 33 _ (c .before .if1 .left), le-leb _ 126 (c .if2 .left))
 
 pub shown-unit-spec : {M : Type 1} → statement M
-shown-unit-spec = tie.close (tie.spec returns returns-2 cast-result returns-3)
+shown-unit-spec = tie.close (tie.spec returns returns-2 (λ c. search needs) returns-3)

@@ -19,24 +19,6 @@ abbrev μ-loop : tie.MeasureT-loop
 loop-holds : tie.Need-loop-holds Inv-loop μ-loop
 loop-holds c = ending-start _ _
 
-cast-u16-at : tie.Need-cast-u16-at Inv-loop μ-loop
-cast-u16-at c = search needs
-
-mul-u16-at : tie.Need-mul-u16-at Inv-loop μ-loop
-mul-u16-at c = search needs
-
-add-u16-at : tie.Need-add-u16-at Inv-loop μ-loop
-add-u16-at c = search needs
-
-u16-at-requires : tie.Need-u16-at-requires Inv-loop μ-loop
-u16-at-requires c κs = search needs
-
-add-k : tie.Need-add-k Inv-loop μ-loop
-add-k c = search needs
-
-loop-less : tie.Need-loop-less Inv-loop μ-loop
-loop-less c = search needs
-
 loop-again : tie.Need-loop-again Inv-loop μ-loop
 loop-again c =
     let turn = c .before .before .before .loop in
@@ -44,9 +26,6 @@ loop-again c =
     (λ w. rw (w .1) (ending-hit _ _ _ _ (turn .inv) (omega arith) (eq-eqb _ _ (sym (c .before .u16-at .ensures) ∙ w .0 .taken))))
     (λ w. rw (w .1) (ending-miss _ _ _ _ (turn .inv) (omega arith) (ne-eqb _ _ (λ z. w .0 .left (c .before .u16-at .ensures ∙ z)))))
     (c .if1 .came)
-
-cast-t13 : tie.Need-cast-t13 Inv-loop μ-loop
-cast-t13 c = search needs
 
 returns : tie.Need-returns Inv-loop μ-loop
 returns c = ending-at _ _ _ _ (c .before .before .loop .inv) (omega arith) (omega arith)
@@ -61,13 +40,13 @@ first-zero-unit-spec =
     Inv-loop
     μ-loop
     loop-holds
-    cast-u16-at
-    mul-u16-at
-    add-u16-at
-    u16-at-requires
-    add-k
-    loop-less
+    (λ c. search needs)
+    (λ c. search needs)
+    (λ c. search needs)
+    (λ c κs. search needs)
+    (λ c. search needs)
+    (λ c. search needs)
     loop-again
-    cast-t13
+    (λ c. search needs)
     returns
     returns-2)

@@ -11,12 +11,6 @@ use Rattle.little_endian.proofs.u16_at.Tie as tie
 returns : tie.Need-returns
 returns c = let a = c .before .before .args in sym (le-past 2 (a .s .now) (a .at) (c .if1 .taken))
 
-sub-if2 : tie.Need-sub-if2
-sub-if2 c = search needs
-
-shared-slice-read-result : tie.Need-shared-slice-read-result
-shared-slice-read-result c = search needs
-
 cast-result : tie.Need-cast-result
 cast-result c = omega (arith, c .shared-slice-known2 .given (c .before .before .before .before .args .at))
 
@@ -24,20 +18,14 @@ returns-2 : tie.Need-returns-2
 unfolding le
 returns-2 c = let a = c .before .before .before .before .args in omega (arith, le-past 1 (a .s .now) (a .at + 1) (omega arith))
 
-whole-u16-requires : tie.Need-whole-u16-requires
-whole-u16-requires c κs = search needs
-
-returns-3 : tie.Need-returns-3
-returns-3 c = search needs
-
 pub u16-at-spec : {M : Type 1} → statement M
 u16-at-spec =
     tie.close
     (tie.spec
     returns
-    sub-if2
-    shared-slice-read-result
+    (λ c. search needs)
+    (λ c. search needs)
     cast-result
     returns-2
-    whole-u16-requires
-    returns-3)
+    (λ c κs. search needs)
+    (λ c. search needs))

@@ -5,27 +5,6 @@ use borrow.Author.Needs.{needs}
 use Rattle.little_endian.proofs.whole_u32.Statement.{statement}
 use Rattle.little_endian.proofs.whole_u32.Tie as tie
 
-whole-u16-requires : tie.Need-whole-u16-requires
-whole-u16-requires c κs = search needs
-
-cast-result : tie.Need-cast-result
-cast-result c = search needs
-
-add-whole-u16 : tie.Need-add-whole-u16
-add-whole-u16 c = search needs
-
-whole-u16-requires-2 : tie.Need-whole-u16-requires-2
-whole-u16-requires-2 c κs = search needs
-
-cast-result-2 : tie.Need-cast-result-2
-cast-result-2 c = search needs
-
-mul-result : tie.Need-mul-result
-mul-result c = search needs
-
-add-result : tie.Need-add-result
-add-result c = search needs
-
 returns : tie.Need-returns
 returns c = let a = c .before .before .before .args in omega (arith, le-split 2 2 (a .s .now) (a .at))
 
@@ -33,11 +12,11 @@ pub whole-u32-spec : {M : Type 1} → statement M
 whole-u32-spec =
     tie.close
     (tie.spec
-    whole-u16-requires
-    cast-result
-    add-whole-u16
-    whole-u16-requires-2
-    cast-result-2
-    mul-result
-    add-result
+    (λ c κs. search needs)
+    (λ c. search needs)
+    (λ c. search needs)
+    (λ c κs. search needs)
+    (λ c. search needs)
+    (λ c. search needs)
+    (λ c. search needs)
     returns)

@@ -11,11 +11,5 @@ mul-u32-at c = let a = c .before .args in omega (arith, entry-low (a .i) (a .ent
 add-u32-at : tie.Need-add-u32-at
 add-u32-at c = let a = c .before .args in omega (arith, entry-low (a .i) (a .entry) (omega arith) (omega arith))
 
-u32-at-requires : tie.Need-u32-at-requires
-u32-at-requires c κs = search needs
-
-returns : tie.Need-returns
-returns c = search needs
-
 pub entry-field-spec : {M : Type 1} → statement M
-entry-field-spec = tie.close (tie.spec mul-u32-at add-u32-at u32-at-requires returns)
+entry-field-spec = tie.close (tie.spec mul-u32-at add-u32-at (λ c κs. search needs) (λ c. search needs))

@@ -19,21 +19,6 @@ abbrev μ-loop : tie.MeasureT-loop
 loop-holds : tie.Need-loop-holds Inv-loop μ-loop
 loop-holds c = (omega arith, first-start _ _)
 
-name-at-requires : tie.Need-name-at-requires Inv-loop μ-loop
-name-at-requires c κs = search needs
-
-name-units-requires : tie.Need-name-units-requires Inv-loop μ-loop
-name-units-requires c κs = search needs
-
-name-fits-requires : tie.Need-name-fits-requires Inv-loop μ-loop
-name-fits-requires c κs = search needs
-
-cast-t11 : tie.Need-cast-t11 Inv-loop μ-loop
-cast-t11 c = search needs
-
-name-field-at-requires : tie.Need-name-field-at-requires Inv-loop μ-loop
-name-field-at-requires c κs = search needs
-
 returns : tie.Need-returns Inv-loop μ-loop
 unfolding misfitFault
 returns c =
@@ -46,12 +31,6 @@ returns c =
     let g = nameUnits (a .l) (a .metrics .now) in
     let e = fails-at (fits _) f g (w .i) (name .name-at .ensures) (name-units .name-units .ensures) (test .name-fits .ensures) in
     fault-hit _ _ _ _ (w .inv .1 ∙ first-hit _ _ _ (omega arith) (e ∙ c .before .if1 .taken)) (c .name-field-at .ensures)
-
-add-i : tie.Need-add-i Inv-loop μ-loop
-add-i c = search needs
-
-loop-less : tie.Need-loop-less Inv-loop μ-loop
-loop-less c = search needs
 
 loop-again : tie.Need-loop-again Inv-loop μ-loop
 loop-again c =
@@ -75,13 +54,13 @@ misfit-fault-spec =
     Inv-loop
     μ-loop
     loop-holds
-    name-at-requires
-    name-units-requires
-    name-fits-requires
-    cast-t11
-    name-field-at-requires
+    (λ c κs. search needs)
+    (λ c κs. search needs)
+    (λ c κs. search needs)
+    (λ c. search needs)
+    (λ c κs. search needs)
     returns
-    add-i
-    loop-less
+    (λ c. search needs)
+    (λ c. search needs)
     loop-again
     returns-2)

@@ -5,9 +5,6 @@ use Rattle.names.proofs.Laws.{name-past, name-inside, fits-le}
 use Rattle.names.proofs.name_sound.Statement.{statement}
 use Rattle.names.proofs.name_sound.Tie as tie
 
-name-fits-requires : tie.Need-name-fits-requires
-name-fits-requires c κs = search needs
-
 returns : tie.Need-returns
 returns c = name-past _ _ _ (sym (c .before .name-fits .ensures) ∙ not-true _ (c .if1 .taken))
 
@@ -18,4 +15,4 @@ returns-2 : tie.Need-returns-2
 returns-2 c = c .text-sound .ensures ∙ name-inside _ _ _ (sym (c .before .before .name-fits .ensures) ∙ not-false _ (c .before .if1 .left))
 
 pub name-sound-spec : {M : Type 1} → statement M
-name-sound-spec = tie.close (tie.spec name-fits-requires returns text-sound-requires returns-2)
+name-sound-spec = tie.close (tie.spec (λ c κs. search needs) returns text-sound-requires returns-2)

@@ -19,35 +19,11 @@ abbrev μ-loop : tie.MeasureT-loop
 loop-holds : tie.Need-loop-holds Inv-loop μ-loop
 loop-holds c = (omega arith, λ j l. absurd (omega arith))
 
-mul-zero-unit : tie.Need-mul-zero-unit Inv-loop μ-loop
-mul-zero-unit c = search needs
-
-add-zero-unit : tie.Need-add-zero-unit Inv-loop μ-loop
-add-zero-unit c = search needs
-
-zero-unit-requires : tie.Need-zero-unit-requires Inv-loop μ-loop
-zero-unit-requires c κs = search needs
-
 returns : tie.Need-returns Inv-loop μ-loop
 returns c = text-zero _ _ _ (c .before .before .before .loop .k) (omega arith) (sym (c .before .zero-unit .ensures) ∙ c .if1 .taken)
 
-add-k : tie.Need-add-k Inv-loop μ-loop
-add-k c = search needs
-
-loop-less : tie.Need-loop-less Inv-loop μ-loop
-loop-less c = search needs
-
 loop-again : tie.Need-loop-again Inv-loop μ-loop
 loop-again c = (omega arith, below-more _ _ (c .before .before .before .loop .inv .1) (sym (c .before .zero-unit .ensures) ∙ c .if1 .left))
-
-mul-zero-unit-2 : tie.Need-mul-zero-unit-2 Inv-loop μ-loop
-mul-zero-unit-2 c = search needs
-
-add-zero-unit-2 : tie.Need-add-zero-unit-2 Inv-loop μ-loop
-add-zero-unit-2 c = search needs
-
-zero-unit-requires-2 : tie.Need-zero-unit-requires-2 Inv-loop μ-loop
-zero-unit-requires-2 c κs = search needs
 
 returns-2 : tie.Need-returns-2 Inv-loop μ-loop
 returns-2 c = c .zero-unit2 .ensures ∙ text-end _ _ _ (λ k l. c .before .before .loop .inv .1 k (omega arith))
@@ -59,14 +35,14 @@ units-sound-spec =
     Inv-loop
     μ-loop
     loop-holds
-    mul-zero-unit
-    add-zero-unit
-    zero-unit-requires
+    (λ c. search needs)
+    (λ c. search needs)
+    (λ c κs. search needs)
     returns
-    add-k
-    loop-less
+    (λ c. search needs)
+    (λ c. search needs)
     loop-again
-    mul-zero-unit-2
-    add-zero-unit-2
-    zero-unit-requires-2
+    (λ c. search needs)
+    (λ c. search needs)
+    (λ c κs. search needs)
     returns-2)

@@ -4,11 +4,8 @@ use borrow.Author.Needs.{needs}
 use Rattle.path_hash.proofs.hash_2008_bytes.Statement.{statement}
 use Rattle.path_hash.proofs.hash_2008_bytes.Tie as tie
 
-hash-bytes-requires : tie.Need-hash-bytes-requires
-hash-bytes-requires c κs = search needs
-
 returns : tie.Need-returns
 returns c = c .hash-bytes .ensures ∙ vista-2008 _
 
 pub hash-2008-bytes-spec : {M : Type 1} → statement M
-hash-2008-bytes-spec = tie.close (tie.spec hash-bytes-requires returns)
+hash-2008-bytes-spec = tie.close (tie.spec (λ c κs. search needs) returns)

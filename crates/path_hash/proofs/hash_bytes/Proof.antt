@@ -16,39 +16,12 @@ Inv-loop from text h₀ i₀ h i = (i ≤ length text) × (plain h (drop i text)
 abbrev μ-loop : tie.MeasureT-loop
 μ-loop from text h₀ i₀ h i = length text - i
 
-loop-holds : tie.Need-loop-holds Inv-loop μ-loop
-loop-holds c = search needs
-
-sub-loop : tie.Need-sub-loop Inv-loop μ-loop
-sub-loop c = search needs
-
-eight-bytes-requires : tie.Need-eight-bytes-requires Inv-loop μ-loop
-eight-bytes-requires c κs = search needs
-
-add-i : tie.Need-add-i Inv-loop μ-loop
-add-i c = search needs
-
-loop-less : tie.Need-loop-less Inv-loop μ-loop
-loop-less c = search needs
-
 loop-again : tie.Need-loop-again Inv-loop μ-loop
 loop-again c =
     let b = c .before .before in
     let text = b .before .before .args .text .now in
     let l : b .loop .i + 8 ≤ length text = omega arith in
     (omega arith, rw (c .eight-bytes .ensures) (sym (plain-eight text (b .loop .h) (b .loop .i) l) ∙ b .loop .inv .1))
-
-sub-plain-bytes : tie.Need-sub-plain-bytes Inv-loop μ-loop
-sub-plain-bytes c = search needs
-
-part-plain-bytes-start : tie.Need-part-plain-bytes-start Inv-loop μ-loop
-part-plain-bytes-start c = search needs
-
-part-plain-bytes-end : tie.Need-part-plain-bytes-end Inv-loop μ-loop
-part-plain-bytes-end c = search needs
-
-plain-bytes-requires : tie.Need-plain-bytes-requires Inv-loop μ-loop
-plain-bytes-requires c κs = search needs
 
 returns : tie.Need-returns Inv-loop μ-loop
 returns c =
@@ -61,14 +34,14 @@ hash-bytes-spec =
     (tie.spec
     Inv-loop
     μ-loop
-    loop-holds
-    sub-loop
-    eight-bytes-requires
-    add-i
-    loop-less
+    (λ c. search needs)
+    (λ c. search needs)
+    (λ c κs. search needs)
+    (λ c. search needs)
+    (λ c. search needs)
     loop-again
-    sub-plain-bytes
-    part-plain-bytes-start
-    part-plain-bytes-end
-    plain-bytes-requires
+    (λ c. search needs)
+    (λ c. search needs)
+    (λ c. search needs)
+    (λ c κs. search needs)
     returns)

@@ -15,24 +15,6 @@ Inv-loop from cs h₀ i₀ h i = (i ≤ length cs) × (plain h (drop i cs) ≡ p
 abbrev μ-loop : tie.MeasureT-loop
 μ-loop from cs h₀ i₀ h i = length cs - i
 
-loop-holds : tie.Need-loop-holds Inv-loop μ-loop
-loop-holds c = search needs
-
-mul-next : tie.Need-mul-next Inv-loop μ-loop
-mul-next c = search needs
-
-shared-slice-read-next : tie.Need-shared-slice-read-next Inv-loop μ-loop
-shared-slice-read-next c = search needs
-
-next-requires : tie.Need-next-requires Inv-loop μ-loop
-next-requires c κs = search needs
-
-add-i : tie.Need-add-i Inv-loop μ-loop
-add-i c = search needs
-
-loop-less : tie.Need-loop-less Inv-loop μ-loop
-loop-less c = search needs
-
 loop-again : tie.Need-loop-again Inv-loop μ-loop
 loop-again c =
     let b = c .before .before .before in
@@ -50,11 +32,11 @@ plain-from-spec =
     (tie.spec
     Inv-loop
     μ-loop
-    loop-holds
-    mul-next
-    shared-slice-read-next
-    next-requires
-    add-i
-    loop-less
+    (λ c. search needs)
+    (λ c. search needs)
+    (λ c. search needs)
+    (λ c κs. search needs)
+    (λ c. search needs)
+    (λ c. search needs)
     loop-again
     returns)

@@ -8,18 +8,6 @@ use borrow.Author.Tests.{lt-ltb, le-ltb}
 use Rattle.path_hash.proofs.signed_end.Statement.{statement}
 use Rattle.path_hash.proofs.signed_end.Tie as tie
 
-mul-m : tie.Need-mul-m
-mul-m c = search needs
-
-cast-result : tie.Need-cast-result
-cast-result c = search needs
-
-sub-result : tie.Need-sub-result
-sub-result c = search needs
-
-cast-result-2 : tie.Need-cast-result-2
-cast-result-2 c = search needs
-
 returns : tie.Need-returns
 unfolding xpEnd
 returns c = rw (lt-ltb _ _ (c .if1 .taken))
@@ -29,4 +17,4 @@ unfolding xpEnd
 returns-2 c = rw (le-ltb _ _ (c .if1 .left)) (ap (λ (x : ℕ). x % 1000000007) (omega arith))
 
 pub signed-end-spec : {M : Type 1} → statement M
-signed-end-spec = tie.close (tie.spec mul-m cast-result sub-result cast-result-2 returns returns-2)
+signed-end-spec = tie.close (tie.spec (λ c. search needs) (λ c. search needs) (λ c. search needs) (λ c. search needs) returns returns-2)

@@ -5,23 +5,8 @@ use borrow.Author.Needs.{needs}
 use Rattle.path_search.proofs.list_paths.Statement.{statement}
 use Rattle.path_search.proofs.list_paths.Tie as tie
 
-read-open-requires : tie.Need-read-open-requires
-read-open-requires c κs = search needs
-
-enum-known-o : tie.Need-enum-known-o
-enum-known-o c = search needs
-
 paths-in-requires : tie.Need-paths-in-requires
 paths-in-requires c κs = search asking
-
-enum-told : tie.Need-enum-told
-enum-told c = search needs
-
-enum-told-2 : tie.Need-enum-told-2
-enum-told-2 c = search needs
-
-same-length : tie.Need-same-length
-same-length c = search needs
 
 returns : tie.Need-returns
 returns c = search listed
@@ -36,12 +21,12 @@ pub list-paths-spec : {M : Type 1} → statement M
 list-paths-spec =
     tie.close
     (tie.spec
-    read-open-requires
-    enum-known-o
+    (λ c κs. search needs)
+    (λ c. search needs)
     paths-in-requires
-    enum-told
-    enum-told-2
-    same-length
+    (λ c. search needs)
+    (λ c. search needs)
+    (λ c. search needs)
     returns
     returns-2
     returns-3)

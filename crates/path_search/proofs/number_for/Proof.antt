@@ -5,9 +5,6 @@ use borrow.Author.Needs.{needs}
 use Rattle.path_search.proofs.number_for.Statement.{statement}
 use Rattle.path_search.proofs.number_for.Tie as tie
 
-wrapping-sub-u32-requires : tie.Need-wrapping-sub-u32-requires
-wrapping-sub-u32-requires c κs = search needs
-
 returns : tie.Need-returns
 returns c =
     number-low _ _ (difference _ _ _ (omega arith) (omega arith) (omega arith) (c .before .wrapping-sub-u32 .ensures)) (c .if1 .taken)
@@ -17,4 +14,4 @@ returns-2 c =
     number-none _ _ (difference _ _ _ (omega arith) (omega arith) (omega arith) (c .before .wrapping-sub-u32 .ensures)) (c .if1 .left)
 
 pub number-for-spec : {M : Type 1} → statement M
-number-for-spec = tie.close (tie.spec wrapping-sub-u32-requires returns returns-2)
+number-for-spec = tie.close (tie.spec (λ c κs. search needs) returns returns-2)

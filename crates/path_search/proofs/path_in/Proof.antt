@@ -4,15 +4,6 @@ use borrow.Author.Needs.{needs}
 use Rattle.path_search.proofs.path_in.Statement.{statement}
 use Rattle.path_search.proofs.path_in.Tie as tie
 
-part-of-requires : tie.Need-part-of-requires
-part-of-requires c κs = search needs
-
-part-of-requires-2 : tie.Need-part-of-requires-2
-part-of-requires-2 c κs = search needs
-
-u32-at-requires : tie.Need-u32-at-requires
-u32-at-requires c κs = search needs
-
 search-requires : tie.Need-search-requires
 search-requires c κs =
     let s = c .before .before .before .before .before .before .before .before in
@@ -24,4 +15,4 @@ returns c = search path-given
 pub path-in-spec : {M : Type 1} → statement M
 path-in-spec =
     tie.close
-    (tie.spec part-of-requires part-of-requires-2 u32-at-requires search-requires returns)
+    (tie.spec (λ c κs. search needs) (λ c κs. search needs) (λ c κs. search needs) search-requires returns)

@@ -19,9 +19,6 @@ Inv-loop metrics strings version l stored entries least₀ index₀ i₀ least i
 abbrev μ-loop : tie.MeasureT-loop
 μ-loop metrics strings version l stored entries least₀ index₀ i₀ least index i = entries - i
 
-cast-entries : tie.Need-cast-entries Inv-loop μ-loop
-cast-entries c = search needs
-
 div-entries : tie.Need-div-entries Inv-loop μ-loop
 div-entries c = metric-some _ (c .before .before .before .pre .1)
 
@@ -32,9 +29,6 @@ cast-entry-number : tie.Need-cast-entry-number Inv-loop μ-loop
 cast-entry-number c =
     let start = c .before .before .before .before .before in
     omega (arith, start .pre .0, div-le-self (length (start .args .metrics .now)) (start .args .l .«metrics_entry»))
-
-entry-number-requires : tie.Need-entry-number-requires Inv-loop μ-loop
-entry-number-requires c κs = search needs
 
 returns : tie.Need-returns Inv-loop μ-loop
 returns c =
@@ -48,9 +42,6 @@ add-i : tie.Need-add-i Inv-loop μ-loop
 add-i c =
     let start = c .before .before .before .before .before .before .before .before in
     omega (arith, start .pre .0, div-le-self (length (start .args .metrics .now)) (start .args .l .«metrics_entry»))
-
-loop-less : tie.Need-loop-less Inv-loop μ-loop
-loop-less c = search needs
 
 loop-again : tie.Need-loop-again Inv-loop μ-loop
 loop-again c =
@@ -83,14 +74,14 @@ search-spec =
     (tie.spec
     Inv-loop
     μ-loop
-    cast-entries
+    (λ c. search needs)
     div-entries
     loop-holds
     cast-entry-number
-    entry-number-requires
+    (λ c κs. search needs)
     returns
     add-i
-    loop-less
+    (λ c. search needs)
     loop-again
     returns-2
     returns-3)

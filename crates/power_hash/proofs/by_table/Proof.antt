@@ -13,18 +13,9 @@ sum-bytes-requires : tie.Need-sum-bytes-requires
 unfolding powers rest
 sum-bytes-requires c κs = (search needs, powers-table)
 
-wrapping-add-u32-requires : tie.Need-wrapping-add-u32-requires
-wrapping-add-u32-requires c κs = search needs
-
-add-with-start : tie.Need-add-with-start
-add-with-start c = search needs
-
 with-start-requires : tie.Need-with-start-requires
 unfolding powers rest
 with-start-requires c κs = (search needs, search needs, powers-table)
-
-returns : tie.Need-returns
-returns c = search needs
 
 pub by-table-spec : {M : Type 1} → statement M
 by-table-spec =
@@ -32,7 +23,7 @@ by-table-spec =
     (tie.spec
     sum-numbers-requires
     sum-bytes-requires
-    wrapping-add-u32-requires
-    add-with-start
+    (λ c κs. search needs)
+    (λ c. search needs)
     with-start-requires
-    returns)
+    (λ c. search needs))

@@ -6,12 +6,6 @@ use borrow.Author.Needs.{needs}
 use Rattle.power_hash.proofs.bytes_by_table.Statement.{statement}
 use Rattle.power_hash.proofs.bytes_by_table.Tie as tie
 
-slice-aggregate-by-table : tie.Need-slice-aggregate-by-table
-slice-aggregate-by-table c = search needs
-
-by-table-requires : tie.Need-by-table-requires
-by-table-requires c κs = search needs
-
 returns : tie.Need-returns
 unfolding powerSum
 returns c =
@@ -19,4 +13,4 @@ returns c =
     sum-hash (s .args .text .now) _ _ _ (s .pre .1) (omega arith) (omega arith) (c .by-table .ensures)
 
 pub bytes-by-table-spec : {M : Type 1} → statement M
-bytes-by-table-spec = tie.close (tie.spec slice-aggregate-by-table by-table-requires returns)
+bytes-by-table-spec = tie.close (tie.spec (λ c. search needs) (λ c κs. search needs) returns)

@@ -11,17 +11,8 @@ returns c =
     let a = c .before .before .before .args in
     answer-long (a .old-hash) (a .p) (a .old .now) (a .start .now) (c .if1 .taken)
 
-numbers-by-eights-requires : tie.Need-numbers-by-eights-requires
-numbers-by-eights-requires c κs = search needs
-
 slice-aggregate-numbers-by-eights : tie.Need-slice-aggregate-numbers-by-eights
 slice-aggregate-numbers-by-eights c = simp length-take (omega arith)
-
-numbers-by-eights-requires-2 : tie.Need-numbers-by-eights-requires-2
-numbers-by-eights-requires-2 c κs = search needs
-
-swapped-requires : tie.Need-swapped-requires
-swapped-requires c κs = search needs
 
 returns-2 : tie.Need-returns-2
 returns-2 c =
@@ -35,8 +26,8 @@ hash-swap-spec =
     tie.close
     (tie.spec
     returns
-    numbers-by-eights-requires
+    (λ c κs. search needs)
     slice-aggregate-numbers-by-eights
-    numbers-by-eights-requires-2
-    swapped-requires
+    (λ c κs. search needs)
+    (λ c κs. search needs)
     returns-2)

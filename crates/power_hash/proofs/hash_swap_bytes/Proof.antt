@@ -11,17 +11,8 @@ returns c =
     let a = c .before .before .before .args in
     answer-long (a .old-hash) (a .p) (a .old .now) (a .start .now) (c .if1 .taken)
 
-bytes-by-eights-requires : tie.Need-bytes-by-eights-requires
-bytes-by-eights-requires c κs = search needs
-
 slice-aggregate-bytes-by-eights : tie.Need-slice-aggregate-bytes-by-eights
 slice-aggregate-bytes-by-eights c = simp length-take (omega arith)
-
-bytes-by-eights-requires-2 : tie.Need-bytes-by-eights-requires-2
-bytes-by-eights-requires-2 c κs = search needs
-
-swapped-requires : tie.Need-swapped-requires
-swapped-requires c κs = search needs
 
 returns-2 : tie.Need-returns-2
 returns-2 c =
@@ -35,8 +26,8 @@ hash-swap-bytes-spec =
     tie.close
     (tie.spec
     returns
-    bytes-by-eights-requires
+    (λ c κs. search needs)
     slice-aggregate-bytes-by-eights
-    bytes-by-eights-requires-2
-    swapped-requires
+    (λ c κs. search needs)
+    (λ c κs. search needs)
     returns-2)

@@ -4,18 +4,6 @@ use borrow.Author.Needs.{needs}
 use Rattle.power_hash.proofs.swapped.Statement.{statement}
 use Rattle.power_hash.proofs.swapped.Tie as tie
 
-wrapping-sub-u32-requires : tie.Need-wrapping-sub-u32-requires
-wrapping-sub-u32-requires c κs = search needs
-
-power-requires : tie.Need-power-requires
-power-requires c κs = search needs
-
-times-requires : tie.Need-times-requires
-times-requires c κs = search needs
-
-wrapping-add-u32-requires : tie.Need-wrapping-add-u32-requires
-wrapping-add-u32-requires c κs = search needs
-
 returns : tie.Need-returns
 returns c =
     let a = c .before .before .before .before .args in
@@ -27,8 +15,8 @@ pub swapped-spec : {M : Type 1} → statement M
 swapped-spec =
     tie.close
     (tie.spec
-    wrapping-sub-u32-requires
-    power-requires
-    times-requires
-    wrapping-add-u32-requires
+    (λ c κs. search needs)
+    (λ c κs. search needs)
+    (λ c κs. search needs)
+    (λ c κs. search needs)
     returns)

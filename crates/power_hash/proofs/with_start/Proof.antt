@@ -3,24 +3,6 @@ use borrow.Author.Needs.{needs}
 use Rattle.power_hash.proofs.with_start.Statement.{statement}
 use Rattle.power_hash.proofs.with_start.Tie as tie
 
-sub-times : tie.Need-sub-times
-sub-times c = search needs
-
-mul-times : tie.Need-mul-times
-mul-times c = search needs
-
-element-copy-out-times : tie.Need-element-copy-out-times
-element-copy-out-times c = search needs
-
-times-requires : tie.Need-times-requires
-times-requires c κs = search needs
-
-times-requires-2 : tie.Need-times-requires-2
-times-requires-2 c κs = search needs
-
-wrapping-add-u32-requires : tie.Need-wrapping-add-u32-requires
-wrapping-add-u32-requires c κs = search needs
-
 returns : tie.Need-returns
 returns c =
     let s = c .before .before .before .before in
@@ -32,10 +14,10 @@ pub with-start-spec : {M : Type 1} → statement M
 with-start-spec =
     tie.close
     (tie.spec
-    sub-times
-    mul-times
-    element-copy-out-times
-    times-requires
-    times-requires-2
-    wrapping-add-u32-requires
+    (λ c. search needs)
+    (λ c. search needs)
+    (λ c. search needs)
+    (λ c κs. search needs)
+    (λ c κs. search needs)
+    (λ c κs. search needs)
     returns)

@@ -4,20 +4,8 @@ use borrow.Author.Needs.{needs}
 use Rattle.query.proofs.entry_place.Statement.{statement}
 use Rattle.query.proofs.entry_place.Tie as tie
 
-read-open-requires : tie.Need-read-open-requires
-read-open-requires c κs = search needs
-
-enum-known-o : tie.Need-enum-known-o
-enum-known-o c = search needs
-
 entry-in-requires : tie.Need-entry-in-requires
 entry-in-requires c κs = search asking
-
-enum-told : tie.Need-enum-told
-enum-told c = search needs
-
-enum-told-2 : tie.Need-enum-told-2
-enum-told-2 c = search needs
 
 returns : tie.Need-returns
 returns c = search asking
@@ -32,11 +20,11 @@ pub entry-place-spec : {M : Type 1} → statement M
 entry-place-spec =
     tie.close
     (tie.spec
-    read-open-requires
-    enum-known-o
+    (λ c κs. search needs)
+    (λ c. search needs)
     entry-in-requires
-    enum-told
-    enum-told-2
+    (λ c. search needs)
+    (λ c. search needs)
     returns
     returns-2
     returns-3)

@@ -7,20 +7,8 @@ use borrow.Author.Needs.{needs}
 use Rattle.query.proofs.program_place.Statement.{statement}
 use Rattle.query.proofs.program_place.Tie as tie
 
-read-start-requires : tie.Need-read-start-requires
-read-start-requires c κs = search needs
-
-enum-known-s : tie.Need-enum-known-s
-enum-known-s c = search needs
-
 mul-t5 : tie.Need-mul-t5
 mul-t5 c = omega (arith, name-law _ _ (start-met _ _ _ (c .before .before .before .before .read-start .ensures) (c .before .before .s .given .1) .ended) .short)
-
-enum-told : tie.Need-enum-told
-enum-told c = search needs
-
-enum-told-2 : tie.Need-enum-told-2
-enum-told-2 c = search needs
 
 returns : tie.Need-returns
 returns c = search asking
@@ -35,11 +23,11 @@ pub program-place-spec : {M : Type 1} → statement M
 program-place-spec =
     tie.close
     (tie.spec
-    read-start-requires
-    enum-known-s
+    (λ c κs. search needs)
+    (λ c. search needs)
     mul-t5
-    enum-told
-    enum-told-2
+    (λ c. search needs)
+    (λ c. search needs)
     returns
     returns-2
     returns-3)

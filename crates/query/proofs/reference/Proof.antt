@@ -4,21 +4,6 @@ use borrow.Author.Needs.{needs}
 use Rattle.query.proofs.reference.Statement.{statement}
 use Rattle.query.proofs.reference.Tie as tie
 
-read-open-requires : tie.Need-read-open-requires
-read-open-requires c κs = search needs
-
-enum-known-o : tie.Need-enum-known-o
-enum-known-o c = search needs
-
-reference-in-requires : tie.Need-reference-in-requires
-reference-in-requires c κs = search needs
-
-enum-told : tie.Need-enum-told
-enum-told c = search needs
-
-enum-told-2 : tie.Need-enum-told-2
-enum-told-2 c = search needs
-
 returns : tie.Need-returns
 returns c = search asking
 
@@ -32,11 +17,11 @@ pub reference-spec : {M : Type 1} → statement M
 reference-spec =
     tie.close
     (tie.spec
-    read-open-requires
-    enum-known-o
-    reference-in-requires
-    enum-told
-    enum-told-2
+    (λ c κs. search needs)
+    (λ c. search needs)
+    (λ c κs. search needs)
+    (λ c. search needs)
+    (λ c. search needs)
     returns
     returns-2
     returns-3)

@@ -5,12 +5,6 @@ use borrow.Author.Needs.{needs}
 use Rattle.query.proofs.reference_in.Statement.{statement}
 use Rattle.query.proofs.reference_in.Tie as tie
 
-part-of-requires : tie.Need-part-of-requires
-part-of-requires c κs = search needs
-
-section-shown-requires : tie.Need-section-shown-requires
-section-shown-requires c κs = search needs
-
 returns : tie.Need-returns
 returns c = search volumes-asked
 
@@ -18,12 +12,6 @@ cast-volume-at : tie.Need-cast-volume-at
 cast-volume-at c =
     let start = c .before .before .before .before .before .before .before in
     omega (arith, section-met _ _ _ _ (c .before .section-shown .ensures) (c .if1 .left) .below, start .good .1 .0)
-
-volume-at-requires : tie.Need-volume-at-requires
-volume-at-requires c κs = search needs
-
-cast-if2 : tie.Need-cast-if2
-cast-if2 c = search needs
 
 returns-2 : tie.Need-returns-2
 returns-2 c = search volumes-asked
@@ -35,12 +23,6 @@ cast-reference-at c =
     let start = section .before .before .before .before .before .before in
     omega (arith, section-met _ _ _ _ (section .section-shown .ensures) (test .if1 .left) .below, start .good .1 .0)
 
-cast-reference-at-2 : tie.Need-cast-reference-at-2
-cast-reference-at-2 c = search needs
-
-reference-at-requires : tie.Need-reference-at-requires
-reference-at-requires c κs = search needs
-
 returns-3 : tie.Need-returns-3
 returns-3 c = search volumes-asked
 
@@ -48,14 +30,14 @@ pub reference-in-spec : {M : Type 1} → statement M
 reference-in-spec =
     tie.close
     (tie.spec
-    part-of-requires
-    section-shown-requires
+    (λ c κs. search needs)
+    (λ c κs. search needs)
     returns
     cast-volume-at
-    volume-at-requires
-    cast-if2
+    (λ c κs. search needs)
+    (λ c. search needs)
     returns-2
     cast-reference-at
-    cast-reference-at-2
-    reference-at-requires
+    (λ c. search needs)
+    (λ c κs. search needs)
     returns-3)

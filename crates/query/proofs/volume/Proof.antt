@@ -4,20 +4,8 @@ use borrow.Author.Needs.{needs}
 use Rattle.query.proofs.volume.Statement.{statement}
 use Rattle.query.proofs.volume.Tie as tie
 
-read-open-requires : tie.Need-read-open-requires
-read-open-requires c κs = search needs
-
-enum-known-o : tie.Need-enum-known-o
-enum-known-o c = search needs
-
 volume-in-requires : tie.Need-volume-in-requires
 volume-in-requires c κs = search asking
-
-enum-told : tie.Need-enum-told
-enum-told c = search needs
-
-enum-told-2 : tie.Need-enum-told-2
-enum-told-2 c = search needs
 
 returns : tie.Need-returns
 returns c = search asking
@@ -32,11 +20,11 @@ pub volume-spec : {M : Type 1} → statement M
 volume-spec =
     tie.close
     (tie.spec
-    read-open-requires
-    enum-known-o
+    (λ c κs. search needs)
+    (λ c. search needs)
     volume-in-requires
-    enum-told
-    enum-told-2
+    (λ c. search needs)
+    (λ c. search needs)
     returns
     returns-2
     returns-3)

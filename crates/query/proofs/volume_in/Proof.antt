@@ -7,12 +7,6 @@ use borrow.Author.Needs.{needs}
 use Rattle.query.proofs.volume_in.Statement.{statement}
 use Rattle.query.proofs.volume_in.Tie as tie
 
-part-of-requires : tie.Need-part-of-requires
-part-of-requires c κs = search needs
-
-section-shown-requires : tie.Need-section-shown-requires
-section-shown-requires c κs = search needs
-
 returns : tie.Need-returns
 returns c = search volumes-asked
 
@@ -20,12 +14,6 @@ cast-volume-at : tie.Need-cast-volume-at
 cast-volume-at c =
     let start = c .before .before .before .before .before .before .before in
     omega (arith, section-met _ _ _ _ (c .before .section-shown .ensures) (c .if1 .left) .below, start .good .1 .0)
-
-volume-at-requires : tie.Need-volume-at-requires
-volume-at-requires c κs = search needs
-
-cast-t12 : tie.Need-cast-t12
-cast-t12 c = search needs
 
 add-t13 : tie.Need-add-t13
 add-t13 c =
@@ -48,12 +36,12 @@ pub volume-in-spec : {M : Type 1} → statement M
 volume-in-spec =
     tie.close
     (tie.spec
-    part-of-requires
-    section-shown-requires
+    (λ c κs. search needs)
+    (λ c κs. search needs)
     returns
     cast-volume-at
-    volume-at-requires
-    cast-t12
+    (λ c κs. search needs)
+    (λ c. search needs)
     add-t13
     mul-t14
     returns-2)

@@ -17,9 +17,6 @@ Inv-loop buffer₀ times₀ boards₀ work₀ answers₀ input₀ turns₀ buffe
 abbrev μ-loop : tie.MeasureT-loop
 μ-loop buffer₀ times₀ boards₀ work₀ answers₀ input₀ turns₀ buffer times boards work answers input turns = turns
 
-begin-input-requires : tie.Need-begin-input-requires Inv-loop μ-loop
-begin-input-requires c κs = search needs
-
 loop-holds : tie.Need-loop-holds Inv-loop μ-loop
 loop-holds c = (refl, refl, refl, refl, refl, omega (arith, c .begin-input .ensures [] [] [] [] [] .kept))
 
@@ -28,12 +25,6 @@ sub-read-input c = omega (arith, c .before .loop .inv .0, c .before .loop .inv .
 
 part-read-input-start : tie.Need-part-read-input-start Inv-loop μ-loop
 part-read-input-start c = omega (arith, c .before .loop .inv .0, c .before .loop .inv .5)
-
-part-read-input-end : tie.Need-part-read-input-end Inv-loop μ-loop
-part-read-input-end c = search needs
-
-read-input-requires : tie.Need-read-input-requires Inv-loop μ-loop
-read-input-requires c κs = search needs
 
 same-length : tie.Need-same-length Inv-loop μ-loop
 same-length c = let i = c .before .before .before .before .before .before .loop in
@@ -52,9 +43,6 @@ same-length-4 c = c .before .before .before .before .before .before .loop .inv .
 same-length-5 : tie.Need-same-length-5 Inv-loop μ-loop
 same-length-5 c = c .before .before .before .before .before .before .loop .inv .4
 
-returns : tie.Need-returns Inv-loop μ-loop
-returns c = search needs
-
 add-take-step : tie.Need-add-take-step Inv-loop μ-loop
 add-take-step c = let c₁ = c .before .before .before .before .before .before .before .before in
     let i = c .before .before .before .before .before .before .before .loop in
@@ -63,18 +51,6 @@ add-take-step c = let c₁ = c .before .before .before .before .before .before .
     let r = c .before .before .before .before .read-input in
     let g = c₁ .before .before .before .before .before .before .good in
     omega (arith, r .ensures, r .kept .0, i .inv .0, i .inv .5, length-take (length b - k) (drop k b), length-drop k b, g)
-
-take-step-requires : tie.Need-take-step-requires Inv-loop μ-loop
-take-step-requires c κs = search needs
-
-sub-turns : tie.Need-sub-turns Inv-loop μ-loop
-sub-turns c = search needs
-
-loop-less : tie.Need-loop-less Inv-loop μ-loop
-loop-less c = search needs
-
-loop-again : tie.Need-loop-again Inv-loop μ-loop
-loop-again c = search needs
 
 same-length-6 : tie.Need-same-length-6 Inv-loop μ-loop
 same-length-6 c = c .before .loop .inv .0
@@ -91,35 +67,32 @@ same-length-9 c = c .before .loop .inv .3
 same-length-10 : tie.Need-same-length-10 Inv-loop μ-loop
 same-length-10 c = c .before .loop .inv .4
 
-returns-2 : tie.Need-returns-2 Inv-loop μ-loop
-returns-2 c = search needs
-
 pub take-input-spec : {M : Type 1} → statement M
 take-input-spec =
     tie.close
     (tie.spec
     Inv-loop
     μ-loop
-    begin-input-requires
+    (λ c κs. search needs)
     loop-holds
     sub-read-input
     part-read-input-start
-    part-read-input-end
-    read-input-requires
+    (λ c. search needs)
+    (λ c κs. search needs)
     same-length
     same-length-2
     same-length-3
     same-length-4
     same-length-5
-    returns
+    (λ c. search needs)
     add-take-step
-    take-step-requires
-    sub-turns
-    loop-less
-    loop-again
+    (λ c κs. search needs)
+    (λ c. search needs)
+    (λ c. search needs)
+    (λ c. search needs)
     same-length-6
     same-length-7
     same-length-8
     same-length-9
     same-length-10
-    returns-2)
+    (λ c. search needs))

@@ -18,33 +18,21 @@ abbrev μ-loop : tie.MeasureT-loop
 loop-holds : tie.Need-loop-holds Inv-loop μ-loop
 loop-holds c = refl
 
-put-answer-requires : tie.Need-put-answer-requires Inv-loop μ-loop
-put-answer-requires c κs = search needs
-
 slice-reshare-prefix-write-output : tie.Need-slice-reshare-prefix-write-output Inv-loop μ-loop
 slice-reshare-prefix-write-output c = put-within _ _ _ _ _ (c .before .before .put-answer .ensures) (omega arith)
 
 slice-aggregate-write-output : tie.Need-slice-aggregate-write-output Inv-loop μ-loop
 slice-aggregate-write-output c = sym (length-take-le _ _ (put-within _ _ _ _ _ (c .before .before .before .put-answer .ensures) (omega arith)))
 
-write-output-requires : tie.Need-write-output-requires Inv-loop μ-loop
-write-output-requires c κs = search needs
-
 add-i : tie.Need-add-i Inv-loop μ-loop
 add-i c = let c₁ = c .before .before .before .before .before .before .before .before in
     omega (arith, c₁ .before .before .fits .starts, c .before .before .before .before .before .before .loop-test .taken)
-
-loop-less : tie.Need-loop-less Inv-loop μ-loop
-loop-less c = search needs
 
 loop-again : tie.Need-loop-again Inv-loop μ-loop
 loop-again c = c .before .before .before .before .put-answer .kept .1 .1 .0 ∙ c .before .before .before .before .before .before .before .loop .inv
 
 same-length : tie.Need-same-length Inv-loop μ-loop
 same-length c = c .before .loop .inv
-
-returns : tie.Need-returns Inv-loop μ-loop
-returns c = tt
 
 pub write-answers-spec : {M : Type 1} → statement M
 write-answers-spec =
@@ -53,12 +41,12 @@ write-answers-spec =
     Inv-loop
     μ-loop
     loop-holds
-    put-answer-requires
+    (λ c κs. search needs)
     slice-reshare-prefix-write-output
     slice-aggregate-write-output
-    write-output-requires
+    (λ c κs. search needs)
     add-i
-    loop-less
+    (λ c. search needs)
     loop-again
     same-length
-    returns)
+    (λ c. tt))

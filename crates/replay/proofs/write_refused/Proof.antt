@@ -7,31 +7,19 @@ use borrow.Author.Needs.{needs}
 use Rattle.replay.proofs.write_refused.Statement.{statement}
 use Rattle.replay.proofs.write_refused.Tie as tie
 
-put-refused-requires : tie.Need-put-refused-requires
-put-refused-requires c κs = search needs
-
 slice-reshare-prefix-write-output : tie.Need-slice-reshare-prefix-write-output
 slice-reshare-prefix-write-output c = put-within _ _ _ _ _ (c .before .before .put-refused .ensures) (omega arith)
 
 slice-aggregate-write-output : tie.Need-slice-aggregate-write-output
 slice-aggregate-write-output c = sym (length-take-le _ _ (put-within _ _ _ _ _ (c .before .before .before .put-refused .ensures) (omega arith)))
 
-write-output-requires : tie.Need-write-output-requires
-write-output-requires c κs = search needs
-
-same-length : tie.Need-same-length
-same-length c = search needs
-
-returns : tie.Need-returns
-returns c = search needs
-
 pub write-refused-spec : {M : Type 1} → statement M
 write-refused-spec =
     tie.close
     (tie.spec
-    put-refused-requires
+    (λ c κs. search needs)
     slice-reshare-prefix-write-output
     slice-aggregate-write-output
-    write-output-requires
-    same-length
-    returns)
+    (λ c κs. search needs)
+    (λ c. search needs)
+    (λ c. search needs))

@@ -10,12 +10,6 @@ use Rattle.replay_input.proofs.put_start.Tie as tie
 number-in-requires : tie.Need-number-in-requires
 number-in-requires c κs = (omega arith, start-field _ (c .before .before .before .pre .0) 0 16 (omega arith))
 
-mul-times : tie.Need-mul-times
-mul-times c = search needs
-
-slice-write-times : tie.Need-slice-write-times
-slice-write-times c = search needs
-
 number-in-requires-2 : tie.Need-number-in-requires-2
 number-in-requires-2 c κs = (omega arith, start-field _ (c .before .before .before .before .pre .0) 16 2 (omega arith))
 
@@ -26,15 +20,6 @@ cast-boards c = omega (
   start-below (c .before .before .before .before .before .args .line .now)
       (c .before .before .before .before .before .pre .0) 16 2 (omega arith),
 )
-
-slice-write-boards : tie.Need-slice-write-boards
-slice-write-boards c = search needs
-
-same-length : tie.Need-same-length
-same-length c = search needs
-
-same-length-2 : tie.Need-same-length-2
-same-length-2 c = search needs
 
 returns : tie.Need-returns
 returns c = (
@@ -49,11 +34,11 @@ put-start-spec =
     tie.close
     (tie.spec
     number-in-requires
-    mul-times
-    slice-write-times
+    (λ c. search needs)
+    (λ c. search needs)
     number-in-requires-2
     cast-boards
-    slice-write-boards
-    same-length
-    same-length-2
+    (λ c. search needs)
+    (λ c. search needs)
+    (λ c. search needs)
     returns)

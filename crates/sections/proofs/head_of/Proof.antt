@@ -4,74 +4,17 @@ use borrow.Author.Needs.{needs}
 use Rattle.sections.proofs.head_of.Statement.{statement}
 use Rattle.sections.proofs.head_of.Tie as tie
 
-cast-h : tie.Need-cast-h
-cast-h c = search needs
-
-u32-at-requires : tie.Need-u32-at-requires
-u32-at-requires c κs = search needs
-
-u32-at-requires-2 : tie.Need-u32-at-requires-2
-u32-at-requires-2 c κs = search needs
-
-u32-at-requires-3 : tie.Need-u32-at-requires-3
-u32-at-requires-3 c κs = search needs
-
-u32-at-requires-4 : tie.Need-u32-at-requires-4
-u32-at-requires-4 c κs = search needs
-
-cast-section-of : tie.Need-cast-section-of
-cast-section-of c = search needs
-
-cast-section-of-2 : tie.Need-cast-section-of-2
-cast-section-of-2 c = search needs
-
 mul-section-of : tie.Need-mul-section-of
 mul-section-of c = search lengths
 
 section-of-requires : tie.Need-section-of-requires
 section-of-requires c κs = search lengths
 
-u32-at-requires-5 : tie.Need-u32-at-requires-5
-u32-at-requires-5 c κs = search needs
-
-cast-section-of-3 : tie.Need-cast-section-of-3
-cast-section-of-3 c = search needs
-
-cast-section-of-4 : tie.Need-cast-section-of-4
-cast-section-of-4 c = search needs
-
 mul-section-of-2 : tie.Need-mul-section-of-2
 mul-section-of-2 c = search lengths
 
 section-of-requires-2 : tie.Need-section-of-requires-2
 section-of-requires-2 c κs = search lengths
-
-u32-at-requires-6 : tie.Need-u32-at-requires-6
-u32-at-requires-6 c κs = search needs
-
-cast-section-of-5 : tie.Need-cast-section-of-5
-cast-section-of-5 c = search needs
-
-section-of-requires-3 : tie.Need-section-of-requires-3
-section-of-requires-3 c κs = search needs
-
-u32-at-requires-7 : tie.Need-u32-at-requires-7
-u32-at-requires-7 c κs = search needs
-
-u32-at-requires-8 : tie.Need-u32-at-requires-8
-u32-at-requires-8 c κs = search needs
-
-cast-section-of-6 : tie.Need-cast-section-of-6
-cast-section-of-6 c = search needs
-
-u32-at-requires-9 : tie.Need-u32-at-requires-9
-u32-at-requires-9 c κs = search needs
-
-section-of-requires-4 : tie.Need-section-of-requires-4
-section-of-requires-4 c κs = search needs
-
-u32-at-requires-10 : tie.Need-u32-at-requires-10
-u32-at-requires-10 c κs = search needs
 
 returns : tie.Need-returns
 returns c =
@@ -101,27 +44,27 @@ pub head-of-spec : {M : Type 1} → statement M
 head-of-spec =
     tie.close
     (tie.spec
-    cast-h
-    u32-at-requires
-    u32-at-requires-2
-    u32-at-requires-3
-    u32-at-requires-4
-    cast-section-of
-    cast-section-of-2
+    (λ c. search needs)
+    (λ c κs. search needs)
+    (λ c κs. search needs)
+    (λ c κs. search needs)
+    (λ c κs. search needs)
+    (λ c. search needs)
+    (λ c. search needs)
     mul-section-of
     section-of-requires
-    u32-at-requires-5
-    cast-section-of-3
-    cast-section-of-4
+    (λ c κs. search needs)
+    (λ c. search needs)
+    (λ c. search needs)
     mul-section-of-2
     section-of-requires-2
-    u32-at-requires-6
-    cast-section-of-5
-    section-of-requires-3
-    u32-at-requires-7
-    u32-at-requires-8
-    cast-section-of-6
-    u32-at-requires-9
-    section-of-requires-4
-    u32-at-requires-10
+    (λ c κs. search needs)
+    (λ c. search needs)
+    (λ c κs. search needs)
+    (λ c κs. search needs)
+    (λ c κs. search needs)
+    (λ c. search needs)
+    (λ c κs. search needs)
+    (λ c κs. search needs)
+    (λ c κs. search needs)
     returns)

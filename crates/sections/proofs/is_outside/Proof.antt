@@ -8,9 +8,6 @@ returns : tie.Need-returns
 unfolding outside
 returns c = search tests
 
-cast-if2 : tie.Need-cast-if2
-cast-if2 c = search needs
-
 returns-2 : tie.Need-returns-2
 unfolding outside
 returns-2 c = search tests
@@ -20,4 +17,4 @@ unfolding outside
 returns-3 c = search tests
 
 pub is-outside-spec : {M : Type 1} → statement M
-is-outside-spec = tie.close (tie.spec returns cast-if2 returns-2 returns-3)
+is-outside-spec = tie.close (tie.spec returns (λ c. search needs) returns-2 returns-3)

@@ -6,9 +6,6 @@ use Rattle.sections.proofs.name_units_in.Tie as tie
 returns : tie.Need-returns
 returns c = search name-units
 
-cast-result : tie.Need-cast-result
-cast-result c = search needs
-
 returns-2 : tie.Need-returns-2
 returns-2 c = search name-units
 
@@ -16,4 +13,4 @@ returns-3 : tie.Need-returns-3
 returns-3 c = search name-units
 
 pub name-units-in-spec : {M : Type 1} → statement M
-name-units-in-spec = tie.close (tie.spec returns cast-result returns-2 returns-3)
+name-units-in-spec = tie.close (tie.spec returns (λ c. search needs) returns-2 returns-3)

@@ -12,19 +12,13 @@ returns-2 : tie.Need-returns-2
 unfolding shares
 returns-2 c = search tests
 
-cast-if3 : tie.Need-cast-if3
-cast-if3 c = search needs
-
 returns-3 : tie.Need-returns-3
 unfolding shares
 returns-3 c = search tests
-
-cast-result : tie.Need-cast-result
-cast-result c = search needs
 
 returns-4 : tie.Need-returns-4
 unfolding shares
 returns-4 c = search tests
 
 pub share-spec : {M : Type 1} → statement M
-share-spec = tie.close (tie.spec returns returns-2 cast-if3 returns-3 cast-result returns-4)
+share-spec = tie.close (tie.spec returns returns-2 (λ c. search needs) returns-3 (λ c. search needs) returns-4)

@@ -3,12 +3,6 @@ use borrow.Author.Needs.{needs}
 use Rattle.sections.proofs.size_fault.Statement.{statement}
 use Rattle.sections.proofs.size_fault.Tie as tie
 
-u32-at-requires : tie.Need-u32-at-requires
-u32-at-requires c κs = search needs
-
-cast-if1 : tie.Need-cast-if1
-cast-if1 c = search needs
-
 returns : tie.Need-returns
 returns c = search faults
 
@@ -20,4 +14,4 @@ returns-3 c = search faults
 
 pub size-fault-spec : {M : Type 1} → statement M
 size-fault-spec =
-    tie.close (tie.spec u32-at-requires cast-if1 returns returns-2 returns-3)
+    tie.close (tie.spec (λ c κs. search needs) (λ c. search needs) returns returns-2 returns-3)

@@ -20,24 +20,6 @@ abbrev μ-loop : tie.MeasureT-loop
 loop-holds : tie.Need-loop-holds Inv-loop μ-loop
 loop-holds c = (omega arith, put-none _ _, refl)
 
-sub-hex-digit : tie.Need-sub-hex-digit Inv-loop μ-loop
-sub-hex-digit c = search needs
-
-sub-hex-digit-2 : tie.Need-sub-hex-digit-2 Inv-loop μ-loop
-sub-hex-digit-2 c = search needs
-
-hex-digit-requires : tie.Need-hex-digit-requires Inv-loop μ-loop
-hex-digit-requires c κs = search needs
-
-put-requires : tie.Need-put-requires Inv-loop μ-loop
-put-requires c κs = search needs
-
-add-k : tie.Need-add-k Inv-loop μ-loop
-add-k c = search needs
-
-loop-less : tie.Need-loop-less Inv-loop μ-loop
-loop-less c = search needs
-
 loop-again : tie.Need-loop-again Inv-loop μ-loop
 loop-again c =
     let w = c .before .before in
@@ -46,9 +28,6 @@ loop-again c =
       hex-next _ _ _ _ _ _ _ _ _ _ (w .before .before .before .loop-test .taken) (w .before .hex-digit .ensures) (b .loop .inv .1) (w .put .ensures),
       omega (arith, b .loop .inv .2),
     )
-
-same-length : tie.Need-same-length Inv-loop μ-loop
-same-length c = search needs
 
 returns : tie.Need-returns Inv-loop μ-loop
 returns c = hex-end _ _ _ _ _ _ _ (c .loop-test .left) (c .before .loop .inv .1)
@@ -60,12 +39,12 @@ put-hex-spec =
     Inv-loop
     μ-loop
     loop-holds
-    sub-hex-digit
-    sub-hex-digit-2
-    hex-digit-requires
-    put-requires
-    add-k
-    loop-less
+    (λ c. search needs)
+    (λ c. search needs)
+    (λ c κs. search needs)
+    (λ c κs. search needs)
+    (λ c. search needs)
+    (λ c. search needs)
     loop-again
-    same-length
+    (λ c. search needs)
     returns)

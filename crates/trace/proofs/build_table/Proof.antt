@@ -7,17 +7,11 @@ use borrow.Author.Needs.{needs}
 use Rattle.trace.proofs.build_table.Statement.{statement}
 use Rattle.trace.proofs.build_table.Tie as tie
 
-fill-requires : tie.Need-fill-requires
-fill-requires c κs = search needs
-
 store-predecessors-requires : tie.Need-store-predecessors-requires
 store-predecessors-requires c κs = let f = c .before .before .before .fill in
     let a = c .before .before .before .before .before .before .before in
     let e : length (f .last .0) ≡ length (a .args .buffer .now) = f .kept .0 in
     record { room = omega (arith, e, a .pre .room); clear = f .ensures ∙ ap filled (sym e) }
-
-same-length : tie.Need-same-length
-same-length c = search needs
 
 returns : tie.Need-returns
 returns c =
@@ -29,4 +23,4 @@ returns c =
 
 pub build-table-spec : {M : Type 1} → statement M
 build-table-spec =
-    tie.close (tie.spec fill-requires store-predecessors-requires same-length returns)
+    tie.close (tie.spec (λ c κs. search needs) store-predecessors-requires (λ c. search needs) returns)

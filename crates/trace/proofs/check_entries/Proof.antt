@@ -6,30 +6,6 @@ use borrow.Author.Needs.{needs}
 use Rattle.trace.proofs.check_entries.Statement.{statement}
 use Rattle.trace.proofs.check_entries.Tie as tie
 
-store-predecessors-requires : tie.Need-store-predecessors-requires
-store-predecessors-requires c κs = search needs
-
-enum-known-pass : tie.Need-enum-known-pass
-enum-known-pass c = search needs
-
-fill-requires : tie.Need-fill-requires
-fill-requires c κs = search needs
-
-refused-requires : tie.Need-refused-requires
-refused-requires c κs = search needs
-
-enum-known-pass-2 : tie.Need-enum-known-pass-2
-enum-known-pass-2 c = search needs
-
-fill-requires-2 : tie.Need-fill-requires-2
-fill-requires-2 c κs = search needs
-
-refused-requires-2 : tie.Need-refused-requires-2
-refused-requires-2 c κs = search needs
-
-enum-known-pass-3 : tie.Need-enum-known-pass-3
-enum-known-pass-3 c = search needs
-
 check-order-requires : tie.Need-check-order-requires
 check-order-requires c κs =
     let store = c .before .before .before .before .before .before in
@@ -38,9 +14,6 @@ check-order-requires c κs =
     let q = c .before .before .pass3 .given in
     passed-built _ _ (r .ensures) _ _ (q .1) (r .kept .1 .1 .1 .0) (a .pre .room)
 
-same-length : tie.Need-same-length
-same-length c = search needs
-
 returns : tie.Need-returns
 returns c =
     let fill = c .before .before .before in
@@ -48,18 +21,12 @@ returns c =
     let r = arm .before .before .before .before .store-predecessors in
     passed-astray _ _ (r .ensures) _ _ _ _ (arm .pass .given .1) (c .refused .ensures) (fill .fill .ensures ∙ ap filled (r .kept .1 .1 .1 .0))
 
-same-length-2 : tie.Need-same-length-2
-same-length-2 c = search needs
-
 returns-2 : tie.Need-returns-2
 returns-2 c =
     let fill = c .before .before .before in
     let arm = fill .before .before .before in
     let r = arm .before .before .before .before .store-predecessors in
     passed-shared _ _ (r .ensures) _ _ _ _ (arm .pass2 .given .1) (c .refused2 .ensures) (fill .fill2 .ensures ∙ ap filled (r .kept .1 .1 .1 .0))
-
-same-length-3 : tie.Need-same-length-3
-same-length-3 c = search needs
 
 returns-3 : tie.Need-returns-3
 returns-3 c =
@@ -71,18 +38,18 @@ pub check-entries-spec : {M : Type 1} → statement M
 check-entries-spec =
     tie.close
     (tie.spec
-    store-predecessors-requires
-    enum-known-pass
-    fill-requires
-    refused-requires
-    enum-known-pass-2
-    fill-requires-2
-    refused-requires-2
-    enum-known-pass-3
+    (λ c κs. search needs)
+    (λ c. search needs)
+    (λ c κs. search needs)
+    (λ c κs. search needs)
+    (λ c. search needs)
+    (λ c κs. search needs)
+    (λ c κs. search needs)
+    (λ c. search needs)
     check-order-requires
-    same-length
+    (λ c. search needs)
     returns
-    same-length-2
+    (λ c. search needs)
     returns-2
-    same-length-3
+    (λ c. search needs)
     returns-3)

@@ -10,21 +10,6 @@ use borrow.Author.Needs.{needs}
 use Rattle.trace.proofs.check_links.Statement.{statement}
 use Rattle.trace.proofs.check_links.Tie as tie
 
-fill-requires : tie.Need-fill-requires
-fill-requires c κs = search needs
-
-places-fault-requires : tie.Need-places-fault-requires
-places-fault-requires c κs = search needs
-
-enum-known-i : tie.Need-enum-known-i
-enum-known-i c = search needs
-
-refuse-requires : tie.Need-refuse-requires
-refuse-requires c κs = search needs
-
-same-length : tie.Need-same-length
-same-length c = search needs
-
 returns : tie.Need-returns
 returns c =
     let arm = c .before .before in
@@ -34,9 +19,6 @@ returns c =
     answer-few _ _ _ _ (length-nexts (a .section .now) (a .size) (a .entries)) _ _ (places .places-fault .ensures) _ _ _ (arm .i .given .1)
     (c .refuse .ensures) (fill .fill .ensures)
 
-enum-told : tie.Need-enum-told
-enum-told c = search needs
-
 check-entries-requires : tie.Need-check-entries-requires
 check-entries-requires c κs =
     let a = c .before .before .before .before .before .before .before .before .before .before .args in
@@ -44,9 +26,6 @@ check-entries-requires c κs =
     let e : length (f .last .0) ≡ length (a .predecessors .now) = f .kept .0 in
     let room = places-met _ _ _ (c .before .before .before .places-fault .ensures) (c .before .enum-told .given .1) in
     record { room = omega (arith, e, length-nexts (a .section .now) (a .size) (a .entries), room); clear = f .ensures ∙ ap filled (sym e) }
-
-same-length-2 : tie.Need-same-length-2
-same-length-2 c = search needs
 
 returns-2 : tie.Need-returns-2
 returns-2 c =
@@ -62,13 +41,13 @@ pub check-links-spec : {M : Type 1} → statement M
 check-links-spec =
     tie.close
     (tie.spec
-    fill-requires
-    places-fault-requires
-    enum-known-i
-    refuse-requires
-    same-length
+    (λ c κs. search needs)
+    (λ c κs. search needs)
+    (λ c. search needs)
+    (λ c κs. search needs)
+    (λ c. search needs)
     returns
-    enum-told
+    (λ c. search needs)
     check-entries-requires
-    same-length-2
+    (λ c. search needs)
     returns-2)

@@ -6,9 +6,6 @@ use Rattle.trace.specs.Links.{filled}
 use Rattle.trace.proofs.find_cycle.Statement.{statement}
 use Rattle.trace.proofs.find_cycle.Tie as tie
 
-fill-requires : tie.Need-fill-requires
-fill-requires c κs = search needs
-
 first-cyclic-requires : tie.Need-first-cyclic-requires
 first-cyclic-requires c κs = let f = c .before .before .before .fill in
     let a = c .before .before .before .before .before .before .before in
@@ -20,11 +17,5 @@ first-cyclic-requires c κs = let f = c .before .before .before .fill in
       a .pre .1,
     )
 
-same-length : tie.Need-same-length
-same-length c = search needs
-
-returns : tie.Need-returns
-returns c = search needs
-
 pub find-cycle-spec : {M : Type 1} → statement M
-find-cycle-spec = tie.close (tie.spec fill-requires first-cyclic-requires same-length returns)
+find-cycle-spec = tie.close (tie.spec (λ c κs. search needs) first-cyclic-requires (λ c. search needs) (λ c. search needs))

@@ -99,9 +99,6 @@ mul-marks c = omega (arith, inside (c .before .before))
 slice-write-marks : tie.Need-slice-write-marks Inv-loop μ-loop Inv-entries μ-entries
 slice-write-marks c = inside (c .before .before)
 
-next-at-requires : tie.Need-next-at-requires Inv-loop μ-loop Inv-entries μ-entries
-next-at-requires c κs = tt
-
 loop-less : tie.Need-loop-less Inv-loop μ-loop Inv-entries μ-entries
 loop-less c = let d = c .before in
     let h = inner d .before in
@@ -122,12 +119,6 @@ loop-again c = let d = c .before in
           (a .pre .0 .ready .sound) (a .pre .1) (λ e. c .if2 .left (next-is d ∙ e))),
     )
 
-add-i : tie.Need-add-i Inv-loop μ-loop Inv-entries μ-entries
-add-i c = search needs
-
-entries-less : tie.Need-entries-less Inv-loop μ-loop Inv-entries μ-entries
-entries-less c = search needs
-
 entries-again : tie.Need-entries-again Inv-loop μ-loop Inv-entries μ-entries
 entries-again c = let h = c .before in
     let d = h .before .before in
@@ -137,9 +128,6 @@ entries-again c = let h = c .before in
       walk-end (links d) (small d) (h .loop .marks) (d .entries .i) (h .loop .j) (v .1)
           (⊎-elim (λ z. inl (z .left)) (λ z. inr (⊎-elim (λ e. absurd (z .0 .taken e)) (λ l. l) (v .1 .at), z .2 .taken)) (c .loop-test .came)),
     )
-
-found-below-requires : tie.Need-found-below-requires Inv-loop μ-loop Inv-entries μ-entries
-found-below-requires c κs = tt
 
 same-length : tie.Need-same-length Inv-loop μ-loop Inv-entries μ-entries
 same-length c = let d = c .before .before in
@@ -184,12 +172,12 @@ first-cyclic-spec =
     slice-read-if1
     mul-marks
     slice-write-marks
-    next-at-requires
+    (λ c κs. tt)
     loop-less
     loop-again
-    add-i
-    entries-less
+    (λ c. search needs)
+    (λ c. search needs)
     entries-again
-    found-below-requires
+    (λ c κs. tt)
     same-length
     returns)

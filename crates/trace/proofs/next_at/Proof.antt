@@ -8,11 +8,5 @@ use Rattle.trace.proofs.next_at.Tie as tie
 mul-u32-at : tie.Need-mul-u32-at
 mul-u32-at c = let a = c .before .args in omega (arith, entry-low (a .i) (a .size) (omega arith) (omega arith))
 
-u32-at-requires : tie.Need-u32-at-requires
-u32-at-requires c κs = search needs
-
-returns : tie.Need-returns
-returns c = search needs
-
 pub next-at-spec : {M : Type 1} → statement M
-next-at-spec = tie.close (tie.spec mul-u32-at u32-at-requires returns)
+next-at-spec = tie.close (tie.spec mul-u32-at (λ c κs. search needs) (λ c. search needs))

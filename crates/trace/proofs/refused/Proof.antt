@@ -5,14 +5,8 @@ use borrow.Author.Needs.{needs}
 use Rattle.trace.proofs.refused.Statement.{statement}
 use Rattle.trace.proofs.refused.Tie as tie
 
-entry-offset-requires : tie.Need-entry-offset-requires
-entry-offset-requires c κs = search needs
-
-refuse-requires : tie.Need-refuse-requires
-refuse-requires c κs = search needs
-
 returns : tie.Need-returns
 returns c = ap Refused (c .refuse .ensures ∙ ap (refusal _ _) (c .before .entry-offset .ensures .0))
 
 pub refused-spec : {M : Type 1} → statement M
-refused-spec = tie.close (tie.spec entry-offset-requires refuse-requires returns)
+refused-spec = tie.close (tie.spec (λ c κs. search needs) (λ c κs. search needs) returns)

@@ -15,32 +15,17 @@ inside c = ⊎-elim (λ e. absurd (c .if1 .left e)) (λ l. l) (c .before .pre)
 returns : tie.Need-returns
 returns c = record { ends = λ _. (refl, refl); names = λ n. absurd (n (c .if1 .taken)) }
 
-mul-earlier : tie.Need-mul-earlier
-mul-earlier c = search needs
-
 slice-read-earlier : tie.Need-slice-read-earlier
 slice-read-earlier c = inside (c .before)
-
-mul-buffer : tie.Need-mul-buffer
-mul-buffer c = search needs
 
 slice-write-buffer : tie.Need-slice-write-buffer
 slice-write-buffer c = inside (c .before)
 
-same-length : tie.Need-same-length
-same-length c = search needs
-
 returns-2 : tie.Need-returns-2
 returns-2 c = record { ends = λ e. absurd (c .before .before .if1 .left e); names = λ _. (rw (eq-eqb _ _ (c .if2 .taken)), refl) }
 
-same-length-2 : tie.Need-same-length-2
-same-length-2 c = search needs
-
 returns-3 : tie.Need-returns-3
 returns-3 c = record { ends = λ e. absurd (c .before .before .before .if1 .left e); names = λ _. (rw (ne-eqb _ _ (c .before .if2 .left)) (omega arith), refl) }
-
-same-length-3 : tie.Need-same-length-3
-same-length-3 c = search needs
 
 returns-4 : tie.Need-returns-4
 returns-4 c = record { ends = λ e. absurd (c .before .before .before .if1 .left e); names = λ _. (rw (ne-eqb _ _ (c .before .if2 .left)) (omega arith), refl) }
@@ -50,13 +35,13 @@ store-predecessor-spec =
     tie.close
     (tie.spec
     returns
-    mul-earlier
+    (λ c. search needs)
     slice-read-earlier
-    mul-buffer
+    (λ c. search needs)
     slice-write-buffer
-    same-length
+    (λ c. search needs)
     returns-2
-    same-length-2
+    (λ c. search needs)
     returns-3
-    same-length-3
+    (λ c. search needs)
     returns-4)

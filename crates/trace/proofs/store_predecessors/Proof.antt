@@ -41,12 +41,6 @@ loop-holds c =
     let a = c .before .before in
     passing-none _ _ _ _ (length-nexts (a .args .section .now) (a .args .size) (a .args .entries)) (a .pre .clear)
 
-next-at-requires : tie.Need-next-at-requires Inv-loop μ-loop
-next-at-requires c κs = search needs
-
-add-ends : tie.Need-add-ends Inv-loop μ-loop
-add-ends c = search needs
-
 same-length : tie.Need-same-length Inv-loop μ-loop
 same-length c = passing-length (c .before .before .before .before .loop .inv)
 
@@ -69,12 +63,6 @@ store-predecessor-requires c κs =
     let b = c .before .before .before .before in
     let l = passing-length (b .loop .inv) in
     ⊎-elim (λ z. inl (z .0)) (λ z. inr (omega (arith, z .0, l, start b .pre .room))) (stepped (c .before))
-
-add-i : tie.Need-add-i Inv-loop μ-loop
-add-i c = search needs
-
-loop-less : tie.Need-loop-less Inv-loop μ-loop
-loop-less c = search needs
 
 loop-again : tie.Need-loop-again Inv-loop μ-loop
 loop-again c =
@@ -104,13 +92,13 @@ store-predecessors-spec =
     Inv-loop
     μ-loop
     loop-holds
-    next-at-requires
-    add-ends
+    (λ c κs. search needs)
+    (λ c. search needs)
     same-length
     returns
     store-predecessor-requires
-    add-i
-    loop-less
+    (λ c. search needs)
+    (λ c. search needs)
     loop-again
     same-length-2
     returns-2

@@ -7,20 +7,8 @@ use Rattle.volumes.proofs.Laws.{entry-path, entry-references, entry-dir
 use Rattle.volumes.proofs.check_entry.Statement.{statement}
 use Rattle.volumes.proofs.check_entry.Tie as tie
 
-path-fits-requires : tie.Need-path-fits-requires
-path-fits-requires c κs = search needs
-
-refused-requires : tie.Need-refused-requires
-refused-requires c κs = search needs
-
 returns : tie.Need-returns
 returns c = ap checkedOf (c .refused .ensures) ∙ entry-path _ _ _ _ (sym (c .before .before .path-fits .ensures) ∙ not-true _ (c .before .if1 .taken))
-
-references-fit-requires : tie.Need-references-fit-requires
-references-fit-requires c κs = search needs
-
-refused-requires-2 : tie.Need-refused-requires-2
-refused-requires-2 c κs = search needs
 
 returns-2 : tie.Need-returns-2
 returns-2 c =
@@ -29,9 +17,6 @@ returns-2 c =
     ap checkedOf (c .refused2 .ensures)
     ∙ entry-references _ _ _ _ (sym (p .before .path-fits .ensures) ∙ not-false _ (p .if1 .left))
     (sym (references .references-fit .ensures) ∙ not-true _ (c .before .if2 .taken))
-
-check-directories-requires : tie.Need-check-directories-requires
-check-directories-requires c κs = search needs
 
 returns-3 : tie.Need-returns-3
 returns-3 c =
@@ -45,11 +30,11 @@ pub check-entry-spec : {M : Type 1} → statement M
 check-entry-spec =
     tie.close
     (tie.spec
-    path-fits-requires
-    refused-requires
+    (λ c κs. search needs)
+    (λ c κs. search needs)
     returns
-    references-fit-requires
-    refused-requires-2
+    (λ c κs. search needs)
+    (λ c κs. search needs)
     returns-2
-    check-directories-requires
+    (λ c κs. search needs)
     returns-3)

@@ -15,32 +15,14 @@ Inv-loop section l start count size i₀ i = (i ≤ count) × (volumesFrom secti
 abbrev μ-loop : tie.MeasureT-loop
 μ-loop section l start count size i₀ i = count - i
 
-entries-fault-requires : tie.Need-entries-fault-requires Inv-loop μ-loop
-entries-fault-requires c κs = search needs
-
-enum-known-k : tie.Need-enum-known-k Inv-loop μ-loop
-enum-known-k c = search needs
-
-refuse-requires : tie.Need-refuse-requires Inv-loop μ-loop
-refuse-requires c κs = search needs
-
 returns : tie.Need-returns Inv-loop μ-loop
 returns c =
     let arm = c .before .before in
     let entries = arm .before .before in
     volumes-crowded _ (entries .before .before .args .l) _ _ _ _ _ _ (entries .entries-fault .ensures) (arm .k .given .1) (c .refuse .ensures)
 
-enum-told : tie.Need-enum-told Inv-loop μ-loop
-enum-told c = search needs
-
 loop-holds : tie.Need-loop-holds Inv-loop μ-loop
 loop-holds c = (omega arith, volumes-start _ _ _ _)
-
-check-volume-requires : tie.Need-check-volume-requires Inv-loop μ-loop
-check-volume-requires c κs = search needs
-
-enum-known-checked : tie.Need-enum-known-checked Inv-loop μ-loop
-enum-known-checked c = search needs
 
 returns-2 : tie.Need-returns-2 Inv-loop μ-loop
 returns-2 c =
@@ -54,15 +36,6 @@ returns-2 c =
     (volumes-room _ (a .l) _ _ _ (entries .entries-fault .ensures) (told .enum-told .given .1)
     ∙ w .inv .1
     ∙ volumes-refused _ _ _ _ _ _ (omega arith) (sym (volume .check-volume .ensures) ∙ ap checkedOf (arm .checked .given .1)))
-
-enum-told-2 : tie.Need-enum-told-2 Inv-loop μ-loop
-enum-told-2 c = search needs
-
-add-i : tie.Need-add-i Inv-loop μ-loop
-add-i c = search needs
-
-loop-less : tie.Need-loop-less Inv-loop μ-loop
-loop-less c = search needs
 
 loop-again : tie.Need-loop-again Inv-loop μ-loop
 loop-again c =
@@ -85,17 +58,17 @@ check-volumes-spec =
     (tie.spec
     Inv-loop
     μ-loop
-    entries-fault-requires
-    enum-known-k
-    refuse-requires
+    (λ c κs. search needs)
+    (λ c. search needs)
+    (λ c κs. search needs)
     returns
-    enum-told
+    (λ c. search needs)
     loop-holds
-    check-volume-requires
-    enum-known-checked
+    (λ c κs. search needs)
+    (λ c. search needs)
     returns-2
-    enum-told-2
-    add-i
-    loop-less
+    (λ c. search needs)
+    (λ c. search needs)
+    (λ c. search needs)
     loop-again
     returns-3)

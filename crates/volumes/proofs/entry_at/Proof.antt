@@ -6,9 +6,6 @@ use borrow.Author.Needs.{needs}
 use Rattle.volumes.proofs.entry_at.Statement.{statement}
 use Rattle.volumes.proofs.entry_at.Tie as tie
 
-cast-result : tie.Need-cast-result
-cast-result c = search needs
-
 mul-result : tie.Need-mul-result
 mul-result c = let a = c .before .args in omega (arith, entry-low (a .i) (a .l .«volume_entry») (omega arith) (omega arith))
 
@@ -16,4 +13,4 @@ returns : tie.Need-returns
 returns c = let a = c .before .args in (refl, entry-low (a .i) (a .l .«volume_entry») (omega arith) (omega arith))
 
 pub entry-at-spec : {M : Type 1} → statement M
-entry-at-spec = tie.close (tie.spec cast-result mul-result returns)
+entry-at-spec = tie.close (tie.spec (λ c. search needs) mul-result returns)

@@ -5,27 +5,6 @@ use Rattle.volumes.proofs.Laws.{units-hit, units-none}
 use Rattle.volumes.proofs.path_units.Statement.{statement}
 use Rattle.volumes.proofs.path_units.Tie as tie
 
-u32-at-requires : tie.Need-u32-at-requires
-u32-at-requires c κs = search needs
-
-add-u32-at : tie.Need-add-u32-at
-add-u32-at c = search needs
-
-u32-at-requires-2 : tie.Need-u32-at-requires-2
-u32-at-requires-2 c κs = search needs
-
-first-zero-unit-requires : tie.Need-first-zero-unit-requires
-first-zero-unit-requires c κs = search needs
-
-enum-known-k : tie.Need-enum-known-k
-enum-known-k c = search needs
-
-enum-told : tie.Need-enum-told
-enum-told c = search needs
-
-cast-result : tie.Need-cast-result
-cast-result c = search needs
-
 returns : tie.Need-returns
 returns c =
     let search-zero = c .before .before .before in
@@ -44,12 +23,12 @@ pub path-units-spec : {M : Type 1} → statement M
 path-units-spec =
     tie.close
     (tie.spec
-    u32-at-requires
-    add-u32-at
-    u32-at-requires-2
-    first-zero-unit-requires
-    enum-known-k
-    enum-told
-    cast-result
+    (λ c κs. search needs)
+    (λ c. search needs)
+    (λ c κs. search needs)
+    (λ c κs. search needs)
+    (λ c. search needs)
+    (λ c. search needs)
+    (λ c. search needs)
     returns
     returns-2)

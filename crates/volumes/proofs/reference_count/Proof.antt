@@ -8,29 +8,8 @@ use Rattle.volumes.proofs.Laws.{count-none, count-some}
 use Rattle.volumes.proofs.reference_count.Statement.{statement}
 use Rattle.volumes.proofs.reference_count.Tie as tie
 
-add-u32-at : tie.Need-add-u32-at
-add-u32-at c = search needs
-
-u32-at-requires : tie.Need-u32-at-requires
-u32-at-requires c κs = search needs
-
 returns : tie.Need-returns
 returns c = count-none _ _ (omega arith)
-
-add-u32-at-2 : tie.Need-add-u32-at-2
-add-u32-at-2 c = search needs
-
-u32-at-requires-2 : tie.Need-u32-at-requires-2
-u32-at-requires-2 c κs = search needs
-
-cast-at : tie.Need-cast-at
-cast-at c = search needs
-
-add-u32-at-3 : tie.Need-add-u32-at-3
-add-u32-at-3 c = search needs
-
-u32-at-requires-3 : tie.Need-u32-at-requires-3
-u32-at-requires-3 c κs = search needs
 
 returns-2 : tie.Need-returns-2
 returns-2 c =
@@ -43,12 +22,12 @@ pub reference-count-spec : {M : Type 1} → statement M
 reference-count-spec =
     tie.close
     (tie.spec
-    add-u32-at
-    u32-at-requires
+    (λ c. search needs)
+    (λ c κs. search needs)
     returns
-    add-u32-at-2
-    u32-at-requires-2
-    cast-at
-    add-u32-at-3
-    u32-at-requires-3
+    (λ c. search needs)
+    (λ c κs. search needs)
+    (λ c. search needs)
+    (λ c. search needs)
+    (λ c κs. search needs)
     returns-2)

@@ -17,32 +17,11 @@ reader-first : (p : List ℕ) (m n : ℕ) (f : Refusal) → fileAnswer p m ≡ d
 unfolding walked
 reader-first p m n f e = rw e refl
 
-read-file-requires : tie.Need-read-file-requires
-read-file-requires c κs = search needs
-
-enum-told : tie.Need-enum-told
-enum-told c = search needs
-
 walk-accepted-requires : tie.Need-walk-accepted-requires
 walk-accepted-requires c κs =
     let told = c .before .before in
     let read = told .before .before .before .before in
     reader-accepts _ _ _ _ _ (read .read-file .ensures) (told .enum-told .given .1) (read .read-file .kept .1 .0)
-
-enum-known-r : tie.Need-enum-known-r
-enum-known-r c = search needs
-
-enum-told-2 : tie.Need-enum-told-2
-enum-told-2 c = search needs
-
-refuse-requires : tie.Need-refuse-requires
-refuse-requires c κs = search needs
-
-same-length : tie.Need-same-length
-same-length c = search needs
-
-same-length-2 : tie.Need-same-length-2
-same-length-2 c = search needs
 
 returns : tie.Need-returns
 returns c =
@@ -50,16 +29,10 @@ returns c =
     let read = walked .before .before .before .before .before .before .before in
     walks-length _ _ _ _ _ _ _ (read .read-file .kept .1 .0) (walked .walk-accepted .ensures)
 
-same-length-3 : tie.Need-same-length-3
-same-length-3 c = search needs
-
 returns-2 : tie.Need-returns-2
 returns-2 c =
     let read = c .before .before .before .before .before in
     walks-refused _ _ _ _ _ _ (read .read-file .ensures) (c .before .r .given .1) (reader-first _ _ _ _)
-
-same-length-4 : tie.Need-same-length-4
-same-length-4 c = search needs
 
 returns-3 : tie.Need-returns-3
 returns-3 c =
@@ -71,16 +44,16 @@ pub walk-spec : {M : Type 1} → statement M
 walk-spec =
     tie.close
     (tie.spec
-    read-file-requires
-    enum-told
+    (λ c κs. search needs)
+    (λ c. search needs)
     walk-accepted-requires
-    enum-known-r
-    enum-told-2
-    refuse-requires
-    same-length
-    same-length-2
+    (λ c. search needs)
+    (λ c. search needs)
+    (λ c κs. search needs)
+    (λ c. search needs)
+    (λ c. search needs)
     returns
-    same-length-3
+    (λ c. search needs)
     returns-2
-    same-length-4
+    (λ c. search needs)
     returns-3)

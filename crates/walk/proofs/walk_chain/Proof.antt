@@ -47,9 +47,6 @@ slice-write-order c = omega (arith, room c, start (c .before) .pre .0 .fits, c .
 field-at-requires : tie.Need-field-at-requires Inv-loop μ-loop
 field-at-requires c κs = omega (arith, start (c .before) .pre .1)
 
-cast-total : tie.Need-cast-total Inv-loop μ-loop
-cast-total c = search needs
-
 add-total : tie.Need-add-total Inv-loop μ-loop
 add-total c =
     let d = c .before in
@@ -96,7 +93,7 @@ walk-chain-spec =
     mul-order
     slice-write-order
     field-at-requires
-    cast-total
+    (λ c. search needs)
     add-total
     add-steps
     field-at-requires-2

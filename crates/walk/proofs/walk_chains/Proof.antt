@@ -41,9 +41,6 @@ inside c = omega (arith, size (c .before))
 loop-holds : tie.Need-loop-holds Inv-loop μ-loop
 loop-holds c = (omega arith, refl, none-yet _ _ _)
 
-cast-if1 : tie.Need-cast-if1 Inv-loop μ-loop
-cast-if1 c = search needs
-
 mul-if1 : tie.Need-mul-if1 Inv-loop μ-loop
 mul-if1 c = omega (arith, inside c, start (c .before) .pre .0 .places)
 
@@ -58,12 +55,6 @@ walk-chain-requires c κs =
     let v = h .loop .inv in
     let e = head-yes (links h) _ _ (h .loop .h) p (inside b) 0 _ refl (c .before .if1 .taken) in
     (chain-fits (links h) _ _ (h .loop .h) p (inside b) _ _ _ _ e (v .1) (v .2), start h .pre .1)
-
-add-h : tie.Need-add-h Inv-loop μ-loop
-add-h c = search needs
-
-loop-less : tie.Need-loop-less Inv-loop μ-loop
-loop-less c = search needs
 
 loop-again : tie.Need-loop-again Inv-loop μ-loop
 loop-again c =
@@ -99,12 +90,12 @@ walk-chains-spec =
     Inv-loop
     μ-loop
     loop-holds
-    cast-if1
+    (λ c. search needs)
     mul-if1
     shared-slice-read-if1
     walk-chain-requires
-    add-h
-    loop-less
+    (λ c. search needs)
+    (λ c. search needs)
     loop-again
     same-length
     returns)

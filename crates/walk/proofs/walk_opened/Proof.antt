@@ -5,21 +5,6 @@ use borrow.Author.Needs.{needs}
 use Rattle.walk.proofs.walk_opened.Statement.{statement}
 use Rattle.walk.proofs.walk_opened.Tie as tie
 
-link-count-requires : tie.Need-link-count-requires
-link-count-requires c κs = search needs
-
-cast-if1 : tie.Need-cast-if1
-cast-if1 c = search needs
-
-fill-requires : tie.Need-fill-requires
-fill-requires c κs = search needs
-
-refuse-requires : tie.Need-refuse-requires
-refuse-requires c κs = search needs
-
-same-length : tie.Need-same-length
-same-length c = search needs
-
 returns : tie.Need-returns
 returns c =
     let filled = c .before .before .before in
@@ -27,9 +12,6 @@ returns c =
     let count = test .before in
     let start = count .before .before .before .before .before .before in
     walks-short _ _ (start .pre .0) _ (start .pre .1) _ _ _ (omega (arith, count .link-count .ensures)) (c .refuse .ensures) (filled .fill .ensures)
-
-part-of-requires : tie.Need-part-of-requires
-part-of-requires c κs = search needs
 
 walk-chains-requires : tie.Need-walk-chains-requires
 walk-chains-requires c κs =
@@ -39,12 +21,6 @@ walk-chains-requires c κs =
     let links = count .link-count .ensures in
     let bytes = part .part-of .ensures .contents in
     (walk-fits-at _ _ (start .pre .0) _ (start .pre .1) _ _ _ bytes links (omega arith), section-whole _ _ (start .pre .0) _ (start .pre .1) _ _ bytes links)
-
-same-length-2 : tie.Need-same-length-2
-same-length-2 c = search needs
-
-same-length-3 : tie.Need-same-length-3
-same-length-3 c = search needs
 
 returns-2 : tie.Need-returns-2
 returns-2 c =
@@ -59,14 +35,14 @@ pub walk-opened-spec : {M : Type 1} → statement M
 walk-opened-spec =
     tie.close
     (tie.spec
-    link-count-requires
-    cast-if1
-    fill-requires
-    refuse-requires
-    same-length
+    (λ c κs. search needs)
+    (λ c. search needs)
+    (λ c κs. search needs)
+    (λ c κs. search needs)
+    (λ c. search needs)
     returns
-    part-of-requires
+    (λ c κs. search needs)
     walk-chains-requires
-    same-length-2
-    same-length-3
+    (λ c. search needs)
+    (λ c. search needs)
     returns-2)

@@ -25,20 +25,11 @@ long c = laid-long _ _ _ _ (c .loop .inv .1) (omega (arith, length-take (c .loop
 loop-holds : tie.Need-loop-holds Inv-loop μ-loop
 loop-holds c = (omega arith, sym (patch-none _ _))
 
-shared-slice-read-output : tie.Need-shared-slice-read-output Inv-loop μ-loop
-shared-slice-read-output c = search needs
-
 add-output : tie.Need-add-output Inv-loop μ-loop
 add-output c = let b = c .before .before in omega (arith, b .before .pre, b .before .good)
 
 slice-write-output : tie.Need-slice-write-output Inv-loop μ-loop
 slice-write-output c = let b = c .before .before in omega (arith, b .before .pre, long b)
-
-add-i : tie.Need-add-i Inv-loop μ-loop
-add-i c = search needs
-
-loop-less : tie.Need-loop-less Inv-loop μ-loop
-loop-less c = search needs
 
 loop-again : tie.Need-loop-again Inv-loop μ-loop
 loop-again c =
@@ -65,11 +56,11 @@ put-bytes-spec =
     Inv-loop
     μ-loop
     loop-holds
-    shared-slice-read-output
+    (λ c. search needs)
     add-output
     slice-write-output
-    add-i
-    loop-less
+    (λ c. search needs)
+    (λ c. search needs)
     loop-again
     same-length
     returns)

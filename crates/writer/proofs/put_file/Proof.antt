@@ -25,9 +25,6 @@ meets s =
     let r = s .pre .0 in
     (trace-place _ _ _ _ _ r, strings-place _ _ _ _ _ r, volumes-place _ _ _ _ _ r, size-place _ _ _ _ _ r)
 
-number-requires : tie.Need-number-requires
-number-requires c κs = search needs
-
 put-head-requires : tie.Need-put-head-requires
 put-head-requires c κs =
     let s = c .before .before .before .before .before .before .before .before in
@@ -35,17 +32,11 @@ put-head-requires c κs =
     let m = meets s in
     (s .pre .0 .writable, omega (arith, m .0, m .1, m .2, m .3, s .pre .1), n .0, n .1)
 
-cast-put-metrics : tie.Need-cast-put-metrics
-cast-put-metrics c = search needs
-
 put-metrics-requires : tie.Need-put-metrics-requires
 put-metrics-requires c κs =
     let head = c .before .before .before .before in
     let m = meets (start head) in
     (start head .pre .0 .writable, omega (arith, m .0, m .1, m .2, m .3, start head .pre .1, head .put-head .kept .0))
-
-cast-put-trace : tie.Need-cast-put-trace
-cast-put-trace c = search needs
 
 put-trace-requires : tie.Need-put-trace-requires
 put-trace-requires c κs =
@@ -54,9 +45,6 @@ put-trace-requires c κs =
     let m = meets (start head) in
     (start head .pre .0 .writable, omega (arith, m .1, m .2, m .3, start head .pre .1, head .put-head .kept .0, metrics .put-metrics .kept .0))
 
-cast-put-bytes : tie.Need-cast-put-bytes
-cast-put-bytes c = search needs
-
 put-bytes-requires : tie.Need-put-bytes-requires
 put-bytes-requires c κs =
     let trace = c .before .before .before .before in
@@ -64,9 +52,6 @@ put-bytes-requires c κs =
     let head = metrics .before .before .before .before .before in
     let m = meets (start head) in
     omega (arith, m .2, m .3, start head .pre .1, head .put-head .kept .0, metrics .put-metrics .kept .0, trace .put-trace .kept .0)
-
-cast-put-bytes-2 : tie.Need-cast-put-bytes-2
-cast-put-bytes-2 c = search needs
 
 put-bytes-requires-2 : tie.Need-put-bytes-requires-2
 put-bytes-requires-2 c κs =
@@ -109,15 +94,15 @@ pub put-file-spec : {M : Type 1} → statement M
 put-file-spec =
     tie.close
     (tie.spec
-    number-requires
+    (λ c κs. search needs)
     put-head-requires
-    cast-put-metrics
+    (λ c. search needs)
     put-metrics-requires
-    cast-put-trace
+    (λ c. search needs)
     put-trace-requires
-    cast-put-bytes
+    (λ c. search needs)
     put-bytes-requires
-    cast-put-bytes-2
+    (λ c. search needs)
     put-bytes-requires-2
     same-length
     returns)

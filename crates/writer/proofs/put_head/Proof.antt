@@ -12,37 +12,10 @@ use borrow.Author.Needs.{needs}
 use Rattle.writer.proofs.put_head.Statement.{statement}
 use Rattle.writer.proofs.put_head.Tie as tie
 
-slice-aggregate-put-numbers : tie.Need-slice-aggregate-put-numbers
-slice-aggregate-put-numbers c = search needs
-
-slice-aggregate-put-numbers-2 : tie.Need-slice-aggregate-put-numbers-2
-slice-aggregate-put-numbers-2 c = search needs
-
 put-numbers-requires : tie.Need-put-numbers-requires
 put-numbers-requires c κs =
     let s = c .before .before .before .before .before in
     (refl, first-ordered (s .args .l) (s .pre .0) (s .args .p) (s .args .g) (s .args .version) [] (omega arith) _ (s .pre .1))
-
-put-units-requires : tie.Need-put-units-requires
-put-units-requires c κs = search needs
-
-mul-put-fields : tie.Need-mul-put-fields
-mul-put-fields c = search needs
-
-add-put-fields : tie.Need-add-put-fields
-add-put-fields c = search needs
-
-put-fields-requires : tie.Need-put-fields-requires
-put-fields-requires c κs = search needs
-
-cast-put-zeros : tie.Need-cast-put-zeros
-cast-put-zeros c = search needs
-
-add-put-zeros : tie.Need-add-put-zeros
-add-put-zeros c = search needs
-
-cast-put-zeros-2 : tie.Need-cast-put-zeros-2
-cast-put-zeros-2 c = search needs
 
 put-zeros-requires : tie.Need-put-zeros-requires
 put-zeros-requires c κs =
@@ -54,9 +27,6 @@ put-zeros-requires c κs =
       omega
           (arith, fields .put-fields .kept .0, units .put-units .kept .0, numbers .put-numbers .kept .0, s .pre .1),
     )
-
-same-length : tie.Need-same-length
-same-length c = search needs
 
 returns : tie.Need-returns
 returns c =
@@ -80,16 +50,16 @@ pub put-head-spec : {M : Type 1} → statement M
 put-head-spec =
     tie.close
     (tie.spec
-    slice-aggregate-put-numbers
-    slice-aggregate-put-numbers-2
+    (λ c. search needs)
+    (λ c. search needs)
     put-numbers-requires
-    put-units-requires
-    mul-put-fields
-    add-put-fields
-    put-fields-requires
-    cast-put-zeros
-    add-put-zeros
-    cast-put-zeros-2
+    (λ c κs. search needs)
+    (λ c. search needs)
+    (λ c. search needs)
+    (λ c κs. search needs)
+    (λ c. search needs)
+    (λ c. search needs)
+    (λ c. search needs)
     put-zeros-requires
-    same-length
+    (λ c. search needs)
     returns)

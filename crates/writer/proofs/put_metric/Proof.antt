@@ -8,57 +8,6 @@ use borrow.Author.Needs.{needs}
 use Rattle.writer.proofs.put_metric.Statement.{statement}
 use Rattle.writer.proofs.put_metric.Tie as tie
 
-cast-offset : tie.Need-cast-offset
-cast-offset c = search needs
-
-add-offset : tie.Need-add-offset
-add-offset c = search needs
-
-cast-units : tie.Need-cast-units
-cast-units c = search needs
-
-add-units : tie.Need-add-units
-add-units c = search needs
-
-mul-number-at : tie.Need-mul-number-at
-mul-number-at c = search needs
-
-number-at-requires : tie.Need-number-at-requires
-number-at-requires c κs = search needs
-
-put-field-requires : tie.Need-put-field-requires
-put-field-requires c κs = search needs
-
-add-put-field : tie.Need-add-put-field
-add-put-field c = search needs
-
-mul-number-at-2 : tie.Need-mul-number-at-2
-mul-number-at-2 c = search needs
-
-add-number-at : tie.Need-add-number-at
-add-number-at c = search needs
-
-number-at-requires-2 : tie.Need-number-at-requires-2
-number-at-requires-2 c κs = search needs
-
-put-field-requires-2 : tie.Need-put-field-requires-2
-put-field-requires-2 c κs = search needs
-
-add-put-zeros : tie.Need-add-put-zeros
-add-put-zeros c = search needs
-
-cast-put-zeros : tie.Need-cast-put-zeros
-cast-put-zeros c = search needs
-
-add-put-zeros-2 : tie.Need-add-put-zeros-2
-add-put-zeros-2 c = search needs
-
-put-zeros-requires : tie.Need-put-zeros-requires
-put-zeros-requires c κs = search needs
-
-same-length : tie.Need-same-length
-same-length c = search needs
-
 returns : tie.Need-returns
 returns c =
     let zeros = c .before .before in
@@ -83,21 +32,21 @@ pub put-metric-spec : {M : Type 1} → statement M
 put-metric-spec =
     tie.close
     (tie.spec
-    cast-offset
-    add-offset
-    cast-units
-    add-units
-    mul-number-at
-    number-at-requires
-    put-field-requires
-    add-put-field
-    mul-number-at-2
-    add-number-at
-    number-at-requires-2
-    put-field-requires-2
-    add-put-zeros
-    cast-put-zeros
-    add-put-zeros-2
-    put-zeros-requires
-    same-length
+    (λ c. search needs)
+    (λ c. search needs)
+    (λ c. search needs)
+    (λ c. search needs)
+    (λ c. search needs)
+    (λ c κs. search needs)
+    (λ c κs. search needs)
+    (λ c. search needs)
+    (λ c. search needs)
+    (λ c. search needs)
+    (λ c κs. search needs)
+    (λ c κs. search needs)
+    (λ c. search needs)
+    (λ c. search needs)
+    (λ c. search needs)
+    (λ c κs. search needs)
+    (λ c. search needs)
     returns)

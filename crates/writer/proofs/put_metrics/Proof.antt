@@ -35,12 +35,6 @@ long b = laying-long _ _ _ _ (sized (start b)) _ (start b .pre .1) _ _ (b .loop 
 loop-holds : tie.Need-loop-holds Inv-loop μ-loop
 loop-holds c = let s = c .before .before in laying-start _ _ _ _ (sized s) _ (s .pre .1)
 
-cast-put-metric : tie.Need-cast-put-metric Inv-loop μ-loop
-cast-put-metric c = search needs
-
-cast-put-metric-2 : tie.Need-cast-put-metric-2 Inv-loop μ-loop
-cast-put-metric-2 c = search needs
-
 mul-put-metric : tie.Need-mul-put-metric Inv-loop μ-loop
 mul-put-metric c =
     let b = c .before .before .before in
@@ -53,12 +47,6 @@ add-put-metric c =
 
 put-metric-requires : tie.Need-put-metric-requires Inv-loop μ-loop
 put-metric-requires c κs = let b = c .before .before .before in (start b .pre .0, room (c .before .before))
-
-add-i : tie.Need-add-i Inv-loop μ-loop
-add-i c = search needs
-
-loop-less : tie.Need-loop-less Inv-loop μ-loop
-loop-less c = search needs
 
 loop-again : tie.Need-loop-again Inv-loop μ-loop
 loop-again c =
@@ -81,13 +69,13 @@ put-metrics-spec =
     Inv-loop
     μ-loop
     loop-holds
-    cast-put-metric
-    cast-put-metric-2
+    (λ c. search needs)
+    (λ c. search needs)
     mul-put-metric
     add-put-metric
     put-metric-requires
-    add-i
-    loop-less
+    (λ c. search needs)
+    (λ c. search needs)
     loop-again
     same-length
     returns)

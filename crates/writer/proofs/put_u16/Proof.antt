@@ -7,23 +7,8 @@ use borrow.Author.Needs.{needs}
 use Rattle.writer.proofs.put_u16.Statement.{statement}
 use Rattle.writer.proofs.put_u16.Tie as tie
 
-cast-output : tie.Need-cast-output
-cast-output c = search needs
-
-slice-write-output : tie.Need-slice-write-output
-slice-write-output c = search needs
-
-cast-output-2 : tie.Need-cast-output-2
-cast-output-2 c = search needs
-
-add-output : tie.Need-add-output
-add-output c = search needs
-
 slice-write-output-2 : tie.Need-slice-write-output-2
 slice-write-output-2 c = simp length-set (omega (arith, c .pre))
-
-same-length : tie.Need-same-length
-same-length c = search needs
 
 returns : tie.Need-returns
 unfolding bytesOf
@@ -33,10 +18,10 @@ pub put-u16-spec : {M : Type 1} → statement M
 put-u16-spec =
     tie.close
     (tie.spec
-    cast-output
-    slice-write-output
-    cast-output-2
-    add-output
+    (λ c. search needs)
+    (λ c. search needs)
+    (λ c. search needs)
+    (λ c. search needs)
     slice-write-output-2
-    same-length
+    (λ c. search needs)
     returns)

@@ -7,27 +7,12 @@ use borrow.Author.Needs.{needs}
 use Rattle.head.proofs.checks.check_form.Statement.{statement}
 use Rattle.head.proofs.checks.check_form.Tie as tie
 
-cast-required : tie.Need-cast-required
-cast-required c = search needs
-
 returns : tie.Need-returns
 unfolding formPlan
 returns c = search steps depth 12
 
 slice-aggregate-find-form : tie.Need-slice-aggregate-find-form
 slice-aggregate-find-form c = simp length-take (omega arith)
-
-find-form-requires : tie.Need-find-form-requires
-find-form-requires c κs = search needs
-
-enum-known-l : tie.Need-enum-known-l
-enum-known-l c = search needs
-
-enum-told : tie.Need-enum-told
-enum-told c = search needs
-
-start-refused-requires : tie.Need-start-refused-requires
-start-refused-requires c κs = search needs
 
 returns-2 : tie.Need-returns-2
 unfolding formPlan
@@ -41,12 +26,12 @@ pub check-form-spec : {M : Type 1} → statement M
 check-form-spec =
     tie.close
     (tie.spec
-    cast-required
+    (λ c. search needs)
     returns
     slice-aggregate-find-form
-    find-form-requires
-    enum-known-l
-    enum-told
-    start-refused-requires
+    (λ c κs. search needs)
+    (λ c. search needs)
+    (λ c. search needs)
+    (λ c κs. search needs)
     returns-2
     returns-3)

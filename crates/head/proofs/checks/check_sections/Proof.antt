@@ -7,9 +7,6 @@ use borrow.Author.Needs.{needs}
 use Rattle.head.proofs.checks.check_sections.Statement.{statement}
 use Rattle.head.proofs.checks.check_sections.Tie as tie
 
-cast-required : tie.Need-cast-required
-cast-required c = search needs
-
 returns : tie.Need-returns
 unfolding sectionPlan
 returns c = search steps depth 12
@@ -17,36 +14,12 @@ returns c = search steps depth 12
 slice-aggregate-head-of : tie.Need-slice-aggregate-head-of
 slice-aggregate-head-of c = simp length-take (omega arith)
 
-head-of-requires : tie.Need-head-of-requires
-head-of-requires c κs = search needs
-
-outside-fault-requires : tie.Need-outside-fault-requires
-outside-fault-requires c κs = search needs
-
-enum-known-i : tie.Need-enum-known-i
-enum-known-i c = search needs
-
-refuse-requires : tie.Need-refuse-requires
-refuse-requires c κs = search needs
-
 returns-2 : tie.Need-returns-2
 returns-2 c =
     let arm = c .before .before in
     let outside = arm .before .before in
     let head = outside .before in
     outside-refused _ _ _ (omega arith) (head .head-of .ensures) _ _ _ _ (outside .outside-fault .ensures) (arm .i .given .1) (c .refuse .ensures)
-
-enum-told : tie.Need-enum-told
-enum-told c = search needs
-
-shared-fault-requires : tie.Need-shared-fault-requires
-shared-fault-requires c κs = search needs
-
-enum-known-i-2 : tie.Need-enum-known-i-2
-enum-known-i-2 c = search needs
-
-refuse-requires-2 : tie.Need-refuse-requires-2
-refuse-requires-2 c κs = search needs
 
 returns-3 : tie.Need-returns-3
 returns-3 c =
@@ -57,9 +30,6 @@ returns-3 c =
     let head = outside .before in
     shared-refused _ _ _ (omega arith) (head .head-of .ensures) _ (outside .outside-fault .ensures) (told .enum-told .given .1) _ _ _ _
     (shared .shared-fault .ensures) (arm .i2 .given .1) (c .refuse2 .ensures)
-
-enum-told-2 : tie.Need-enum-told-2
-enum-told-2 c = search needs
 
 returns-4 : tie.Need-returns-4
 returns-4 c =
@@ -74,18 +44,18 @@ pub check-sections-spec : {M : Type 1} → statement M
 check-sections-spec =
     tie.close
     (tie.spec
-    cast-required
+    (λ c. search needs)
     returns
     slice-aggregate-head-of
-    head-of-requires
-    outside-fault-requires
-    enum-known-i
-    refuse-requires
+    (λ c κs. search needs)
+    (λ c κs. search needs)
+    (λ c. search needs)
+    (λ c κs. search needs)
     returns-2
-    enum-told
-    shared-fault-requires
-    enum-known-i-2
-    refuse-requires-2
+    (λ c. search needs)
+    (λ c κs. search needs)
+    (λ c. search needs)
+    (λ c κs. search needs)
     returns-3
-    enum-told-2
+    (λ c. search needs)
     returns-4)

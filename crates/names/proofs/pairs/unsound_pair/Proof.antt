@@ -20,36 +20,6 @@ abbrev μ-loop : tie.MeasureT-loop
 loop-holds : tie.Need-loop-holds Inv-loop μ-loop
 loop-holds c = (omega arith, first-start _ _)
 
-cast-number-at : tie.Need-cast-number-at Inv-loop μ-loop
-cast-number-at c = search needs
-
-mul-number-at : tie.Need-mul-number-at Inv-loop μ-loop
-mul-number-at c = search needs
-
-number-at-requires : tie.Need-number-at-requires Inv-loop μ-loop
-number-at-requires c κs = search needs
-
-cast-number-at-2 : tie.Need-cast-number-at-2 Inv-loop μ-loop
-cast-number-at-2 c = search needs
-
-mul-number-at-2 : tie.Need-mul-number-at-2 Inv-loop μ-loop
-mul-number-at-2 c = search needs
-
-add-number-at : tie.Need-add-number-at Inv-loop μ-loop
-add-number-at c = search needs
-
-number-at-requires-2 : tie.Need-number-at-requires-2 Inv-loop μ-loop
-number-at-requires-2 c κs = search needs
-
-name-sound-requires : tie.Need-name-sound-requires Inv-loop μ-loop
-name-sound-requires c κs = search needs
-
-cast-t14 : tie.Need-cast-t14 Inv-loop μ-loop
-cast-t14 c = search needs
-
-name-field-at-requires : tie.Need-name-field-at-requires Inv-loop μ-loop
-name-field-at-requires c κs = search needs
-
 returns : tie.Need-returns Inv-loop μ-loop
 unfolding unsoundPair
 returns c =
@@ -60,12 +30,6 @@ returns c =
     let p = pair .before .before .before .before .before .args .pairs .now in
     let e = fails-at (sound _) (firstOf p) (secondOf p) (w .i) (pair .number-at .ensures) (units .number-at2 .ensures) (test .name-sound .ensures) in
     fault-hit _ _ _ _ (w .inv .1 ∙ first-hit _ _ _ (omega arith) (e ∙ c .before .if1 .taken)) (c .name-field-at .ensures)
-
-add-i : tie.Need-add-i Inv-loop μ-loop
-add-i c = search needs
-
-loop-less : tie.Need-loop-less Inv-loop μ-loop
-loop-less c = search needs
 
 loop-again : tie.Need-loop-again Inv-loop μ-loop
 loop-again c =
@@ -87,18 +51,18 @@ unsound-pair-spec =
     Inv-loop
     μ-loop
     loop-holds
-    cast-number-at
-    mul-number-at
-    number-at-requires
-    cast-number-at-2
-    mul-number-at-2
-    add-number-at
-    number-at-requires-2
-    name-sound-requires
-    cast-t14
-    name-field-at-requires
+    (λ c. search needs)
+    (λ c. search needs)
+    (λ c κs. search needs)
+    (λ c. search needs)
+    (λ c. search needs)
+    (λ c. search needs)
+    (λ c κs. search needs)
+    (λ c κs. search needs)
+    (λ c. search needs)
+    (λ c κs. search needs)
     returns
-    add-i
-    loop-less
+    (λ c. search needs)
+    (λ c. search needs)
     loop-again
     returns-2)

@@ -15,21 +15,6 @@ Inv-loop text h₀ i₀ h i = (i ≤ length text) × (plain h (drop i text) ≡ 
 abbrev μ-loop : tie.MeasureT-loop
 μ-loop text h₀ i₀ h i = length text - i
 
-loop-holds : tie.Need-loop-holds Inv-loop μ-loop
-loop-holds c = search needs
-
-sub-loop : tie.Need-sub-loop Inv-loop μ-loop
-sub-loop c = search needs
-
-eight-bytes-requires : tie.Need-eight-bytes-requires Inv-loop μ-loop
-eight-bytes-requires c κs = search needs
-
-add-i : tie.Need-add-i Inv-loop μ-loop
-add-i c = search needs
-
-loop-less : tie.Need-loop-less Inv-loop μ-loop
-loop-less c = search needs
-
 loop-again : tie.Need-loop-again Inv-loop μ-loop
 loop-again c =
     let b = c .before .before in
@@ -40,9 +25,6 @@ loop-again c =
           (sym (plain-fours s (b .loop .h) (b .loop .i) l) ∙ b .loop .inv .1),
     )
 
-rest-bytes-requires : tie.Need-rest-bytes-requires Inv-loop μ-loop
-rest-bytes-requires c κs = search needs
-
 returns : tie.Need-returns Inv-loop μ-loop
 returns c = c .rest-bytes .ensures ∙ c .before .before .loop .inv .1
 
@@ -52,11 +34,11 @@ bytes-by-eights-spec =
     (tie.spec
     Inv-loop
     μ-loop
-    loop-holds
-    sub-loop
-    eight-bytes-requires
-    add-i
-    loop-less
+    (λ c. search needs)
+    (λ c. search needs)
+    (λ c κs. search needs)
+    (λ c. search needs)
+    (λ c. search needs)
     loop-again
-    rest-bytes-requires
+    (λ c κs. search needs)
     returns)

@@ -4,18 +4,6 @@ use borrow.Author.Needs.{needs}
 use Rattle.power_hash.proofs.eights.eight_bytes.Statement.{statement}
 use Rattle.power_hash.proofs.eights.eight_bytes.Tie as tie
 
-two-fours-requires : tie.Need-two-fours-requires
-two-fours-requires c κs = search needs
-
-cast-eight-step : tie.Need-cast-eight-step
-cast-eight-step c = search needs
-
-cast-eight-step-2 : tie.Need-cast-eight-step-2
-cast-eight-step-2 c = search needs
-
-eight-step-requires : tie.Need-eight-step-requires
-eight-step-requires c κs = search needs
-
 returns : tie.Need-returns
 returns c =
     let a = c .before .before .before .args in
@@ -24,4 +12,4 @@ returns c =
 pub eight-bytes-spec : {M : Type 1} → statement M
 eight-bytes-spec =
     tie.close
-    (tie.spec two-fours-requires cast-eight-step cast-eight-step-2 eight-step-requires returns)
+    (tie.spec (λ c κs. search needs) (λ c. search needs) (λ c. search needs) (λ c κs. search needs) returns)

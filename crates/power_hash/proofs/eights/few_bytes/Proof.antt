@@ -7,9 +7,6 @@ use borrow.Author.Needs.{needs}
 use Rattle.power_hash.proofs.eights.few_bytes.Statement.{statement}
 use Rattle.power_hash.proofs.eights.few_bytes.Tie as tie
 
-end-bytes-requires : tie.Need-end-bytes-requires
-end-bytes-requires c κs = search needs
-
 returns : tie.Need-returns
 unfolding geometric
 returns c =
@@ -17,4 +14,4 @@ returns c =
     end-vista s 0 0 _ (omega arith) (omega arith) refl (c .end-bytes .ensures)
 
 pub few-bytes-spec : {M : Type 1} → statement M
-few-bytes-spec = tie.close (tie.spec end-bytes-requires returns)
+few-bytes-spec = tie.close (tie.spec (λ c κs. search needs) returns)

@@ -7,9 +7,6 @@ use borrow.Author.Needs.{needs}
 use Rattle.power_hash.proofs.eights.few_numbers.Statement.{statement}
 use Rattle.power_hash.proofs.eights.few_numbers.Tie as tie
 
-end-numbers-requires : tie.Need-end-numbers-requires
-end-numbers-requires c κs = search needs
-
 returns : tie.Need-returns
 unfolding geometric
 returns c =
@@ -17,4 +14,4 @@ returns c =
     end-vista s 0 0 _ (omega arith) (omega arith) refl (c .end-numbers .ensures)
 
 pub few-numbers-spec : {M : Type 1} → statement M
-few-numbers-spec = tie.close (tie.spec end-numbers-requires returns)
+few-numbers-spec = tie.close (tie.spec (λ c κs. search needs) returns)

@@ -6,27 +6,12 @@ use borrow.Author.Needs.{needs}
 use Rattle.power_hash.proofs.eights.from_eight_bytes.Statement.{statement}
 use Rattle.power_hash.proofs.eights.from_eight_bytes.Tie as tie
 
-eight-bytes-requires : tie.Need-eight-bytes-requires
-eight-bytes-requires c κs = search needs
-
-end-bytes-requires : tie.Need-end-bytes-requires
-end-bytes-requires c κs = search needs
-
 returns : tie.Need-returns
 unfolding geometric
 returns c =
     let s = c .before .before .before .before .before .args .text .now in
     end-vista s _ 8 _ (omega arith) (omega arith) (rw (c .before .before .before .eight-bytes .ensures) (eight-first s (omega arith)))
     (c .end-bytes .ensures)
-
-four-bytes-requires : tie.Need-four-bytes-requires
-four-bytes-requires c κs = search needs
-
-four-step-requires : tie.Need-four-step-requires
-four-step-requires c κs = search needs
-
-end-bytes-requires-2 : tie.Need-end-bytes-requires-2
-end-bytes-requires-2 c κs = search needs
 
 returns-2 : tie.Need-returns-2
 unfolding geometric
@@ -41,10 +26,10 @@ pub from-eight-bytes-spec : {M : Type 1} → statement M
 from-eight-bytes-spec =
     tie.close
     (tie.spec
-    eight-bytes-requires
-    end-bytes-requires
+    (λ c κs. search needs)
+    (λ c κs. search needs)
     returns
-    four-bytes-requires
-    four-step-requires
-    end-bytes-requires-2
+    (λ c κs. search needs)
+    (λ c κs. search needs)
+    (λ c κs. search needs)
     returns-2)

@@ -6,27 +6,12 @@ use borrow.Author.Needs.{needs}
 use Rattle.power_hash.proofs.eights.from_eight_numbers.Statement.{statement}
 use Rattle.power_hash.proofs.eights.from_eight_numbers.Tie as tie
 
-eight-numbers-requires : tie.Need-eight-numbers-requires
-eight-numbers-requires c κs = search needs
-
-end-numbers-requires : tie.Need-end-numbers-requires
-end-numbers-requires c κs = search needs
-
 returns : tie.Need-returns
 unfolding geometric
 returns c =
     let s = c .before .before .before .before .before .args .cs .now in
     end-vista s _ 8 _ (omega arith) (omega arith) (rw (c .before .before .before .eight-numbers .ensures) (eight-first s (omega arith)))
     (c .end-numbers .ensures)
-
-four-numbers-requires : tie.Need-four-numbers-requires
-four-numbers-requires c κs = search needs
-
-four-step-requires : tie.Need-four-step-requires
-four-step-requires c κs = search needs
-
-end-numbers-requires-2 : tie.Need-end-numbers-requires-2
-end-numbers-requires-2 c κs = search needs
 
 returns-2 : tie.Need-returns-2
 unfolding geometric
@@ -41,10 +26,10 @@ pub from-eight-numbers-spec : {M : Type 1} → statement M
 from-eight-numbers-spec =
     tie.close
     (tie.spec
-    eight-numbers-requires
-    end-numbers-requires
+    (λ c κs. search needs)
+    (λ c κs. search needs)
     returns
-    four-numbers-requires
-    four-step-requires
-    end-numbers-requires-2
+    (λ c κs. search needs)
+    (λ c κs. search needs)
+    (λ c κs. search needs)
     returns-2)

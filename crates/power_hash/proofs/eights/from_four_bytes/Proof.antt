@@ -6,12 +6,6 @@ use borrow.Author.Needs.{needs}
 use Rattle.power_hash.proofs.eights.from_four_bytes.Statement.{statement}
 use Rattle.power_hash.proofs.eights.from_four_bytes.Tie as tie
 
-four-bytes-requires : tie.Need-four-bytes-requires
-four-bytes-requires c κs = search needs
-
-end-bytes-requires : tie.Need-end-bytes-requires
-end-bytes-requires c κs = search needs
-
 returns : tie.Need-returns
 unfolding geometric
 returns c =
@@ -19,4 +13,4 @@ returns c =
     end-vista s _ 4 _ (omega arith) (omega arith) (rw (c .before .before .four-bytes .ensures) (four-first s (omega arith))) (c .end-bytes .ensures)
 
 pub from-four-bytes-spec : {M : Type 1} → statement M
-from-four-bytes-spec = tie.close (tie.spec four-bytes-requires end-bytes-requires returns)
+from-four-bytes-spec = tie.close (tie.spec (λ c κs. search needs) (λ c κs. search needs) returns)

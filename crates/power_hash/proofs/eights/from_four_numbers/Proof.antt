@@ -6,12 +6,6 @@ use borrow.Author.Needs.{needs}
 use Rattle.power_hash.proofs.eights.from_four_numbers.Statement.{statement}
 use Rattle.power_hash.proofs.eights.from_four_numbers.Tie as tie
 
-four-numbers-requires : tie.Need-four-numbers-requires
-four-numbers-requires c κs = search needs
-
-end-numbers-requires : tie.Need-end-numbers-requires
-end-numbers-requires c κs = search needs
-
 returns : tie.Need-returns
 unfolding geometric
 returns c =
@@ -19,4 +13,4 @@ returns c =
     end-vista s _ 4 _ (omega arith) (omega arith) (rw (c .before .before .four-numbers .ensures) (four-first s (omega arith))) (c .end-numbers .ensures)
 
 pub from-four-numbers-spec : {M : Type 1} → statement M
-from-four-numbers-spec = tie.close (tie.spec four-numbers-requires end-numbers-requires returns)
+from-four-numbers-spec = tie.close (tie.spec (λ c κs. search needs) (λ c κs. search needs) returns)

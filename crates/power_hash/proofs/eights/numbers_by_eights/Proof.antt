@@ -15,21 +15,6 @@ Inv-loop cs h₀ i₀ h i = (i ≤ length cs) × (plain h (drop i cs) ≡ vista 
 abbrev μ-loop : tie.MeasureT-loop
 μ-loop cs h₀ i₀ h i = length cs - i
 
-loop-holds : tie.Need-loop-holds Inv-loop μ-loop
-loop-holds c = search needs
-
-sub-loop : tie.Need-sub-loop Inv-loop μ-loop
-sub-loop c = search needs
-
-eight-numbers-requires : tie.Need-eight-numbers-requires Inv-loop μ-loop
-eight-numbers-requires c κs = search needs
-
-add-i : tie.Need-add-i Inv-loop μ-loop
-add-i c = search needs
-
-loop-less : tie.Need-loop-less Inv-loop μ-loop
-loop-less c = search needs
-
 loop-again : tie.Need-loop-again Inv-loop μ-loop
 loop-again c =
     let b = c .before .before in
@@ -40,9 +25,6 @@ loop-again c =
           (sym (plain-fours s (b .loop .h) (b .loop .i) l) ∙ b .loop .inv .1),
     )
 
-rest-numbers-requires : tie.Need-rest-numbers-requires Inv-loop μ-loop
-rest-numbers-requires c κs = search needs
-
 returns : tie.Need-returns Inv-loop μ-loop
 returns c = c .rest-numbers .ensures ∙ c .before .before .loop .inv .1
 
@@ -52,11 +34,11 @@ numbers-by-eights-spec =
     (tie.spec
     Inv-loop
     μ-loop
-    loop-holds
-    sub-loop
-    eight-numbers-requires
-    add-i
-    loop-less
+    (λ c. search needs)
+    (λ c. search needs)
+    (λ c κs. search needs)
+    (λ c. search needs)
+    (λ c. search needs)
     loop-again
-    rest-numbers-requires
+    (λ c κs. search needs)
     returns)

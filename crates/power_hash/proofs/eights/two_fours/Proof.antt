@@ -7,9 +7,6 @@ use borrow.Author.Needs.{needs}
 use Rattle.power_hash.proofs.eights.two_fours.Statement.{statement}
 use Rattle.power_hash.proofs.eights.two_fours.Tie as tie
 
-u64-at-requires : tie.Need-u64-at-requires
-u64-at-requires c κs = search needs
-
 mul-pairs : tie.Need-mul-pairs
 mul-pairs c = omega (arith, and-le-r (c .u64-at .result) 71777214294589695)
 
@@ -31,4 +28,4 @@ returns c =
 
 pub two-fours-spec : {M : Type 1} → statement M
 two-fours-spec =
-    tie.close (tie.spec u64-at-requires mul-pairs add-pairs mul-result add-result returns)
+    tie.close (tie.spec (λ c κs. search needs) mul-pairs add-pairs mul-result add-result returns)

@@ -8,18 +8,6 @@ use borrow.Author.Needs.{needs}
 use Rattle.power_hash.proofs.raise.power.Statement.{statement}
 use Rattle.power_hash.proofs.raise.power.Tie as tie
 
-digit-requires : tie.Need-digit-requires
-digit-requires c κs = search needs
-
-digit-requires-2 : tie.Need-digit-requires-2
-digit-requires-2 c κs = search needs
-
-times-requires : tie.Need-times-requires
-times-requires c κs = search needs
-
-raised-requires : tie.Need-raised-requires
-raised-requires c κs = search needs
-
 returns : tie.Need-returns
 unfolding geometric
 returns c =
@@ -29,4 +17,4 @@ returns c =
     (c .before .times .ensures) (c .raised .ensures)
 
 pub power-spec : {M : Type 1} → statement M
-power-spec = tie.close (tie.spec digit-requires digit-requires-2 times-requires raised-requires returns)
+power-spec = tie.close (tie.spec (λ c κs. search needs) (λ c κs. search needs) (λ c κs. search needs) (λ c κs. search needs) returns)

@@ -9,23 +9,8 @@ use borrow.Author.Needs.{needs}
 use Rattle.reader.proofs.checks.check_all.Statement.{statement}
 use Rattle.reader.proofs.checks.check_all.Tie as tie
 
-read-open-requires : tie.Need-read-open-requires
-read-open-requires c κs = search needs
-
-enum-known-o : tie.Need-enum-known-o
-enum-known-o c = search needs
-
 check-rest-requires : tie.Need-check-rest-requires
 check-rest-requires c κs = open-met _ _ _ (c .before .before .before .before .read-open .ensures) (c .before .before .o .given .1)
-
-enum-known-r : tie.Need-enum-known-r
-enum-known-r c = search needs
-
-enum-known-k : tie.Need-enum-known-k
-enum-known-k c = search needs
-
-same-length : tie.Need-same-length
-same-length c = search needs
 
 returns : tie.Need-returns
 returns c =
@@ -44,12 +29,12 @@ pub check-all-spec : {M : Type 1} → statement M
 check-all-spec =
     tie.close
     (tie.spec
-    read-open-requires
-    enum-known-o
+    (λ c κs. search needs)
+    (λ c. search needs)
     check-rest-requires
-    enum-known-r
-    enum-known-k
-    same-length
+    (λ c. search needs)
+    (λ c. search needs)
+    (λ c. search needs)
     returns
     returns-2
     returns-3)

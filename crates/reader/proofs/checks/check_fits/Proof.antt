@@ -13,27 +13,12 @@ returns c = fits-short _ _ (c .if1 .taken)
 slice-aggregate-part-of : tie.Need-slice-aggregate-part-of
 slice-aggregate-part-of c = simp length-take (omega arith)
 
-part-of-requires : tie.Need-part-of-requires
-part-of-requires c κs = search needs
-
-misfit-fault-requires : tie.Need-misfit-fault-requires
-misfit-fault-requires c κs = search needs
-
-enum-known-i : tie.Need-enum-known-i
-enum-known-i c = search needs
-
-refuse-requires : tie.Need-refuse-requires
-refuse-requires c κs = search needs
-
 returns-2 : tie.Need-returns-2
 returns-2 c =
     let arm = c .before .before in
     let misfit = arm .before .before in
     let part = misfit .before in
     fits-refused _ _ _ (omega arith) (part .part-of .ensures .contents) _ (misfit .misfit-fault .ensures) _ _ _ (arm .i .given .1) (c .refuse .ensures)
-
-enum-told : tie.Need-enum-told
-enum-told c = search needs
 
 returns-3 : tie.Need-returns-3
 returns-3 c =
@@ -47,10 +32,10 @@ check-fits-spec =
     (tie.spec
     returns
     slice-aggregate-part-of
-    part-of-requires
-    misfit-fault-requires
-    enum-known-i
-    refuse-requires
+    (λ c κs. search needs)
+    (λ c κs. search needs)
+    (λ c. search needs)
+    (λ c κs. search needs)
     returns-2
-    enum-told
+    (λ c. search needs)
     returns-3)

@@ -5,18 +5,6 @@ use borrow.Author.Needs.{needs}
 use Rattle.reader.proofs.checks.check_rest.Statement.{statement}
 use Rattle.reader.proofs.checks.check_rest.Tie as tie
 
-link-count-requires : tie.Need-link-count-requires
-link-count-requires c κs = search needs
-
-places-fault-requires : tie.Need-places-fault-requires
-places-fault-requires c κs = search needs
-
-enum-known-i : tie.Need-enum-known-i
-enum-known-i c = search needs
-
-refuse-requires : tie.Need-refuse-requires
-refuse-requires c κs = search needs
-
 returns : tie.Need-returns
 returns c =
     let arm = c .before .before in
@@ -24,18 +12,6 @@ returns c =
     let count = places .before in
     let start = count .before .before .before .before in
     refused-7 _ _ _ (start .pre .whole) _ (count .link-count .ensures) _ (places .places-fault .ensures) _ _ _ (arm .i .given .1) (c .refuse .ensures)
-
-enum-told : tie.Need-enum-told
-enum-told c = search needs
-
-entries-fault-requires : tie.Need-entries-fault-requires
-entries-fault-requires c κs = search needs
-
-enum-known-i-2 : tie.Need-enum-known-i-2
-enum-known-i-2 c = search needs
-
-refuse-requires-2 : tie.Need-refuse-requires-2
-refuse-requires-2 c κs = search needs
 
 returns-2 : tie.Need-returns-2
 returns-2 c =
@@ -49,9 +25,6 @@ returns-2 c =
     (entries .entries-fault .ensures) _ _ _
     (arm .i2 .given .1) (c .refuse2 .ensures)
 
-enum-told-2 : tie.Need-enum-told-2
-enum-told-2 c = search needs
-
 check-tables-requires : tie.Need-check-tables-requires
 check-tables-requires c κs =
     let entries = c .before .before .before in
@@ -63,9 +36,6 @@ check-tables-requires c κs =
       entries-met _ _ _ _ (entries .entries-fault .ensures) (c .before .enum-told2 .given .1),
       places-room _ _ _ _ (count .link-count .ensures) (places .places-fault .ensures) (told .enum-told .given .1),
     )
-
-same-length : tie.Need-same-length
-same-length c = search needs
 
 returns-3 : tie.Need-returns-3
 returns-3 c =
@@ -84,17 +54,17 @@ pub check-rest-spec : {M : Type 1} → statement M
 check-rest-spec =
     tie.close
     (tie.spec
-    link-count-requires
-    places-fault-requires
-    enum-known-i
-    refuse-requires
+    (λ c κs. search needs)
+    (λ c κs. search needs)
+    (λ c. search needs)
+    (λ c κs. search needs)
     returns
-    enum-told
-    entries-fault-requires
-    enum-known-i-2
-    refuse-requires-2
+    (λ c. search needs)
+    (λ c κs. search needs)
+    (λ c. search needs)
+    (λ c κs. search needs)
     returns-2
-    enum-told-2
+    (λ c. search needs)
     check-tables-requires
-    same-length
+    (λ c. search needs)
     returns-3)

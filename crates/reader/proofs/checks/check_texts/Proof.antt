@@ -7,32 +7,14 @@ use borrow.Author.Needs.{needs}
 use Rattle.reader.proofs.checks.check_texts.Statement.{statement}
 use Rattle.reader.proofs.checks.check_texts.Tie as tie
 
-names-required-requires : tie.Need-names-required-requires
-names-required-requires c κs = search needs
-
 returns : tie.Need-returns
 returns c = texts-short _ _ _ (c .before .names-required .ensures) (c .if1 .taken)
 
 slice-aggregate-part-of : tie.Need-slice-aggregate-part-of
 slice-aggregate-part-of c = simp length-take (omega arith)
 
-part-of-requires : tie.Need-part-of-requires
-part-of-requires c κs = search needs
-
 slice-aggregate-part-of-2 : tie.Need-slice-aggregate-part-of-2
 slice-aggregate-part-of-2 c = simp length-take (omega arith)
-
-part-of-requires-2 : tie.Need-part-of-requires-2
-part-of-requires-2 c κs = search needs
-
-unsound-fault-requires : tie.Need-unsound-fault-requires
-unsound-fault-requires c κs = search needs
-
-enum-known-i : tie.Need-enum-known-i
-enum-known-i c = search needs
-
-refuse-requires : tie.Need-refuse-requires
-refuse-requires c κs = search needs
 
 returns-2 : tie.Need-returns-2
 returns-2 c =
@@ -43,9 +25,6 @@ returns-2 c =
     let names = part-of .before .before .before in
     texts-refused _ _ _ (names .names-required .ensures) _ _ (omega arith) (part-of .part-of .ensures .contents)
     (part .part-of2 .ensures .contents) _ (unsound .unsound-fault .ensures) _ _ _ (arm .i .given .1) (c .refuse .ensures)
-
-enum-told : tie.Need-enum-told
-enum-told c = search needs
 
 returns-3 : tie.Need-returns-3
 returns-3 c =
@@ -60,15 +39,15 @@ pub check-texts-spec : {M : Type 1} → statement M
 check-texts-spec =
     tie.close
     (tie.spec
-    names-required-requires
+    (λ c κs. search needs)
     returns
     slice-aggregate-part-of
-    part-of-requires
+    (λ c κs. search needs)
     slice-aggregate-part-of-2
-    part-of-requires-2
-    unsound-fault-requires
-    enum-known-i
-    refuse-requires
+    (λ c κs. search needs)
+    (λ c κs. search needs)
+    (λ c. search needs)
+    (λ c κs. search needs)
     returns-2
-    enum-told
+    (λ c. search needs)
     returns-3)

@@ -10,29 +10,8 @@ use Rattle.reader.proofs.checks.check_trace.Tie as tie
 returns : tie.Need-returns
 returns c = trace-short _ _ _ _ (c .before .trace-required .ensures) _ (c .if1 .taken)
 
-trace-required-requires : tie.Need-trace-required-requires
-trace-required-requires c κs = search needs
-
-link-count-requires : tie.Need-link-count-requires
-link-count-requires c κs = search needs
-
 slice-aggregate-part-of : tie.Need-slice-aggregate-part-of
 slice-aggregate-part-of c = simp length-take (omega arith)
-
-part-of-requires : tie.Need-part-of-requires
-part-of-requires c κs = search needs
-
-check-links-requires : tie.Need-check-links-requires
-check-links-requires c κs = search needs
-
-enum-known-n : tie.Need-enum-known-n
-enum-known-n c = search needs
-
-enum-known-r : tie.Need-enum-known-r
-enum-known-r c = search needs
-
-same-length : tie.Need-same-length
-same-length c = search needs
 
 returns-2 : tie.Need-returns-2
 returns-2 c =
@@ -43,9 +22,6 @@ returns-2 c =
     let start = required .before .before .before .before .before .before in
     trace-passed _ _ _ _ (required .trace-required .ensures) _ (omega arith) (part .part-of .ensures .contents) _ (count .link-count .ensures) (start .pre) _ _
     (links .check-links .ensures) _ (c .before .n .given .1)
-
-same-length-2 : tie.Need-same-length-2
-same-length-2 c = search needs
 
 returns-3 : tie.Need-returns-3
 returns-3 c =
@@ -61,15 +37,15 @@ pub check-trace-spec : {M : Type 1} → statement M
 check-trace-spec =
     tie.close
     (tie.spec
-    trace-required-requires
+    (λ c κs. search needs)
     returns
     slice-aggregate-part-of
-    part-of-requires
-    link-count-requires
-    check-links-requires
-    enum-known-n
-    enum-known-r
-    same-length
+    (λ c κs. search needs)
+    (λ c κs. search needs)
+    (λ c κs. search needs)
+    (λ c. search needs)
+    (λ c. search needs)
+    (λ c. search needs)
     returns-2
-    same-length-2
+    (λ c. search needs)
     returns-3)

@@ -7,26 +7,11 @@ use borrow.Author.Needs.{needs}
 use Rattle.reader.proofs.checks.check_volumes.Statement.{statement}
 use Rattle.reader.proofs.checks.check_volumes.Tie as tie
 
-volumes-required-requires : tie.Need-volumes-required-requires
-volumes-required-requires c κs = search needs
-
 returns : tie.Need-returns
 returns c = volumes-short _ _ _ (c .before .volumes-required .ensures) (c .if1 .taken)
 
 slice-aggregate-part-of : tie.Need-slice-aggregate-part-of
 slice-aggregate-part-of c = simp length-take (omega arith)
-
-part-of-requires : tie.Need-part-of-requires
-part-of-requires c κs = search needs
-
-check-volumes-requires : tie.Need-check-volumes-requires
-check-volumes-requires c κs = search needs
-
-enum-told : tie.Need-enum-told
-enum-told c = search needs
-
-enum-known-r : tie.Need-enum-known-r
-enum-known-r c = search needs
 
 returns-2 : tie.Need-returns-2
 returns-2 c =
@@ -50,12 +35,12 @@ pub check-volumes-spec : {M : Type 1} → statement M
 check-volumes-spec =
     tie.close
     (tie.spec
-    volumes-required-requires
+    (λ c κs. search needs)
     returns
     slice-aggregate-part-of
-    part-of-requires
-    check-volumes-requires
-    enum-told
-    enum-known-r
+    (λ c κs. search needs)
+    (λ c κs. search needs)
+    (λ c. search needs)
+    (λ c. search needs)
     returns-2
     returns-3)

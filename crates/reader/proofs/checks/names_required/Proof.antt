@@ -5,9 +5,6 @@ use borrow.Author.Needs.{needs}
 use Rattle.reader.proofs.checks.names_required.Statement.{statement}
 use Rattle.reader.proofs.checks.names_required.Tie as tie
 
-cast-result : tie.Need-cast-result
-cast-result c = search needs
-
 returns : tie.Need-returns
 returns c = rw (eq-eqb _ _ (c .before .if1 .taken))
 
@@ -18,4 +15,4 @@ returns-3 : tie.Need-returns-3
 returns-3 c = rw (ne-eqb _ _ (c .before .before .if1 .left)) (omega arith)
 
 pub names-required-spec : {M : Type 1} → statement M
-names-required-spec = tie.close (tie.spec cast-result returns returns-2 returns-3)
+names-required-spec = tie.close (tie.spec (λ c. search needs) returns returns-2 returns-3)

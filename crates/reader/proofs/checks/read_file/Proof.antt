@@ -4,21 +4,6 @@ use borrow.Author.Needs.{needs}
 use Rattle.reader.proofs.checks.read_file.Statement.{statement}
 use Rattle.reader.proofs.checks.read_file.Tie as tie
 
-read-prefix-requires : tie.Need-read-prefix-requires
-read-prefix-requires c κs = search needs
-
-enum-known-a : tie.Need-enum-known-a
-enum-known-a c = search needs
-
-cast-size : tie.Need-cast-size
-cast-size c = search needs
-
-wrong-length-requires : tie.Need-wrong-length-requires
-wrong-length-requires c κs = search needs
-
-same-length : tie.Need-same-length
-same-length c = search needs
-
 returns : tie.Need-returns
 returns c =
     let wrong = c .before .before in
@@ -27,12 +12,6 @@ returns c =
     let read = arm .before .before .before .before in
     reads-same _ _ _ _ _ _ (wrong .wrong-length .ensures) (read .read-prefix .kept .1 .0)
     (whole-short _ _ _ _ _ (read .read-prefix .ensures) _ (arm .a .given .1) (test .if1 .taken))
-
-wrong-length-requires-2 : tie.Need-wrong-length-requires-2
-wrong-length-requires-2 c κs = search needs
-
-same-length-2 : tie.Need-same-length-2
-same-length-2 c = search needs
 
 returns-2 : tie.Need-returns-2
 returns-2 c =
@@ -44,32 +23,14 @@ returns-2 c =
     reads-same _ _ _ _ _ _ (wrong .wrong-length2 .ensures) (read .read-prefix .kept .1 .0)
     (whole-long _ _ _ _ _ (read .read-prefix .ensures) _ (arm .a .given .1) (shorter .if1 .left) (test .if2 .taken))
 
-enum-known-r : tie.Need-enum-known-r
-enum-known-r c = search needs
-
-enum-told : tie.Need-enum-told
-enum-told c = search needs
-
-wrong-length-requires-3 : tie.Need-wrong-length-requires-3
-wrong-length-requires-3 c κs = search needs
-
-same-length-3 : tie.Need-same-length-3
-same-length-3 c = search needs
-
 returns-3 : tie.Need-returns-3
 returns-3 c =
     let arm = c .before .before .before .before in
     let read = arm .before .before .before .before in
     whole-exact _ _ _ _ _ (read .read-prefix .ensures) _ (arm .a .given .1) (c .before .if1 .left) (c .if2 .left)
 
-same-length-4 : tie.Need-same-length-4
-same-length-4 c = search needs
-
 returns-4 : tie.Need-returns-4
 returns-4 c = whole-refused _ _ _ _ _ (c .before .before .before .before .before .read-prefix .ensures) _ (c .before .r .given .1)
-
-same-length-5 : tie.Need-same-length-5
-same-length-5 c = search needs
 
 returns-5 : tie.Need-returns-5
 returns-5 c =
@@ -83,21 +44,21 @@ pub read-file-spec : {M : Type 1} → statement M
 read-file-spec =
     tie.close
     (tie.spec
-    read-prefix-requires
-    enum-known-a
-    cast-size
-    wrong-length-requires
-    same-length
+    (λ c κs. search needs)
+    (λ c. search needs)
+    (λ c. search needs)
+    (λ c κs. search needs)
+    (λ c. search needs)
     returns
-    wrong-length-requires-2
-    same-length-2
+    (λ c κs. search needs)
+    (λ c. search needs)
     returns-2
-    enum-known-r
-    enum-told
-    wrong-length-requires-3
-    same-length-3
+    (λ c. search needs)
+    (λ c. search needs)
+    (λ c κs. search needs)
+    (λ c. search needs)
     returns-3
-    same-length-4
+    (λ c. search needs)
     returns-4
-    same-length-5
+    (λ c. search needs)
     returns-5)

@@ -6,11 +6,8 @@ use Rattle.reader.proofs.checks.trace_required.Tie as tie
 returns : tie.Need-returns
 returns c = rw (c .if1 .taken)
 
-cast-result : tie.Need-cast-result
-cast-result c = search needs
-
 returns-2 : tie.Need-returns-2
 returns-2 c = rw (c .before .if1 .left)
 
 pub trace-required-spec : {M : Type 1} → statement M
-trace-required-spec = tie.close (tie.spec returns cast-result returns-2)
+trace-required-spec = tie.close (tie.spec returns (λ c. search needs) returns-2)

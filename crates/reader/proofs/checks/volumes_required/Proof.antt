@@ -4,9 +4,6 @@ use borrow.Author.Needs.{needs}
 use Rattle.reader.proofs.checks.volumes_required.Statement.{statement}
 use Rattle.reader.proofs.checks.volumes_required.Tie as tie
 
-cast-result : tie.Need-cast-result
-cast-result c = search needs
-
 returns : tie.Need-returns
 returns c = rw (eq-eqb _ _ (c .before .if1 .taken))
 
@@ -14,4 +11,4 @@ returns-2 : tie.Need-returns-2
 returns-2 c = rw (ne-eqb _ _ (c .if1 .left))
 
 pub volumes-required-spec : {M : Type 1} → statement M
-volumes-required-spec = tie.close (tie.spec cast-result returns returns-2)
+volumes-required-spec = tie.close (tie.spec (λ c. search needs) returns returns-2)

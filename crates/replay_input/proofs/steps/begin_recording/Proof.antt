@@ -12,18 +12,6 @@ slice-aggregate-begin c = sym (length-take-le _ _ (c .before .before .before .be
 slice-aggregate-begin-2 : tie.Need-slice-aggregate-begin-2
 slice-aggregate-begin-2 c = sym (length-take-le _ _ (c .before .before .before .before .before .before .before .pre .boarded))
 
-begin-requires : tie.Need-begin-requires
-begin-requires c κs = search needs
-
-take-frames-requires : tie.Need-take-frames-requires
-take-frames-requires c κs = search needs
-
-same-length : tie.Need-same-length
-same-length c = search needs
-
-same-length-2 : tie.Need-same-length-2
-same-length-2 c = search needs
-
 returns : tie.Need-returns
 returns c = recording-begins _ _ _ _ _ _ _ _ _ _ _ (c .before .before .before .before .before .before .before .before .before .begin .ensures)
     (c .before .before .take-frames .ensures)
@@ -34,8 +22,8 @@ begin-recording-spec =
     (tie.spec
     slice-aggregate-begin
     slice-aggregate-begin-2
-    begin-requires
-    take-frames-requires
-    same-length
-    same-length-2
+    (λ c κs. search needs)
+    (λ c κs. search needs)
+    (λ c. search needs)
+    (λ c. search needs)
     returns)

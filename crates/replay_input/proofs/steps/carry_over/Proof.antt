@@ -45,12 +45,6 @@ slice-write-buffer c = let i = c .before .before in
           (omega (arith, s .pre .0, s .pre .1, i .loop .inv .0)) (i .loop .inv .1),
     )
 
-add-k : tie.Need-add-k Inv-loop μ-loop
-add-k c = search needs
-
-loop-less : tie.Need-loop-less Inv-loop μ-loop
-loop-less c = search needs
-
 loop-again : tie.Need-loop-again Inv-loop μ-loop
 loop-again c = let i = c .before .before in
     let s = i .before in (
@@ -80,8 +74,8 @@ carry-over-spec =
     add-buffer
     slice-read-buffer
     slice-write-buffer
-    add-k
-    loop-less
+    (λ c. search needs)
+    (λ c. search needs)
     loop-again
     same-length
     returns)

@@ -4,17 +4,8 @@ use borrow.Author.Needs.{needs}
 use Rattle.replay_input.proofs.steps.end_input.Statement.{statement}
 use Rattle.replay_input.proofs.steps.end_input.Tie as tie
 
-fitting-requires : tie.Need-fitting-requires
-fitting-requires c κs = search needs
-
 end-starting-requires : tie.Need-end-starting-requires
 end-starting-requires c κs = fitting-fits _ _ _ _ (c .before .before .before .before .fitting .ensures)
-
-same-length : tie.Need-same-length
-same-length c = search needs
-
-same-length-2 : tie.Need-same-length-2
-same-length-2 c = search needs
 
 returns : tie.Need-returns
 returns c = let s = c .before .before .before .before .before .before .before .before .before .before .before .before .before .before .before .args in
@@ -24,12 +15,6 @@ returns c = let s = c .before .before .before .before .before .before .before .b
 
 end-recording-requires : tie.Need-end-recording-requires
 end-recording-requires c κs = fitting-fits _ _ _ _ (c .before .before .before .before .fitting .ensures)
-
-same-length-3 : tie.Need-same-length-3
-same-length-3 c = search needs
-
-same-length-4 : tie.Need-same-length-4
-same-length-4 c = search needs
 
 returns-2 : tie.Need-returns-2
 returns-2 c = let s = c .before .before .before .before .before .before .before .before .before .before .before .before .before .before .before .args in
@@ -41,12 +26,12 @@ pub end-input-spec : {M : Type 1} → statement M
 end-input-spec =
     tie.close
     (tie.spec
-    fitting-requires
+    (λ c κs. search needs)
     end-starting-requires
-    same-length
-    same-length-2
+    (λ c. search needs)
+    (λ c. search needs)
     returns
     end-recording-requires
-    same-length-3
-    same-length-4
+    (λ c. search needs)
+    (λ c. search needs)
     returns-2)

@@ -11,25 +11,13 @@ slice-aggregate-finish c = sym (length-take-le _ _ (c .before .before .before .b
 slice-aggregate-finish-2 : tie.Need-slice-aggregate-finish-2
 slice-aggregate-finish-2 c = sym (length-take-le _ _ (c .before .before .before .before .before .before .pre .boarded))
 
-finish-requires : tie.Need-finish-requires
-finish-requires c κs = search needs
-
-same-length : tie.Need-same-length
-same-length c = search needs
-
-same-length-2 : tie.Need-same-length-2
-same-length-2 c = search needs
-
-returns : tie.Need-returns
-returns c = search needs
-
 pub end-recording-spec : {M : Type 1} → statement M
 end-recording-spec =
     tie.close
     (tie.spec
     slice-aggregate-finish
     slice-aggregate-finish-2
-    finish-requires
-    same-length
-    same-length-2
-    returns)
+    (λ c κs. search needs)
+    (λ c. search needs)
+    (λ c. search needs)
+    (λ c. search needs))

@@ -12,18 +12,6 @@ slice-aggregate-begin c = sym (length-take-le _ _ (c .before .before .before .be
 slice-aggregate-begin-2 : tie.Need-slice-aggregate-begin-2
 slice-aggregate-begin-2 c = sym (length-take-le _ _ (c .before .before .before .before .before .before .pre .boarded))
 
-begin-requires : tie.Need-begin-requires
-begin-requires c κs = search needs
-
-end-recording-requires : tie.Need-end-recording-requires
-end-recording-requires c κs = search needs
-
-same-length : tie.Need-same-length
-same-length c = search needs
-
-same-length-2 : tie.Need-same-length-2
-same-length-2 c = search needs
-
 returns : tie.Need-returns
 returns c = let b = c .before .before .before .before .before .before .before .before .before .before .before .begin in
     ends-unread _ _ _ _ _ _ _ _ _ _ _ _ (b .ensures) (c .before .before .before .before .end-recording .ensures) (b .kept .1 .1 .0) (b .kept .1 .1 .1 .0)
@@ -34,8 +22,8 @@ end-starting-spec =
     (tie.spec
     slice-aggregate-begin
     slice-aggregate-begin-2
-    begin-requires
-    end-recording-requires
-    same-length
-    same-length-2
+    (λ c κs. search needs)
+    (λ c κs. search needs)
+    (λ c. search needs)
+    (λ c. search needs)
     returns)

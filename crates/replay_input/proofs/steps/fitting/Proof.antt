@@ -5,16 +5,10 @@ use borrow.Author.Needs.{needs}
 use Rattle.replay_input.proofs.steps.fitting.Statement.{statement}
 use Rattle.replay_input.proofs.steps.fitting.Tie as tie
 
-least-requires : tie.Need-least-requires
-least-requires c κs = search needs
-
-least-requires-2 : tie.Need-least-requires-2
-least-requires-2 c κs = search needs
-
 returns : tie.Need-returns
 returns c = let s = c .before .before .before .args .stage in
     ap (λ (n : ℕ). record { starts = n; starting = s .starting; progress = s .progress })
     (c .before .least2 .ensures ∙ ap (min (s .starts)) (c .before .before .least .ensures))
 
 pub fitting-spec : {M : Type 1} → statement M
-fitting-spec = tie.close (tie.spec least-requires least-requires-2 returns)
+fitting-spec = tie.close (tie.spec (λ c κs. search needs) (λ c κs. search needs) returns)

@@ -11,16 +11,7 @@ slice-aggregate-feed c = sym (length-take-le _ _ (c .before .before .before .bef
 slice-aggregate-feed-2 : tie.Need-slice-aggregate-feed-2
 slice-aggregate-feed-2 c = sym (length-take-le _ _ (c .before .before .before .before .before .before .before .pre .boarded))
 
-feed-requires : tie.Need-feed-requires
-feed-requires c κs = search needs
-
-same-length : tie.Need-same-length
-same-length c = search needs
-
-returns : tie.Need-returns
-returns c = search needs
-
 pub take-frames-spec : {M : Type 1} → statement M
 take-frames-spec =
     tie.close
-    (tie.spec slice-aggregate-feed slice-aggregate-feed-2 feed-requires same-length returns)
+    (tie.spec slice-aggregate-feed slice-aggregate-feed-2 (λ c κs. search needs) (λ c. search needs) (λ c. search needs))

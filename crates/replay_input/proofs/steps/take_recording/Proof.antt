@@ -7,12 +7,9 @@ use Rattle.replay_input.proofs.steps.take_recording.Tie as tie
 take-frames-requires : tie.Need-take-frames-requires
 take-frames-requires c κs = c .before .before .before .before .before .before .before .pre .0
 
-same-length : tie.Need-same-length
-same-length c = search needs
-
 returns : tie.Need-returns
 returns c = recording-takes _ _ _ _ _ _ _ _ (c .before .before .before .before .before .before .before .before .before .before .before .pre .1)
     (c .before .before .before .take-frames .ensures)
 
 pub take-recording-spec : {M : Type 1} → statement M
-take-recording-spec = tie.close (tie.spec take-frames-requires same-length returns)
+take-recording-spec = tie.close (tie.spec take-frames-requires (λ c. search needs) returns)

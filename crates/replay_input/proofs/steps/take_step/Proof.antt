@@ -8,15 +8,6 @@ use borrow.Author.Needs.{needs}
 use Rattle.replay_input.proofs.steps.take_step.Statement.{statement}
 use Rattle.replay_input.proofs.steps.take_step.Tie as tie
 
-least-requires : tie.Need-least-requires
-least-requires c κs = search needs
-
-fitting-requires : tie.Need-fitting-requires
-fitting-requires c κs = search needs
-
-slice-reshare-prefix-take-bytes : tie.Need-slice-reshare-prefix-take-bytes
-slice-reshare-prefix-take-bytes c = search needs
-
 slice-aggregate-take-bytes : tie.Need-slice-aggregate-take-bytes
 slice-aggregate-take-bytes c = sym (length-take-le _ _ (omega (arith, c .before .before .before .least .ensures)))
 
@@ -30,21 +21,6 @@ carry-over-requires c κs = let c₁ = c .before .before .before .before .before
     let n = c₂ .before .before .least in
     let e : length (take (n .result) (c₃ .args .buffer .now)) ≡ n .result = length-take-le _ _ (omega (arith, n .ensures)) in
     (omega (arith, c₁ .before .before .take-bytes .ensures .used), omega (arith, n .ensures))
-
-same-length : tie.Need-same-length
-same-length c = search needs
-
-same-length-2 : tie.Need-same-length-2
-same-length-2 c = search needs
-
-same-length-3 : tie.Need-same-length-3
-same-length-3 c = search needs
-
-same-length-4 : tie.Need-same-length-4
-same-length-4 c = search needs
-
-same-length-5 : tie.Need-same-length-5
-same-length-5 c = search needs
 
 returns : tie.Need-returns
 returns c = let c₁ = c .before .before .before .before .before .before .before .before in
@@ -60,15 +36,15 @@ pub take-step-spec : {M : Type 1} → statement M
 take-step-spec =
     tie.close
     (tie.spec
-    least-requires
-    fitting-requires
-    slice-reshare-prefix-take-bytes
+    (λ c κs. search needs)
+    (λ c κs. search needs)
+    (λ c. search needs)
     slice-aggregate-take-bytes
     take-bytes-requires
     carry-over-requires
-    same-length
-    same-length-2
-    same-length-3
-    same-length-4
-    same-length-5
+    (λ c. search needs)
+    (λ c. search needs)
+    (λ c. search needs)
+    (λ c. search needs)
+    (λ c. search needs)
     returns)

@@ -18,12 +18,6 @@ find-cycle-requires c κs = let a = c .before .before .before in
     let s = firsts (a .args .pairs .now) (a .args .entries) in
     (record { room = a .pre .room; sound = a .pre .sound }, distinct s (a .pre .sound) (a .pre .once))
 
-enum-known-found : tie.Need-enum-known-found
-enum-known-found c = search needs
-
-fill-requires : tie.Need-fill-requires
-fill-requires c κs = search needs
-
 cast-refused : tie.Need-cast-refused
 cast-refused c =
     let fill = c .before .before in
@@ -33,12 +27,6 @@ cast-refused c =
     let s = firsts (a .args .pairs .now) (a .args .entries) in
     let l = first-at (cyclic s) (length s) 0 (arm .found .given .0 .0) (sym (cycle .find-cycle .ensures) ∙ arm .found .given .1) .1 in
     omega (arith, l, length-firsts (a .args .pairs .now) (a .args .entries), a .fits .entries)
-
-refused-requires : tie.Need-refused-requires
-refused-requires c κs = search needs
-
-same-length : tie.Need-same-length
-same-length c = search needs
 
 returns : tie.Need-returns
 returns c =
@@ -50,15 +38,6 @@ returns c =
     let q = arm .found .given in
     answer-at 13 (q .0 .0) (length (a .args .buffer .now)) _ (firstCyclic s) (cycle .find-cycle .result) (accept (chains s)) s (fill .fill .last .0) _
     (cycle .find-cycle .ensures) (q .1) (c .refused .ensures) (fill .fill .ensures ∙ ap filled (cycle .find-cycle .kept .1 .1 .0))
-
-enum-told : tie.Need-enum-told
-enum-told c = search needs
-
-build-table-requires : tie.Need-build-table-requires
-build-table-requires c κs = search needs
-
-same-length-2 : tie.Need-same-length-2
-same-length-2 c = search needs
 
 returns-2 : tie.Need-returns-2
 returns-2 c =
@@ -76,13 +55,13 @@ check-cycles-spec =
     tie.close
     (tie.spec
     find-cycle-requires
-    enum-known-found
-    fill-requires
+    (λ c. search needs)
+    (λ c κs. search needs)
     cast-refused
-    refused-requires
-    same-length
+    (λ c κs. search needs)
+    (λ c. search needs)
     returns
-    enum-told
-    build-table-requires
-    same-length-2
+    (λ c. search needs)
+    (λ c κs. search needs)
+    (λ c. search needs)
     returns-2)

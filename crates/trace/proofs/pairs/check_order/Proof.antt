@@ -20,15 +20,6 @@ returns c =
     let f = forward-acyclic s small (a .pre .0 .sound) (a .pre .1 (c .if1 .taken)) in
     answer-chains _ s _ _ (firstCyclic s) _ small (a .pre .0) refl f (a .pre .0 .table)
 
-check-cycles-requires : tie.Need-check-cycles-requires
-check-cycles-requires c κs = search needs
-
-same-length : tie.Need-same-length
-same-length c = search needs
-
-returns-2 : tie.Need-returns-2
-returns-2 c = search needs
-
 pub check-order-spec : {M : Type 1} → statement M
 check-order-spec =
-    tie.close (tie.spec returns check-cycles-requires same-length returns-2)
+    tie.close (tie.spec returns (λ c κs. search needs) (λ c. search needs) (λ c. search needs))

@@ -12,38 +12,11 @@ use Rattle.volumes.proofs.Cursor.step.Tie as tie
 returns : tie.Need-returns
 returns c = answers stepSaid _ _ (step-short _ _ (omega arith))
 
-sub-if2 : tie.Need-sub-if2
-sub-if2 c = search needs
-
 returns-2 : tie.Need-returns-2
 returns-2 c = answers stepSaid _ _ (step-short _ _ (omega arith))
 
-u16-at-requires : tie.Need-u16-at-requires
-u16-at-requires c κs = search needs
-
-cast-units : tie.Need-cast-units
-cast-units c = search needs
-
-add-last : tie.Need-add-last
-add-last c = search needs
-
-mul-last : tie.Need-mul-last
-mul-last c = search needs
-
-add-last-2 : tie.Need-add-last-2
-add-last-2 c = search needs
-
-sub-if3 : tie.Need-sub-if3
-sub-if3 c = search needs
-
 returns-3 : tie.Need-returns-3
 returns-3 c = answers stepSaid _ _ (step-past _ _ (omega arith) (omega arith))
-
-u16-at-requires-2 : tie.Need-u16-at-requires-2
-u16-at-requires-2 c κs = search needs
-
-add-t11 : tie.Need-add-t11
-add-t11 c = search needs
 
 returns-4 : tie.Need-returns-4
 returns-4 c =
@@ -60,16 +33,16 @@ step-spec =
     tie.close
     (tie.spec
     returns
-    sub-if2
+    (λ c. search needs)
     returns-2
-    u16-at-requires
-    cast-units
-    add-last
-    mul-last
-    add-last-2
-    sub-if3
+    (λ c κs. search needs)
+    (λ c. search needs)
+    (λ c. search needs)
+    (λ c. search needs)
+    (λ c. search needs)
+    (λ c. search needs)
     returns-3
-    u16-at-requires-2
-    add-t11
+    (λ c κs. search needs)
+    (λ c. search needs)
     returns-4
     returns-5)

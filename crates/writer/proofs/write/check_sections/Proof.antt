@@ -5,33 +5,12 @@ use borrow.Author.Needs.{needs}
 use Rattle.writer.proofs.write.check_sections.Statement.{statement}
 use Rattle.writer.proofs.write.check_sections.Tie as tie
 
-places-fault-requires : tie.Need-places-fault-requires
-places-fault-requires c κs = search needs
-
-enum-known-i : tie.Need-enum-known-i
-enum-known-i c = search needs
-
-refuse-requires : tie.Need-refuse-requires
-refuse-requires c κs = search needs
-
 returns : tie.Need-returns
 returns c =
     let arm = c .before .before in
     let places = arm .before .before in
     let s = places .before .before .before .before .before .before in
     too-few (s .args .l) (s .args .p) (s .args .g) _ _ _ _ _ (s .pre) _ _ _ _ _ (places .places-fault .ensures) (arm .i .given .1) (c .refuse .ensures)
-
-enum-told : tie.Need-enum-told
-enum-told c = search needs
-
-entries-fault-requires : tie.Need-entries-fault-requires
-entries-fault-requires c κs = search needs
-
-enum-known-i-2 : tie.Need-enum-known-i-2
-enum-known-i-2 c = search needs
-
-refuse-requires-2 : tie.Need-refuse-requires-2
-refuse-requires-2 c κs = search needs
 
 returns-2 : tie.Need-returns-2
 returns-2 c =
@@ -43,9 +22,6 @@ returns-2 c =
     too-crowded (s .args .l) (s .args .p) (s .args .g) _ _ _ _ _ (s .pre) _ _ _ _ _ _ (places .places-fault .ensures) (told .enum-told .given .1)
     (entries .entries-fault .ensures) (arm .i2 .given .1) (c .refuse2 .ensures)
 
-enum-told-2 : tie.Need-enum-told-2
-enum-told-2 c = search needs
-
 check-tables-requires : tie.Need-check-tables-requires
 check-tables-requires c κs =
     let fits = c .before in
@@ -56,9 +32,6 @@ check-tables-requires c κs =
       entries-met _ _ _ _ (entries .entries-fault .ensures)
           (fits .enum-told2 .given .1),
     )
-
-same-length : tie.Need-same-length
-same-length c = search needs
 
 returns-3 : tie.Need-returns-3
 returns-3 c =
@@ -75,16 +48,16 @@ pub check-sections-spec : {M : Type 1} → statement M
 check-sections-spec =
     tie.close
     (tie.spec
-    places-fault-requires
-    enum-known-i
-    refuse-requires
+    (λ c κs. search needs)
+    (λ c. search needs)
+    (λ c κs. search needs)
     returns
-    enum-told
-    entries-fault-requires
-    enum-known-i-2
-    refuse-requires-2
+    (λ c. search needs)
+    (λ c κs. search needs)
+    (λ c. search needs)
+    (λ c κs. search needs)
     returns-2
-    enum-told-2
+    (λ c. search needs)
     check-tables-requires
-    same-length
+    (λ c. search needs)
     returns-3)

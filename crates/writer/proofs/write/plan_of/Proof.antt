@@ -17,9 +17,6 @@ low c =
     plan-low (s .args .l) (s .pre) (s .args .metrics) (s .args .trace) (s .args .strings) (s .args .volumes) (omega arith) (omega arith) (omega arith)
     (omega arith)
 
-cast-limit : tie.Need-cast-limit
-cast-limit c = search needs
-
 returns : tie.Need-returns
 returns c =
     let a = c .before .args in
@@ -36,12 +33,6 @@ returns-3 c = plan-large _ (c .before .before .before .pre) _ _ _ _ (omega arith
 returns-4 : tie.Need-returns-4
 returns-4 c = plan-large _ (c .before .before .before .before .pre) _ _ _ _ (omega arith)
 
-cast-trace-at : tie.Need-cast-trace-at
-cast-trace-at c = search needs
-
-cast-trace-at-2 : tie.Need-cast-trace-at-2
-cast-trace-at-2 c = search needs
-
 mul-trace-at : tie.Need-mul-trace-at
 mul-trace-at c =
     let s = c .before .before .before .before .before .before in
@@ -51,9 +42,6 @@ add-trace-at : tie.Need-add-trace-at
 add-trace-at c =
     let s = c .before .before .before .before .before .before in
     sum-fits (firstSection (s .args .l)) (s .args .metrics / 2 * metricsEntry (s .args .l)) (omega (arith, low (c .before .before)))
-
-cast-strings-at : tie.Need-cast-strings-at
-cast-strings-at c = search needs
 
 mul-strings-at : tie.Need-mul-strings-at
 mul-strings-at c =
@@ -82,33 +70,6 @@ returns-5 c =
     let s = c .before .before .before .before .before .before .before .before in plan-large (s .args .l) (s .pre) (s .args .metrics) (s .args .trace)
     (s .args .strings) (s .args .volumes) (c .if5 .taken)
 
-cast-t16 : tie.Need-cast-t16
-cast-t16 c = search needs
-
-cast-t17 : tie.Need-cast-t17
-cast-t17 c = search needs
-
-cast-t18 : tie.Need-cast-t18
-cast-t18 c = search needs
-
-cast-t19 : tie.Need-cast-t19
-cast-t19 c = search needs
-
-cast-t20 : tie.Need-cast-t20
-cast-t20 c = search needs
-
-add-t14 : tie.Need-add-t14
-add-t14 c = search needs
-
-cast-t21 : tie.Need-cast-t21
-cast-t21 c = search needs
-
-cast-t22 : tie.Need-cast-t22
-cast-t22 c = search needs
-
-cast-t23 : tie.Need-cast-t23
-cast-t23 c = search needs
-
 returns-6 : tie.Need-returns-6
 returns-6 c =
     let s = c .before .before .before .before .before .before .before .before in plan-fits (s .args .l) (s .pre) (s .args .metrics) (s .args .trace)
@@ -118,28 +79,28 @@ pub plan-of-spec : {M : Type 1} → statement M
 plan-of-spec =
     tie.close
     (tie.spec
-    cast-limit
+    (λ c. search needs)
     returns
     returns-2
     returns-3
     returns-4
-    cast-trace-at
-    cast-trace-at-2
+    (λ c. search needs)
+    (λ c. search needs)
     mul-trace-at
     add-trace-at
-    cast-strings-at
+    (λ c. search needs)
     mul-strings-at
     add-strings-at
     add-size
     add-size-2
     returns-5
-    cast-t16
-    cast-t17
-    cast-t18
-    cast-t19
-    cast-t20
-    add-t14
-    cast-t21
-    cast-t22
-    cast-t23
+    (λ c. search needs)
+    (λ c. search needs)
+    (λ c. search needs)
+    (λ c. search needs)
+    (λ c. search needs)
+    (λ c. search needs)
+    (λ c. search needs)
+    (λ c. search needs)
+    (λ c. search needs)
     returns-6)

@@ -21,33 +21,15 @@ write-version-requires c κs = (writable-17, known-17)
 write-version-requires-2 : tie.Need-write-version-requires-2
 write-version-requires-2 c κs = (writable-23, known-23)
 
-refused-requires : tie.Need-refused-requires
-refused-requires c κs = search needs
-
-same-length : tie.Need-same-length
-same-length c = search needs
-
-same-length-2 : tie.Need-same-length-2
-same-length-2 c = search needs
-
 returns : tie.Need-returns
 returns c =
     let written = c .before .before .before .before in writes-known _ _ _ _ _ _ _ V17 (is-17 _ (written .before .before .before .match .keys1))
     (reader-answers V17 _ _ _) (written .write-version .ensures)
 
-same-length-3 : tie.Need-same-length-3
-same-length-3 c = search needs
-
-same-length-4 : tie.Need-same-length-4
-same-length-4 c = search needs
-
 returns-2 : tie.Need-returns-2
 returns-2 c =
     let written = c .before .before .before .before in writes-known _ _ _ _ _ _ _ V23 (is-23 _ (written .before .before .before .match .keys2))
     (reader-answers V23 _ _ _) (written .write-version2 .ensures)
-
-same-length-5 : tie.Need-same-length-5
-same-length-5 c = search needs
 
 returns-3 : tie.Need-returns-3
 returns-3 c =
@@ -61,12 +43,12 @@ write-file-spec =
     (tie.spec
     write-version-requires
     write-version-requires-2
-    refused-requires
-    same-length
-    same-length-2
+    (λ c κs. search needs)
+    (λ c. search needs)
+    (λ c. search needs)
     returns
-    same-length-3
-    same-length-4
+    (λ c. search needs)
+    (λ c. search needs)
     returns-2
-    same-length-5
+    (λ c. search needs)
     returns-3)

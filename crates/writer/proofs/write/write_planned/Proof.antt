@@ -21,24 +21,6 @@ checks-first file m n f e = ap (roomed (ltb n (length file))) e
 place-kept : (file output : List ℕ) (f : Refusal) → output ≡ outputAfter (decided (refuse f)) file output
 place-kept file output f = refl
 
-check-sections-requires : tie.Need-check-sections-requires
-check-sections-requires c κs = search needs
-
-enum-known-n : tie.Need-enum-known-n
-enum-known-n c = search needs
-
-cast-if1 : tie.Need-cast-if1
-cast-if1 c = search needs
-
-fill-requires : tie.Need-fill-requires
-fill-requires c κs = search needs
-
-refuse-requires : tie.Need-refuse-requires
-refuse-requires c κs = search needs
-
-same-length : tie.Need-same-length
-same-length c = search needs
-
 returns : tie.Need-returns
 returns c =
     let fill = c .before .before .before in
@@ -50,27 +32,6 @@ returns c =
     (arm .n .given .1) _ _
     (short .if1 .taken) (sections .check-sections .kept .1 .1 .1 .1 .1 .1 .1 .0) (c .refuse .ensures) (fill .fill .ensures) place-kept
 
-put-file-requires : tie.Need-put-file-requires
-put-file-requires c κs = search needs
-
-number-requires : tie.Need-number-requires
-number-requires c κs = search needs
-
-record-of-requires : tie.Need-record-of-requires
-record-of-requires c κs = search needs
-
-enum-known-r : tie.Need-enum-known-r
-enum-known-r c = search needs
-
-refused-requires : tie.Need-refused-requires
-refused-requires c κs = search needs
-
-same-length-2 : tie.Need-same-length-2
-same-length-2 c = search needs
-
-same-length-3 : tie.Need-same-length-3
-same-length-3 c = search needs
-
 returns-2 : tie.Need-returns-2
 returns-2 c =
     let put = c .before .before .before .before in
@@ -81,9 +42,6 @@ returns-2 c =
     planned-laid (s .args .v) (s .args .l) (s .args .p) (s .args .g) _ _ _ _ _ _ (s .pre .0) (s .pre .1) _ _ _ _ (sections .check-sections .ensures) _
     (arm .n .given .1) _ _ _
     (room .if1 .left) (put .put-file .ensures) (c .before .number .ensures) (c .record-of .ensures)
-
-same-length-4 : tie.Need-same-length-4
-same-length-4 c = search needs
 
 returns-3 : tie.Need-returns-3
 returns-3 c =
@@ -99,20 +57,20 @@ pub write-planned-spec : {M : Type 1} → statement M
 write-planned-spec =
     tie.close
     (tie.spec
-    check-sections-requires
-    enum-known-n
-    cast-if1
-    fill-requires
-    refuse-requires
-    same-length
+    (λ c κs. search needs)
+    (λ c. search needs)
+    (λ c. search needs)
+    (λ c κs. search needs)
+    (λ c κs. search needs)
+    (λ c. search needs)
     returns
-    put-file-requires
-    number-requires
-    record-of-requires
-    enum-known-r
-    refused-requires
-    same-length-2
-    same-length-3
+    (λ c κs. search needs)
+    (λ c κs. search needs)
+    (λ c κs. search needs)
+    (λ c. search needs)
+    (λ c κs. search needs)
+    (λ c. search needs)
+    (λ c. search needs)
     returns-2
-    same-length-4
+    (λ c. search needs)
     returns-3)

@@ -28,23 +28,8 @@ numbers c =
       volumes = omega (arith, start c .good);
     }
 
-of-requires : tie.Need-of-requires
-of-requires c κs = search needs
-
 plan-of-requires : tie.Need-plan-of-requires
 plan-of-requires c κs = let s = c .before .before .before .before .before .before .before .before in rw (c .of .ensures) (s .pre .0)
-
-enum-known-p : tie.Need-enum-known-p
-enum-known-p c = search needs
-
-enum-told : tie.Need-enum-told
-enum-told c = search needs
-
-refused-requires : tie.Need-refused-requires
-refused-requires c κs = search needs
-
-same-length : tie.Need-same-length
-same-length c = search needs
 
 returns : tie.Need-returns
 returns c =
@@ -54,15 +39,6 @@ returns c =
     let s = start (plan .before) in
     version-large (s .args .v) (s .pre .0) (s .pre .1) _ (numbers (plan .before)) _ _ _ _ _ (plan .before .of .ensures)
     (plan-none (plan .before .of .result) _ _ _ _ _ (plan .plan-of .ensures) (told .enum-told .given .1)) (refused .refused .ensures)
-
-name-units-requires : tie.Need-name-units-requires
-name-units-requires c κs = search needs
-
-refused-requires-2 : tie.Need-refused-requires-2
-refused-requires-2 c κs = search needs
-
-same-length-2 : tie.Need-same-length-2
-same-length-2 c = search needs
 
 returns-2 : tie.Need-returns-2
 returns-2 c =
@@ -96,12 +72,6 @@ write-planned-requires c κs =
       below-30 _ _ (units .name-units .ensures) (few .if1 .left),
     )
 
-same-length-3 : tie.Need-same-length-3
-same-length-3 c = search needs
-
-same-length-4 : tie.Need-same-length-4
-same-length-4 c = search needs
-
 returns-3 : tie.Need-returns-3
 returns-3 c =
     let written = c .before .before .before .before in
@@ -112,18 +82,18 @@ pub write-version-spec : {M : Type 1} → statement M
 write-version-spec =
     tie.close
     (tie.spec
-    of-requires
+    (λ c κs. search needs)
     plan-of-requires
-    enum-known-p
-    enum-told
-    refused-requires
-    same-length
+    (λ c. search needs)
+    (λ c. search needs)
+    (λ c κs. search needs)
+    (λ c. search needs)
     returns
-    name-units-requires
-    refused-requires-2
-    same-length-2
+    (λ c κs. search needs)
+    (λ c κs. search needs)
+    (λ c. search needs)
     returns-2
     write-planned-requires
-    same-length-3
-    same-length-4
+    (λ c. search needs)
+    (λ c. search needs)
     returns-3)

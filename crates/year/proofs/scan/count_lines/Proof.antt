@@ -28,23 +28,11 @@ returns c =
     let e : s ≡ [] = empty s (c .if1 .taken) in
     sym (ap (λ (l : List ℕ). length (linesIn l)) e ∙ ap length no-lines)
 
-sub-last : tie.Need-sub-last Inv-loop μ-loop
-sub-last c = search needs
-
 loop-holds : tie.Need-loop-holds Inv-loop μ-loop
 loop-holds c = (omega arith, omega arith, refl)
 
-sub-if2 : tie.Need-sub-if2 Inv-loop μ-loop
-sub-if2 c = search needs
-
-sub-width : tie.Need-sub-width Inv-loop μ-loop
-sub-width c = search needs
-
 feeds-requires : tie.Need-feeds-requires Inv-loop μ-loop
 feeds-requires c κs = ⊎-elim (λ w. (omega arith, omega arith)) (λ w. (omega arith, omega arith)) (c .if2 .came)
-
-cast-n : tie.Need-cast-n Inv-loop μ-loop
-cast-n c = search needs
 
 add-n : tie.Need-add-n Inv-loop μ-loop
 add-n c =
@@ -83,12 +71,12 @@ count-lines-spec =
     Inv-loop
     μ-loop
     returns
-    sub-last
+    (λ c. search needs)
     loop-holds
-    sub-if2
-    sub-width
+    (λ c. search needs)
+    (λ c. search needs)
     feeds-requires
-    cast-n
+    (λ c. search needs)
     add-n
     add-i
     loop-less

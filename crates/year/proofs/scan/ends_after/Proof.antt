@@ -8,29 +8,11 @@ use borrow.Author.Needs.{needs}
 use Rattle.year.proofs.scan.ends_after.Statement.{statement}
 use Rattle.year.proofs.scan.ends_after.Tie as tie
 
-sub-if1 : tie.Need-sub-if1
-sub-if1 c = search needs
-
 returns : tie.Need-returns
 returns c = λ z. absurd (true-false (sym z))
 
-sub-if2 : tie.Need-sub-if2
-sub-if2 c = search needs
-
-add-if2 : tie.Need-add-if2
-add-if2 c = search needs
-
-shared-slice-read-if2 : tie.Need-shared-slice-read-if2
-shared-slice-read-if2 c = search needs
-
 returns-2 : tie.Need-returns-2
 returns-2 c = λ z. absurd (true-false (sym z))
-
-sub-feeds : tie.Need-sub-feeds
-sub-feeds c = search needs
-
-feeds-requires : tie.Need-feeds-requires
-feeds-requires c κs = search needs
 
 returns-3 : tie.Need-returns-3
 returns-3 c = λ z.
@@ -40,12 +22,12 @@ pub ends-after-spec : {M : Type 1} → statement M
 ends-after-spec =
     tie.close
     (tie.spec
-    sub-if1
+    (λ c. search needs)
     returns
-    sub-if2
-    add-if2
-    shared-slice-read-if2
+    (λ c. search needs)
+    (λ c. search needs)
+    (λ c. search needs)
     returns-2
-    sub-feeds
-    feeds-requires
+    (λ c. search needs)
+    (λ c κs. search needs)
     returns-3)

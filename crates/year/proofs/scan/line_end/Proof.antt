@@ -16,20 +16,8 @@ Inv-loop bytes at i₀ i = (at ≤ i) × (i ≤ length bytes) × ((k : ℕ) → 
 abbrev μ-loop : tie.MeasureT-loop
 μ-loop bytes at i₀ i = length bytes - i
 
-ends-after-requires : tie.Need-ends-after-requires Inv-loop μ-loop
-ends-after-requires c κs = search needs
-
-add-result : tie.Need-add-result Inv-loop μ-loop
-add-result c = search needs
-
 returns : tie.Need-returns Inv-loop μ-loop
 returns c = c .before .ends-after .ensures (c .if1 .taken)
-
-ends-after-requires-2 : tie.Need-ends-after-requires-2 Inv-loop μ-loop
-ends-after-requires-2 c κs = search needs
-
-add-result-2 : tie.Need-add-result-2 Inv-loop μ-loop
-add-result-2 c = search needs
 
 returns-2 : tie.Need-returns-2 Inv-loop μ-loop
 returns-2 c = c .before .ends-after2 .ensures (c .if2 .taken)
@@ -37,23 +25,11 @@ returns-2 c = c .before .ends-after2 .ensures (c .if2 .taken)
 loop-holds : tie.Need-loop-holds Inv-loop μ-loop
 loop-holds c = (omega arith, omega (arith, c .before .before .before .before .before .pre), λ k h l e. omega arith)
 
-shared-slice-read-if3 : tie.Need-shared-slice-read-if3 Inv-loop μ-loop
-shared-slice-read-if3 c = search needs
-
-add-result-3 : tie.Need-add-result-3 Inv-loop μ-loop
-add-result-3 c = search needs
-
 returns-3 : tie.Need-returns-3 Inv-loop μ-loop
 returns-3 c =
     let h = c .before .before .before in
     let v = h .loop .inv in
     ends-here _ _ _ (v .0) (v .2) (omega arith) (c .if3 .taken)
-
-add-i : tie.Need-add-i Inv-loop μ-loop
-add-i c = search needs
-
-loop-less : tie.Need-loop-less Inv-loop μ-loop
-loop-less c = search needs
 
 loop-again : tie.Need-loop-again Inv-loop μ-loop
 loop-again c =
@@ -80,17 +56,17 @@ line-end-spec =
     (tie.spec
     Inv-loop
     μ-loop
-    ends-after-requires
-    add-result
+    (λ c κs. search needs)
+    (λ c. search needs)
     returns
-    ends-after-requires-2
-    add-result-2
+    (λ c κs. search needs)
+    (λ c. search needs)
     returns-2
     loop-holds
-    shared-slice-read-if3
-    add-result-3
+    (λ c. search needs)
+    (λ c. search needs)
     returns-3
-    add-i
-    loop-less
+    (λ c. search needs)
+    (λ c. search needs)
     loop-again
     returns-4)
