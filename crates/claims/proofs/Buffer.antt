@@ -9,7 +9,8 @@ use Rattle.head.specs.declared.checks.Opening.{Opening}
 use Rattle.layout.specs.Versions.{traceEntry}
 use Rattle.sections.specs.Fields.{linkCount, part}
 use Rattle.incremental.specs.declared.Fault.the-variants.{Nowhere}
-use Rattle.trace.specs.Links.{filled, chains, linkChecks, astrayFault, sharedFault, cyclicFault}
+use Rattle.lists.specs.Filled.{filled}
+use Rattle.trace.specs.Links.{chains, linkChecks, astrayFault, sharedFault, cyclicFault}
 use Rattle.trace.proofs.Steps.{length-nexts}
 use Rattle.reader.specs.declared.verdict.Verdict.{Verdict}
 use Rattle.reader.specs.declared.verdict.Verdict.the-variants.{Accepted}

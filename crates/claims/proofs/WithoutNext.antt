@@ -35,7 +35,8 @@ use Rattle.head.specs.declared.checks.Opening.{Opening}
 use Rattle.head.proofs.Rules.{outside-law, shares-law}
 use Rattle.head.proofs.Facts.{Shapes, open-facts, open-complete, open-sound, open-shapes}
 use Rattle.names.specs.Names.{misfitFault, unsoundFault}
-use Rattle.trace.specs.Links.{end, nexts, namers, chains, predecessor, predecessors, filled, astrayFault, sharedFault, cyclicFault}
+use Rattle.lists.specs.Filled.{filled}
+use Rattle.trace.specs.Links.{end, nexts, namers, chains, predecessor, predecessors, astrayFault, sharedFault, cyclicFault}
 use Rattle.volumes.specs.Volumes.{volumesFrom}
 use Rattle.reader.specs.declared.verdict.Verdict.{Verdict}
 use Rattle.reader.specs.Verdict.{Acceptable, acceptedValues, answerValues}

@@ -13,7 +13,8 @@ use Rattle.catalogue.specs.RoundTrip.{RoundTrip}
 use Rattle.sections.specs.Fields.{declaredSize, storedHash}
 use Rattle.head.specs.Checks.{openPlan}
 use Rattle.head.specs.declared.checks.Opening.{Opening}
-use Rattle.trace.specs.Links.{end, namers, cyclic, Cyclic, chains, predecessors, filled, linkChecks}
+use Rattle.lists.specs.Filled.{filled}
+use Rattle.trace.specs.Links.{end, namers, cyclic, Cyclic, chains, predecessors, linkChecks}
 use Rattle.trace.specs.OneChain.{OneChain}
 use Rattle.trace.specs.WorkingBuffer.{WorkingBuffer}
 use Rattle.reader.specs.declared.verdict.Acceptance.{Acceptance}

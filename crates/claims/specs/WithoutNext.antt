@@ -12,7 +12,8 @@ use Rattle.sections.specs.Fields.{linkCount}
 use Rattle.sections.specs.declared.Section.{Section}
 use Rattle.head.specs.Checks.{openPlan}
 use Rattle.head.specs.declared.checks.Opening.{Opening}
-use Rattle.trace.specs.Links.{chains, predecessors, filled}
+use Rattle.lists.specs.Filled.{filled}
+use Rattle.trace.specs.Links.{chains, predecessors}
 use Rattle.reader.specs.declared.verdict.Verdict.{Verdict}
 use Rattle.reader.specs.Checks.{traceRequired, nextsIn, ReadsPrefix}
 

@@ -14,7 +14,7 @@ use Rattle.layout.specs.declared.Version.the-variants.{V17, V23}
 use Rattle.incremental.specs.Decision.{accept, refuse, refusal}
 use Rattle.incremental.specs.Plan.{decided}
 use Rattle.incremental.specs.declared.Refusal.{Refusal}
-use Rattle.trace.specs.Links.{filled}
+use Rattle.lists.specs.Filled.{filled}
 use Rattle.query.specs.declared.PlaceAnswer.the-variants.{Shown}
 use Rattle.query.specs.Queries.{programPlace, entryPlace}
 use Rattle.reader.specs.declared.verdict.Acceptance.{Acceptance}

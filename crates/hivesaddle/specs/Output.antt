@@ -12,7 +12,7 @@ use Rattle.reader.specs.Checks.{prefixAnswer, fileAnswer}
 use Rattle.walk.specs.Walk as walk
 use Rattle.writer.specs.LaidOut.{Description}
 use Rattle.writer.specs.Writes.{writable, writeAnswer, fileFor, outputAfter}
-use Rattle.trace.specs.Links.{filled}
+use Rattle.lists.specs.Filled.{filled}
 use Rattle.readings.specs.Recording.{recorded}
 use Rattle.readings.specs.Replay.{sayingOf, answersAfter, answerCount}
 use Rattle.catalogue.specs.declared.Fields.{Fields}

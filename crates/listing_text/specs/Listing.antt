@@ -13,7 +13,7 @@ use Rattle.layout.specs.Head.{programNameAt}
 use Rattle.text.specs.Ascii.{ascii}
 use Rattle.text.specs.Decimal.{decimal}
 use Rattle.text.specs.Put.{Put}
-use Rattle.trace.specs.Links.{filled}
+use Rattle.lists.specs.Filled.{filled}
 use Rattle.incremental.specs.Decision.{accept, refuse}
 use Rattle.incremental.specs.Plan.{Answer, decided, wants}
 use Rattle.reader.specs.Verdict.{Acceptable, bufferAfter}

@@ -139,7 +139,7 @@ pub fn list(file: &[u8], predecessors: &mut [u32], out: &mut [u8]) -> usize
     ensures { λ r. ⌜ Listed (now (file .entry)) (now (predecessors .entry)) (now (out .entry)) r (now (predecessors .exit)) (now (out .exit)) ⌝ }
 {
     if FILE_LIMIT < file.len() {
-        trace::fill(predecessors);
+        lists::fill(predecessors);
         return put_too_long(out);
     }
     match reader::read_file(file, predecessors) {

@@ -4,5 +4,6 @@ pub mod Part
 pub mod First
 pub mod Those
 pub mod Count
+pub mod Filled
 pub mod Table
 pub mod Private

@@ -1,7 +1,11 @@
 // Laws on lists that several crates need are in specs/; here is what they share of code.
 ghost use mathlib.Core.Path.{_≡_};
-ghost use lib.ListN.{getD};
+ghost use lib.ListN.{length, getD};
+ghost use Rattle.lists.specs.Filled.{filled};
 ghost use Rattle.lists.specs.Part.{IsPart};
+
+// What a place holds that nothing has been put into.
+const EMPTY: u32 = 4294967295;
 
 // The index that a search found, if any.
 pub enum Found {
@@ -31,4 +35,15 @@ pub fn number_at(list: &[u32], at: usize) -> u32
         return 0;
     }
     list[at]
+}
+
+// Every place becomes empty.
+pub fn fill(places: &mut [u32])
+    ensures { λ _. ⌜ now (places .exit) ≡ filled (length (now (places .entry))) ⌝ }
+{
+    let mut i = 0;
+    while i < places.len() {
+        places[i] = EMPTY;
+        i += 1;
+    }
 }

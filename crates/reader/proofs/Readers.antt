@@ -7,7 +7,7 @@ use Rattle.layout.specs.Head.{declaredSizeAt}
 use Rattle.incremental.specs.Decision.{accept, refuse, refusal}
 use Rattle.incremental.specs.Plan.{Answer, decided, wants}
 use Rattle.incremental.specs.declared.Refusal.{Refusal}
-use Rattle.trace.specs.Links.{filled}
+use Rattle.lists.specs.Filled.{filled}
 use Rattle.reader.specs.declared.verdict.Acceptance.{Acceptance}
 use Rattle.reader.specs.declared.verdict.Verdict.{Verdict}
 use Rattle.reader.specs.declared.verdict.Verdict.the-variants.{Accepted, Refused, Wanted}

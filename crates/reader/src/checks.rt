@@ -205,11 +205,11 @@ pub fn read_prefix(file: &[u8], predecessors: &mut [u32]) -> Verdict
     match check_all(file, predecessors) {
         Verdict::Accepted(a) => Verdict::Accepted(a),
         Verdict::Refused(r) => {
-            trace::fill(predecessors);
+            lists::fill(predecessors);
             Verdict::Refused(r)
         }
         Verdict::Wanted(k) => {
-            trace::fill(predecessors);
+            lists::fill(predecessors);
             Verdict::Wanted(k)
         }
     }
@@ -219,7 +219,7 @@ pub fn read_prefix(file: &[u8], predecessors: &mut [u32]) -> Verdict
 fn wrong_length(number: u32, predecessors: &mut [u32]) -> Verdict
     ensures { λ r. ⌜ Reads (wrongLength number) (length (now (predecessors .entry))) r (now (predecessors .exit)) ⌝ }
 {
-    trace::fill(predecessors);
+    lists::fill(predecessors);
     Verdict::Refused(incremental::refuse(number, 0, layout::DECLARED_SIZE_AT))
 }
 

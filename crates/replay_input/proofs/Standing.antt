@@ -15,7 +15,7 @@ use Rattle.lists.specs.Count.{pick}
 use Rattle.lists.specs.Table.{tabulate}
 use Rattle.lists.proofs.Count.{true-false}
 use Rattle.lists.proofs.Parts.{drop-take}
-use Rattle.trace.specs.Links.{filled}
+use Rattle.lists.specs.Filled.{filled}
 use Rattle.readings.specs.declared.Reading.{Reading}
 use Rattle.readings.specs.declared.pieces.Progress.{Progress}
 use Rattle.readings.specs.declared.pieces.Fed.{Fed}

@@ -5,7 +5,7 @@ use Prim.Native.Nat.{ℕ, _+_, _*_, _%_, _^_, _≤_}
 use lib.ListN.{length}
 use lib.Dec.{eqb}
 use Rattle.lists.specs.Count.{pick}
-use Rattle.trace.specs.Links.{filled}
+use Rattle.lists.specs.Filled.{filled}
 use Rattle.readings.specs.declared.ReplayAnswer.{ReplayAnswer}
 use Rattle.readings.specs.declared.ReplayAnswer.the-variants.{Replayed, Refused}
 use Rattle.readings.specs.declared.pieces.Progress.{Progress}

@@ -7,7 +7,7 @@ use lib.Dec.{eqb}
 use lib.ListN.{length, take, drop}
 use Rattle.lists.specs.Answer.{Said}
 use Rattle.lists.specs.Count.{pick}
-use Rattle.trace.specs.Links.{filled}
+use Rattle.lists.specs.Filled.{filled}
 use Rattle.readings.specs.declared.ReplayAnswer.{ReplayAnswer}
 use Rattle.readings.specs.Replay.{answersAfter, saidOf, sayingOf}
 use Rattle.readings.specs.Feeding.{Taken, takenAt, servedCount, Underway}

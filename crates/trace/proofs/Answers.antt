@@ -13,7 +13,8 @@ use Rattle.trace.specs.declared.Links.{Links}
 use Rattle.trace.specs.declared.Links.the-variants.{Chains, Refused}
 use Rattle.trace.specs.declared.Pass.{Pass}
 use Rattle.trace.specs.declared.Pass.the-variants.{Astray, Shared, Clear}
-use Rattle.trace.specs.Links.{end, filled, predecessors, chains, linkChecks, traceChecks, held, LinkDecision, LinkListAnswer}
+use Rattle.lists.specs.Filled.{filled}
+use Rattle.trace.specs.Links.{end, predecessors, chains, linkChecks, traceChecks, held, LinkDecision, LinkListAnswer}
 use Rattle.trace.proofs.Accepted.{sound, once}
 use Rattle.trace.proofs.Chains.{chains-are-ends}
 use Rattle.incremental.specs.declared.Refusal.{Refusal}

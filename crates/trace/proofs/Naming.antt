@@ -15,7 +15,8 @@ use Rattle.lists.specs.Count.{pick}
 use Rattle.lists.proofs.Count.{count-zero}
 use Rattle.lists.specs.Table.{tabulate}
 use Rattle.lists.proofs.Table.{tabulate-same, tabulate-replicate, set-tabulate}
-use Rattle.trace.specs.Links.{end, after, namers, predecessor, filled}
+use Rattle.lists.specs.Filled.{filled}
+use Rattle.trace.specs.Links.{end, after, namers, predecessor}
 use Rattle.trace.proofs.Predecessors.{predecessor-same, predecessor-other, Named, none, one, named, namers-same, namers-other}
 
 -- j is named by two or more of the first i entries

@@ -14,7 +14,8 @@ use Rattle.lists.proofs.First.{Least, first-is-at, first-is-nothing}
 use Rattle.lists.proofs.Count.{true-false, count-zero}
 use Rattle.lists.proofs.Table.{length-tabulate, getD-tabulate}
 use Rattle.trace.specs.declared.Pass.the-variants.{Astray, Shared, Clear}
-use Rattle.trace.specs.Links.{end, after, astray, namers, shared, predecessor, predecessors, filled}
+use Rattle.lists.specs.Filled.{filled}
+use Rattle.trace.specs.Links.{end, after, astray, namers, shared, predecessor, predecessors}
 use Rattle.trace.specs.Private.{firstAstray, firstShared, Stored, Passed}
 use Rattle.trace.proofs.Accepted.{astray-yes, astray-below, astray-end}
 use Rattle.trace.proofs.Forward.{LeadsOn, leads-none, leads-more}

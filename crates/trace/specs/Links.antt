@@ -4,7 +4,8 @@ use mathlib.Core.Bool.{Bool, true, false, not, _&&_}
 use mathlib.Core.List.{List}
 use Prim.Native.Nat.{ℕ, zero, suc, _*_}
 use lib.Dec.{ltb, eqb}
-use lib.ListN.{length, getD, replicate}
+use lib.ListN.{length, getD}
+use Rattle.lists.specs.Filled.{filled}
 use Rattle.lists.specs.First.{first}
 use Rattle.lists.specs.Pairs.{firstOf}
 use Rattle.lists.specs.Table.{tabulate}
@@ -71,10 +72,6 @@ predecessor s (suc i) j = pick (eqb (after s i) j) i (predecessor s i j)
 -- place after those of the entries the end
 unfoldable pub predecessors : List ℕ → ℕ → List ℕ
 predecessors s m = tabulate m (λ j. pick (ltb j (length s)) (predecessor s (length s) j) end)
-
--- the working buffer after anything else
-abbrev pub filled : ℕ → List ℕ
-filled m = replicate m end
 
 -- what each case of the answer says
 abbrev pub linksOf : Links → Decision ℕ

@@ -6,7 +6,8 @@ use mathlib.Core.Logic.{_⊎_}
 use Prim.Native.Nat.{ℕ, _<_, _≤_, min}
 use lib.ListN.{length, getD, set}
 use Rattle.trace.specs.Links.{end, after, astray, namers, shared, cyclic, sharedFault, cyclicFault}
-use Rattle.trace.specs.Links.{chains, predecessors, filled, linkChecks, LinkDecision}
+use Rattle.lists.specs.Filled.{filled}
+use Rattle.trace.specs.Links.{chains, predecessors, linkChecks, LinkDecision}
 use lib.Dec.{eqb}
 use Rattle.lists.specs.declared.Found.{Found}
 use Rattle.lists.specs.declared.Found.the-variants.{At, Nothing}

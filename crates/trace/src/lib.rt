@@ -8,7 +8,7 @@ ghost use Rattle.lists.specs.Private.{foundBelow};
 ghost use Rattle.little_endian.specs.Number.{le};
 ghost use Rattle.layout.specs.Head.{entryOffset};
 ghost use Rattle.incremental.specs.Decision.{refusal};
-ghost use Rattle.trace.specs.Links.{end, nexts, filled, predecessors, LinkAnswer};
+ghost use Rattle.trace.specs.Links.{end, nexts, predecessors, LinkAnswer};
 ghost use Rattle.trace.specs.Private.{Distinct, Forward, firstCyclic, LinkedBuffer, FilledBuffer, FilledLinked};
 ghost use Rattle.trace.specs.Private.{TableBuilt, Stored, Passed, CyclesAnswered, LinksAnswered};
 
@@ -50,17 +50,6 @@ fn found_below(entries: u32, i: u32) -> Found
         Found::At(i as usize)
     } else {
         Found::Nothing
-    }
-}
-
-// Every place of the buffer holds END.
-pub fn fill(buffer: &mut [u32])
-    ensures { λ _. ⌜ now (buffer .exit) ≡ filled (length (now (buffer .entry))) ⌝ }
-{
-    let mut i = 0;
-    while i < buffer.len() {
-        buffer[i] = END;
-        i += 1;
     }
 }
 
@@ -116,7 +105,7 @@ fn build_table(section: &[u8], size: u16, entries: u32, buffer: &mut [u32])
     requires { ⌜ LinkedBuffer (nexts (now section) size entries) (now buffer) ⌝ }
     ensures { λ _. ⌜ now (buffer .exit) ≡ predecessors (nexts (now (section .entry)) size entries) (length (now (buffer .entry))) ⌝ }
 {
-    fill(buffer);
+    lists::fill(buffer);
     store_predecessors(section, size, entries, buffer);
 }
 
@@ -150,7 +139,7 @@ fn find_cycle(section: &[u8], size: u16, entries: u32, buffer: &mut [u32]) -> Fo
     requires { ⌜ LinkedBuffer (nexts (now section) size entries) (now buffer) × Distinct (nexts (now section) size entries) ⌝ }
     ensures { λ r. ⌜ r ≡ firstCyclic (nexts (now (section .entry)) size entries) ⌝ }
 {
-    fill(buffer);
+    lists::fill(buffer);
     first_cyclic(section, size, entries, buffer)
 }
 
@@ -177,7 +166,7 @@ fn check_cycles(
 {
     let found = find_cycle(section, size, entries, buffer);
     if let Found::At(i) = found {
-        fill(buffer);
+        lists::fill(buffer);
         return refused(13, start, size, i as u32);
     }
     build_table(section, size, entries, buffer);
@@ -216,11 +205,11 @@ fn check_entries(section: &[u8], start: u32, size: u16, entries: u32, buffer: &m
     let pass = store_predecessors(section, size, entries, buffer);
     match pass {
         Pass::Astray(i) => {
-            fill(buffer);
+            lists::fill(buffer);
             refused(11, start, size, i)
         }
         Pass::Shared(i) => {
-            fill(buffer);
+            lists::fill(buffer);
             refused(12, start, size, i)
         }
         Pass::Clear(ends, forward) => check_order(
@@ -247,7 +236,7 @@ pub fn check_links(
     ensures { λ r. ⌜ LinkAnswer (now (section .entry)) start size entries (length (now (predecessors .entry))) r (now (predecessors .exit)) ⌝ }
 {
     let places = predecessors.len();
-    fill(predecessors);
+    lists::fill(predecessors);
     if let Fault::At(i, at) = sections::places_fault(places, entries) {
         return Links::Refused(incremental::refuse(7, i, at));
     }

@@ -56,7 +56,7 @@ fn build_table(pairs: &[u32], entries: u32, buffer: &mut [u32])
     requires { ⌜ LinkedBuffer (firsts (now pairs) entries) (now buffer) ⌝ }
     ensures { λ _. ⌜ now (buffer .exit) ≡ predecessors (firsts (now (pairs .entry)) entries) (length (now (buffer .entry))) ⌝ }
 {
-    crate::fill(buffer);
+    lists::fill(buffer);
     store_predecessors(pairs, entries, buffer);
 }
 
@@ -89,7 +89,7 @@ fn find_cycle(pairs: &[u32], entries: u32, buffer: &mut [u32]) -> Found
     requires { ⌜ LinkedBuffer (firsts (now pairs) entries) (now buffer) × Distinct (firsts (now pairs) entries) ⌝ }
     ensures { λ r. ⌜ r ≡ firstCyclic (firsts (now (pairs .entry)) entries) ⌝ }
 {
-    crate::fill(buffer);
+    lists::fill(buffer);
     first_cyclic(pairs, entries, buffer)
 }
 
@@ -109,7 +109,7 @@ fn check_cycles(
 {
     let found = find_cycle(pairs, entries, buffer);
     if let Found::At(i) = found {
-        crate::fill(buffer);
+        lists::fill(buffer);
         return crate::refused(13, start, size, i as u32);
     }
     build_table(pairs, entries, buffer);
@@ -147,11 +147,11 @@ fn check_entries(pairs: &[u32], start: u32, size: u16, entries: u32, buffer: &mu
     let pass = store_predecessors(pairs, entries, buffer);
     match pass {
         Pass::Astray(i) => {
-            crate::fill(buffer);
+            lists::fill(buffer);
             crate::refused(11, start, size, i)
         }
         Pass::Shared(i) => {
-            crate::fill(buffer);
+            lists::fill(buffer);
             crate::refused(12, start, size, i)
         }
         Pass::Clear(ends, forward) => check_order(
@@ -180,7 +180,7 @@ pub fn check_pairs(
         (now (predecessors .exit)) ⌝ }
 {
     let places = predecessors.len();
-    crate::fill(predecessors);
+    lists::fill(predecessors);
     if let Fault::At(i, at) = sections::places_fault(places, entries) {
         return Links::Refused(incremental::refuse(7, i, at));
     }

@@ -21,7 +21,8 @@ use Rattle.head.specs.Private.{OpenFacts}
 use Rattle.head.specs.declared.checks.Opening.{Opening}
 use Rattle.head.proofs.Rules.{part-length}
 use Rattle.head.proofs.Facts.{open-complete, open-sound, open-shapes}
-use Rattle.trace.specs.Links.{end, nexts, filled, chains, predecessors}
+use Rattle.lists.specs.Filled.{filled}
+use Rattle.trace.specs.Links.{end, nexts, chains, predecessors}
 use Rattle.trace.proofs.Steps.{length-nexts}
 use Rattle.reader.specs.declared.verdict.Acceptance.{Acceptance}
 use Rattle.reader.specs.declared.verdict.Verdict.{Verdict}

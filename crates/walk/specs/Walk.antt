@@ -18,7 +18,8 @@ use Rattle.incremental.specs.declared.Refusal.{Refusal}
 use Rattle.sections.specs.Fields.{part, linkCount}
 use Rattle.head.specs.Checks.{openPlan}
 use Rattle.head.specs.declared.checks.Opening.{Opening}
-use Rattle.trace.specs.Links.{after, namers, filled}
+use Rattle.lists.specs.Filled.{filled}
+use Rattle.trace.specs.Links.{after, namers}
 use Rattle.reader.specs.Checks.{nextsIn, fileAnswer}
 use Rattle.reader.specs.Verdict.{Acceptable}
 use Rattle.walk.specs.declared.WalkAnswer.{WalkAnswer}

@@ -96,7 +96,7 @@ fn walk_opened(file: &[u8], o: Opening, predecessors: &mut [u32], order: &mut [u
     let head = o.head;
     let entries = sections::link_count(l, head);
     if order.len() < entries as usize {
-        trace::fill(predecessors);
+        lists::fill(predecessors);
         return WalkAnswer::Refused(incremental::refuse(23, 0, 0));
     }
     let section = sections::part_of(file, head.trace);

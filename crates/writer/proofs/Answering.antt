@@ -20,7 +20,8 @@ use Rattle.layout.specs.declared.Layout.{Layout}
 use Rattle.incremental.specs.Decision.{Decision, accept, refuse, refusal, _>>=_}
 use Rattle.incremental.specs.Plan.{Answer, decided}
 use Rattle.incremental.specs.declared.Refusal.{Refusal}
-use Rattle.trace.specs.Links.{filled, firsts, predecessors, linksOf}
+use Rattle.lists.specs.Filled.{filled}
+use Rattle.trace.specs.Links.{firsts, predecessors, linksOf}
 use Rattle.trace.specs.declared.Links.{Links}
 use Rattle.trace.specs.declared.Links.the-variants as links
 use Rattle.reader.specs.Verdict.{Acceptable, Reads, valuesOf, refusedValues, acceptedValues}

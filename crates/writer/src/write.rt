@@ -187,7 +187,7 @@ fn record_of(version: u32, p: Plan, g: Given, units: usize, chains: usize) -> Ac
 fn refused(number: u32, index: usize, offset: usize, buffer: &mut [u32]) -> Verdict
     ensures { λ r. ⌜ Reads (decided (refuse (refusal number index offset))) (length (now (buffer .entry))) r (now (buffer .exit)) ⌝ }
 {
-    trace::fill(buffer);
+    lists::fill(buffer);
     Verdict::Refused(incremental::refuse(number, index, offset))
 }
 
@@ -214,7 +214,7 @@ fn write_planned(
     match check_sections(l, p, g, metrics, trace, strings, volumes, predecessors) {
         Links::Chains(n) => {
             if output.len() < p.size as usize {
-                trace::fill(predecessors);
+                lists::fill(predecessors);
                 return Verdict::Refused(incremental::refuse(20, 0, 0));
             }
             crate::put_file(

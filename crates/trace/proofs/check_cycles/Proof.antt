@@ -5,7 +5,8 @@ use lib.ListN.{length}
 use Rattle.incremental.specs.Decision.{accept}
 use Rattle.trace.proofs.Steps.{length-nexts}
 use Rattle.lists.proofs.First.{first-at}
-use Rattle.trace.specs.Links.{nexts, filled, cyclic, chains, predecessors}
+use Rattle.lists.specs.Filled.{filled}
+use Rattle.trace.specs.Links.{nexts, cyclic, chains, predecessors}
 use Rattle.trace.proofs.Accepted.{distinct}
 use Rattle.trace.specs.Private.{firstCyclic}
 use Rattle.trace.proofs.Answers.{answer-at, answer-chains}

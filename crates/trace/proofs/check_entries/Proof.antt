@@ -1,6 +1,6 @@
 -- One pass finds the first entry astray, or else the smallest named twice, or leaves a table on which check 13 runs.
 use mathlib.Core.Path.{_∙_, ap}
-use Rattle.trace.specs.Links.{filled}
+use Rattle.lists.specs.Filled.{filled}
 use Rattle.trace.proofs.Answers.{passed-built, passed-astray, passed-shared, passed-clear}
 use borrow.Author.Needs.{needs}
 use Rattle.trace.proofs.check_entries.Statement.{statement}

@@ -1,7 +1,7 @@
 -- The checks give the verdict; an accepted file keeps its table, and in the two other cases the buffer is filled.
 use Rattle.reader.proofs.Readers.{reads-accepted, reads-refused, reads-wanted}
 use mathlib.Core.Path.{ap, _∙_}
-use Rattle.trace.specs.Links.{filled}
+use Rattle.lists.specs.Filled.{filled}
 use borrow.Author.Needs.{needs}
 use Rattle.reader.proofs.checks.read_prefix.Statement.{statement}
 use Rattle.reader.proofs.checks.read_prefix.Tie as tie

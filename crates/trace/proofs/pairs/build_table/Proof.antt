@@ -2,7 +2,8 @@
 use mathlib.Core.Path.{_≡_, sym, _∙_, ap}
 use native.Mathlib.Omega.{arith}
 use lib.ListN.{length}
-use Rattle.trace.specs.Links.{firsts, filled, predecessors}
+use Rattle.lists.specs.Filled.{filled}
+use Rattle.trace.specs.Links.{firsts, predecessors}
 use borrow.Author.Needs.{needs}
 use Rattle.trace.proofs.pairs.build_table.Statement.{statement}
 use Rattle.trace.proofs.pairs.build_table.Tie as tie

@@ -4,7 +4,7 @@ use native.Mathlib.Omega.{arith}
 use lib.ListN.{length}
 use Rattle.sections.proofs.Cases.{places-met}
 use Rattle.trace.proofs.Steps.{length-firsts}
-use Rattle.trace.specs.Links.{filled}
+use Rattle.lists.specs.Filled.{filled}
 use Rattle.trace.proofs.Answers.{answer-few, answer-links}
 use borrow.Author.Needs.{needs}
 use Rattle.trace.proofs.pairs.check_pairs.Statement.{statement}

@@ -2,7 +2,7 @@ use mathlib.Core.Path.{_≡_, sym, _∙_, ap}
 use native.Mathlib.Omega.{arith}
 use lib.ListN.{length}
 use borrow.Author.Needs.{needs}
-use Rattle.trace.specs.Links.{filled}
+use Rattle.lists.specs.Filled.{filled}
 use Rattle.trace.proofs.pairs.find_cycle.Statement.{statement}
 use Rattle.trace.proofs.pairs.find_cycle.Tie as tie
 
