@@ -4,12 +4,13 @@ use lib.ListN.{length}
 use Rattle.lists.specs.Count.{some}
 use Rattle.hex.specs.Hex.{isDigit, digitValue, hexAt, areDigits}
 use Rattle.layout.specs.Versions.{versionOf}
-use Rattle.catalogue.specs.Line.{reading, isLine, isFrame, canForm, fieldsIn}
+use Rattle.lines.specs.Lines.{isLine}
+use Rattle.catalogue.specs.Line.{reading, isGood, canForm, fieldsIn}
 use Rattle.catalogue.specs.Points.{example, newExample, exampleFields, LinePoints}
 use Rattle.catalogue.proofs.RoundTrip.{round-trip}
 
 new-read : reading newExample ≡ record { number = 0; fields = exampleFields }
-unfolding newExample reading isLine isFrame canForm fieldsIn areDigits isDigit digitValue hexAt some versionOf
+unfolding newExample reading isGood isLine canForm fieldsIn areDigits isDigit digitValue hexAt some versionOf
 new-read = refl
 
 new-length : length newExample ≡ 27
@@ -17,7 +18,7 @@ unfolding newExample
 new-length = refl
 
 pub line-points : LinePoints
-unfolding example reading isLine isFrame canForm fieldsIn areDigits isDigit digitValue hexAt some versionOf
+unfolding example reading isGood isLine canForm fieldsIn areDigits isDigit digitValue hexAt some versionOf
 line-points =
     record {
       line-read = refl;

@@ -25,10 +25,12 @@ use Rattle.catalogue.specs.declared.ReadLine.{ReadLine}
 use Rattle.catalogue.specs.declared.ReadLine.the-variants as readLine
 use Rattle.catalogue.specs.declared.WrittenLine.{WrittenLine}
 use Rattle.catalogue.specs.declared.WrittenLine.the-variants as writtenLine
-use Rattle.catalogue.specs.Private.{Frame, readingAs}
-use Rattle.catalogue.specs.Line.{lineOf, fieldsIn, canForm, isFrame, isLine, LineAnswer, noFields, reading, sizeInRange, readAnswer}
+use Rattle.catalogue.specs.Private.{readingAs}
+use Rattle.catalogue.specs.Line.{lineOf, fieldsIn, canForm, isGood, LineAnswer, noFields, reading, sizeInRange, readAnswer}
 use Rattle.catalogue.specs.Line.{oldSizeLimit, canWrite, writtenNumber, Writing}
-use Rattle.catalogue.proofs.Line.{frame-is, frame-true, frame-part, read-good, read-old, read-new}
+use Rattle.lines.specs.Lines.{isLine}
+use Rattle.lines.proofs.Lines.{Line, line-is, line-true, line-part}
+use Rattle.catalogue.proofs.Line.{read-good, read-old, read-new}
 use Rattle.catalogue.specs.RoundTrip.{Sized, Rewritten, RoundTrip}
 
 -- ---- what is written
@@ -166,10 +168,10 @@ module _ (w : ℕ) (f : Fields) where
       go (no a) (no b) (yes c) = rw from-runs (digits-between 8 (f .runs) (p ++ q) (t ++ feed) (w + 8) lpq j (omega arith) (omega arith))
       go (no a) (no b) (no c) = rw from-version (digits-between 2 (f .version) ((p ++ q) ++ r) feed (w + 16) lpqr j (omega arith) (omega arith))
 
-  line-frame : Frame w (lineOf w f)
-  line-frame =
+  line-of-digits : Line (w + 18) (lineOf w f)
+  line-of-digits =
       record {
-        size = line-size;
+        size = line-size ∙ omega arith;
         digits = digits-all (lineOf w f) 0 (w + 18) (omega (arith, line-size)) (λ j l. rw (zero-add j) (line-digits j l));
         feed = line-feed;
       }
@@ -191,14 +193,14 @@ module _ (w : ℕ) (f : Fields) where
   unfolding t
   number-version = rw from-version (number-between 2 (f .version) ((p ++ q) ++ r) feed (w + 16) lpqr)
 
--- the bytes of a frame are the digits of its fields and a line feed
-pub frame-line : (w : ℕ) (s : List ℕ) → Frame w s → s ≡ lineOf w (fieldsIn w s)
+-- the bytes of a line of digits are those of its fields and a line feed
+pub digits-line : (w : ℕ) (s : List ℕ) → isLine (w + 18) s ≡ true → s ≡ lineOf w (fieldsIn w s)
 unfolding lineOf fieldsIn
-frame-line w s z =
+digits-line w s z =
     let field : (at k : ℕ) → at + k ≤ w + 18 → hexDigits k (hexAt k s at) ≡ take k (drop at s) =
-    λ at k l. digits-hex k s at (omega (arith, z .size)) (frame-part w s z at k l) in
+    λ at k l. digits-hex k s at (omega (arith, line-true (w + 18) s z .size)) (line-part (w + 18) s z at k l) in
     let e : drop (w + 18) s ≡ 10 ∷ [] =
-    drop-cons s (w + 18) 0 (omega (arith, z .size)) ∙ rw (z .feed, drop-of-length-le s {i = suc (w + 18)} (omega (arith, z .size))) in
+    drop-cons s (w + 18) 0 (omega (arith, line-true (w + 18) s z .size)) ∙ rw (line-true (w + 18) s z .feed, drop-of-length-le s {i = suc (w + 18)} (omega (arith, line-true (w + 18) s z .size))) in
     rw (field 0 w (omega arith), field w 8 (omega arith), field (w + 8) 8 (omega arith), field (w + 16) 2 (omega arith), ← e)
     (sym
     (ap (λ (x : List ℕ). take w s ++ (take 8 (drop w s) ++ (take 8 (drop (w + 8) s) ++ x))) (rest (w + 16) 2 (w + 18) (omega arith))
@@ -275,44 +277,44 @@ written-reads w limit f l e z =
     let c : hexAt 8 (lineOf w f) (w + 8) ≡ f .runs = number-runs w f ∙ mod-eq-of-lt (z .runs) in
     let d : hexAt 2 (lineOf w f) (w + 16) ≡ f .version = number-version w f ∙ mod-eq-of-lt (version-small limit f h) in
     let g : fieldsIn w (lineOf w f) ≡ f = rw (a, b, c, d) in
-    read-good w limit (lineOf w f) (frame-is w (lineOf w f) (line-frame w f)) (rw g e) ∙ rw g
+    read-good w limit (lineOf w f) (line-is (w + 18) (lineOf w f) (line-of-digits w f)) (rw g e) ∙ rw g
 
 new-reads : (f : Fields) → canForm sizeLimit f ≡ true → Sized f → reading (lineOf 8 f) ≡ record { number = 0; fields = f }
 new-reads f e z = sym (read-new (lineOf 8 f) (λ n. omega (arith, line-size 8 f))) ∙ written-reads 8 sizeLimit f (omega arith) e z
 
 -- what bytes that read are
 record Good (w limit : ℕ) (s : List ℕ) (f : Fields) : Type 0 where
-  frame : Frame w s
+  frame : isLine (w + 18) s ≡ true
   fields : fieldsIn w s ≡ f
   formed : canForm limit f ≡ true
 
 module _ (w limit : ℕ) (s : List ℕ) (f : Fields) where
   read-true : readingAs w limit s ≡ record { number = 0; fields = f } → Good w limit s f
-  unfolding readingAs isLine
-  read-true e = go (isFrame w s) (canForm limit (fieldsIn w s)) refl refl e
+  unfolding readingAs isGood
+  read-true e = go (isLine (w + 18) s) (canForm limit (fieldsIn w s)) refl refl e
     where
-      go : (a b : Bool) → isFrame w s ≡ a → canForm limit (fieldsIn w s) ≡ b
+      go : (a b : Bool) → isLine (w + 18) s ≡ a → canForm limit (fieldsIn w s) ≡ b
           → pick {A = LineAnswer} (a && b) (record { number = 0; fields = fieldsIn w s }) (record { number = 18; fields = noFields })
           ≡ record { number = 0; fields = f }
           → Good w limit s f
       go true true p q e =
           let g : fieldsIn w s ≡ f = ap (λ (x : LineAnswer). x .fields) e in
-          record { frame = frame-true w s p; fields = g; formed = ap (canForm limit) (sym g) ∙ q }
+          record { frame = p; fields = g; formed = ap (canForm limit) (sym g) ∙ q }
       go true false p q e = let z : _≡_ {A = ℕ} 18 0 = ap (λ (x : LineAnswer). x .number) e in absurd (omega arith)
       go false b p q e = let z : _≡_ {A = ℕ} 18 0 = ap (λ (x : LineAnswer). x .number) e in absurd (omega arith)
 
   module _ (h : Good w limit s f) where
     -- a line that reads is the one that its fields give
     good-line : s ≡ lineOf w f
-    good-line = frame-line w s (h .frame) ∙ ap (lineOf w) (h .fields)
+    good-line = digits-line w s (h .frame) ∙ ap (lineOf w) (h .fields)
 
     -- eight digits form a number of 32 bits
     good-sized : Sized f
     unfolding fieldsIn
     good-sized =
         record {
-          hash = rw (ap (λ (x : Fields). x .hash) (h .fields)) at (hex-lt 8 s w (frame-part w s (h .frame) w 8 (omega arith)));
-          runs = rw (ap (λ (x : Fields). x .runs) (h .fields)) at (hex-lt 8 s (w + 8) (frame-part w s (h .frame) (w + 8) 8 (omega arith)));
+          hash = rw (ap (λ (x : Fields). x .hash) (h .fields)) at (hex-lt 8 s w (line-part (w + 18) s (h .frame) w 8 (omega arith)));
+          runs = rw (ap (λ (x : Fields). x .runs) (h .fields)) at (hex-lt 8 s (w + 8) (line-part (w + 18) s (h .frame) (w + 8) 8 (omega arith)));
         }
 
 -- of a line that reads, the length tells which it is

@@ -4,10 +4,11 @@ use mathlib.Core.Path.{_≡_}
 use mathlib.Core.Bool.{Bool, false, _&&_}
 use mathlib.Core.List.{List, [], _∷_, _++_}
 use Prim.Native.Nat.{ℕ, _+_}
-use lib.Dec.{leb, eqb}
-use lib.ListN.{length, getD, drop}
+use lib.Dec.{leb}
+use lib.ListN.{length, drop}
 use Rattle.lists.specs.Count.{pick}
-use Rattle.hex.specs.Hex.{hexAt, hexDigits, areDigits}
+use Rattle.hex.specs.Hex.{hexAt, hexDigits}
+use Rattle.lines.specs.Lines.{isLine}
 use Rattle.layout.specs.Versions.{versionOf, layoutOf, headEnd, sizeLimit}
 use Rattle.layout.specs.declared.KnownVersion.{KnownVersion}
 use Rattle.layout.specs.declared.KnownVersion.the-variants.{Known, Unknown}
@@ -38,13 +39,9 @@ sizeInRange limit Unknown size = false
 unfoldable pub canForm : ℕ → Fields → Bool
 canForm limit f = sizeInRange limit (versionOf (f .version)) (f .size)
 
--- w + 18 digits and a line feed: 26 digits in a new line, 24 in an old one
-unfoldable pub isFrame : ℕ → List ℕ → Bool
-isFrame w s = eqb (length s) (w + 19) && (areDigits s 0 (w + 18) && eqb (getD s (w + 18) 0) 10)
-
--- a good line
-unfoldable pub isLine : ℕ → ℕ → List ℕ → Bool
-isLine w limit s = isFrame w s && canForm limit (fieldsIn w s)
+-- a good line: w + 18 digits, 26 in a new line and 24 in an old one, whose fields can form it
+unfoldable pub isGood : ℕ → ℕ → List ℕ → Bool
+isGood w limit s = isLine (w + 18) s && canForm limit (fieldsIn w s)
 
 -- what a call answers: 0 or the number of its refusal, and the fields
 pub record LineAnswer : Type 0 where
@@ -58,8 +55,8 @@ noFields = record { size = 0; hash = 0; runs = 0; version = 0 }
 -- reading: the fields of a good new line, or of a good old one with the old limit; refusal 18 with zeros for any other bytes
 unfoldable pub reading : List ℕ → LineAnswer
 reading s =
-    pick (isLine 8 sizeLimit s) (record { number = 0; fields = fieldsIn 8 s })
-    (pick (isLine 6 oldSizeLimit s) (record { number = 0; fields = fieldsIn 6 s }) (record { number = 18; fields = noFields }))
+    pick (isGood 8 sizeLimit s) (record { number = 0; fields = fieldsIn 8 s })
+    (pick (isGood 6 oldSizeLimit s) (record { number = 0; fields = fieldsIn 6 s }) (record { number = 18; fields = noFields }))
 
 -- what each case of `ReadLine` says
 abbrev pub readAnswer : ReadLine → LineAnswer

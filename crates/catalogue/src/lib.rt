@@ -5,9 +5,9 @@ ghost use mathlib.Core.Bool.{true};
 ghost use Prim.Native.Nat.{_+_, _≤_};
 ghost use mathlib.Core.List.{_++_};
 ghost use lib.ListN.{length, drop};
-ghost use Rattle.hex.specs.Hex.{isDigit, digitValue, hexAt, areDigits};
-ghost use Rattle.catalogue.specs.Private.{Frame, readingAs, ValueTable};
-ghost use Rattle.catalogue.specs.Line.{fieldsIn, lineOf, sizeInRange, canForm, isFrame, reading, readAnswer, Writing};
+ghost use Rattle.lines.specs.Lines.{isLine};
+ghost use Rattle.catalogue.specs.Private.{readingAs};
+ghost use Rattle.catalogue.specs.Line.{fieldsIn, lineOf, sizeInRange, canForm, reading, readAnswer, Writing};
 ghost use Rattle.layout.specs.declared.KnownVersion.the-variants.{Known};
 use layout::KnownVersion;
 use layout::Layout;
@@ -16,33 +16,6 @@ use layout::Version;
 
 // The limit for the size of an old line.
 const OLD_SIZE_LIMIT: u32 = 16_777_215;
-
-// The values of the digits, which are bytes from 48 to 70. Those between 57 and 65 are none.
-const VALUES: [u8; 23] = [
-    0,
-    1,
-    2,
-    3,
-    4,
-    5,
-    6,
-    7,
-    8,
-    9,
-    0,
-    0,
-    0,
-    0,
-    0,
-    0,
-    0,
-    10,
-    11,
-    12,
-    13,
-    14,
-    15,
-];
 
 // What a line says of a file.
 pub struct Fields {
@@ -64,52 +37,15 @@ pub enum WrittenLine {
     Refused,
 }
 
-// Whether the bytes are the digits of a line of that width, and a line feed.
-fn is_frame(line: &[u8], width: usize) -> bool
-    requires { ⌜ width ≤ 8 ⌝ }
-    ensures { λ r. ⌜ r ≡ isFrame width (now (line .entry)) ⌝ }
-{
-    if line.len() != width + 19 {
-        return false;
-    }
-    if !hex::are_digits(line, 0, width + 18) {
-        return false;
-    }
-    line[width + 18] == 10
-}
-
-// The value of a digit. Looked up, as a branch on which are letters would be foretold wrong.
-fn value_of(b: u8, values: &[u8; 23]) -> u64
-    requires { ⌜ (isDigit b ≡ true) × ValueTable (now values) ⌝ }
-    ensures { λ r. ⌜ r ≡ digitValue b ⌝ }
-{
-    values[(b - 48) as usize] as u64
-}
-
-// The number that digits of a good line form.
-fn number_in(line: &[u8], at: usize, width: usize) -> u32
-    requires { ⌜ (width ≤ 8) × (areDigits (now line) at width ≡ true) ⌝ }
-    ensures { λ r. ⌜ r ≡ hexAt width (now (line .entry)) at ⌝ }
-{
-    let values = &VALUES;
-    let mut x: u64 = 0;
-    let mut k = 0;
-    while k < width {
-        x = 16 * x + value_of(line[at + k], values);
-        k += 1;
-    }
-    x as u32
-}
-
 fn fields_of(line: &[u8], width: usize) -> Fields
-    requires { ⌜ (width ≤ 8) × Frame width (now line) ⌝ }
+    requires { ⌜ (width ≤ 8) × (isLine (width + 18) (now line) ≡ true) ⌝ }
     ensures { λ r. ⌜ r ≡ fieldsIn width (now (line .entry)) ⌝ }
 {
     Fields {
-        size: number_in(line, 0, width),
-        hash: number_in(line, width, 8),
-        runs: number_in(line, width + 8, 8),
-        version: number_in(line, width + 16, 2),
+        size: hex::number_in(line, 0, width) as u32,
+        hash: hex::number_in(line, width, 8) as u32,
+        runs: hex::number_in(line, width + 8, 8) as u32,
+        version: hex::number_in(line, width + 16, 2) as u32,
     }
 }
 
@@ -137,7 +73,7 @@ fn read_as(line: &[u8], width: usize, limit: u32) -> ReadLine
     requires { ⌜ width ≤ 8 ⌝ }
     ensures { λ r. ⌜ readAnswer r ≡ readingAs width limit (now (line .entry)) ⌝ }
 {
-    if !is_frame(line, width) {
+    if !lines::is_line(line, width + 18) {
         return ReadLine::Refused;
     }
     let fields = fields_of(line, width);

@@ -147,11 +147,11 @@ pub digits-are : (w x j : ℕ) → j < w → isDigit (getD (hexDigits w x) j 0) 
 digits-are w x j l = rw (getD-digits w x j l) (digit-of-digit (x / 16 ^ (w - 1 - j) % 16) (omega arith))
 
 -- one digit more of at most sixteen fits 64 bits
-pub hex-room : (k w : ℕ) (s : List ℕ) (at : ℕ) → k < w → w ≤ 16 → Digits s at w → 16 * hexAt k s at + 15 < 2 ^ 64
-hex-room k w s at l m h =
+pub hex-room : (k : ℕ) (s : List ℕ) (at : ℕ) → k < 16 → Digits s at k → 16 * hexAt k s at + 15 < 2 ^ 64
+hex-room k s at l h =
     let q : k ≤ 15 = omega arith in
     let p : 16 ^ k ≤ 16 ^ 15 = pow-le-pow-right (omega arith) q in
-    omega (arith, hex-lt k s at (λ j q. h j (omega arith)))
+    omega (arith, hex-lt k s at h)
 
 -- a number of 64 bits has a zero at each place from 16
 pub zero-digit : (x k : ℕ) → x < 2 ^ 64 → 16 ≤ k → digitOf (x / 16 ^ k % 16) ≡ 48

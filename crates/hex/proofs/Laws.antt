@@ -11,9 +11,8 @@ use lib.Seq.{paste, length-paste, take-paste, take-all, take-add, getD-take, get
 use borrow.Author.Tests.{leb-true, le-leb, lt-leb, not-false}
 use Rattle.lists.specs.Count.{pick, some}
 use Rattle.lists.proofs.Count.{some-yes, some-no, some-false, true-false}
-use Rattle.hex.specs.Hex.{isDigit, hexAt, hexDigits, areDigits, readAt, written}
+use Rattle.hex.specs.Hex.{isDigit, hexAt, hexDigits, areDigits, numberIn, written}
 use Rattle.hex.specs.Private.{Digits}
-use Rattle.hex.specs.declared.Read.the-variants.{Number, NoNumber}
 use Rattle.hex.proofs.Hex.{hex-digits, digits-hex, digits-are, length-digits}
 
 -- ---- whether bytes are digits
@@ -42,27 +41,21 @@ module _ (s : List ℕ) (at w : ℕ) where
       go false b p q e = absurd (true-false (sym e))
 
   -- ---- reading
-  pub read-wide : 16 < w → readAt s at w ≡ NoNumber
-  unfolding readAt
-  read-wide l = rw (lt-leb w 16 l)
+  pub number-wide : 16 < w → 0 ≡ numberIn s at w
+  unfolding numberIn
+  number-wide l = rw (lt-leb w 16 l)
 
-  pub read-other : w ≤ 16 → areDigits s at w ≡ false → readAt s at w ≡ NoNumber
-  unfolding readAt
-  read-other l e = rw (le-leb w 16 l, e)
-
-  pub read-digits : w ≤ 16 → areDigits s at w ≡ true → readAt s at w ≡ Number (hexAt w s at)
-  unfolding readAt
-  read-digits l e = rw (le-leb w 16 l, e)
-
-  -- what a number that was read tells
-  pub read-number : (x : ℕ) → readAt s at w ≡ Number x → (areDigits s at w ≡ true) × (x ≡ hexAt w s at)
-  unfolding readAt
-  read-number x e = go (leb w 16) (areDigits s at w) refl e
+  pub number-other : areDigits s at w ≡ false → 0 ≡ numberIn s at w
+  unfolding numberIn
+  number-other e = go (leb w 16)
     where
-      go : (a b : Bool) → areDigits s at w ≡ b → pick (a && b) (Number (hexAt w s at)) NoNumber ≡ Number x → (areDigits s at w ≡ true) × (x ≡ hexAt w s at)
-      go true true p e = (p, cc)
-      go true false p e = let z : _≡_ {A = ℕ} 0 1 = cc in absurd (omega arith)
-      go false b p e = let z : _≡_ {A = ℕ} 0 1 = cc in absurd (omega arith)
+      go : (b : Bool) → 0 ≡ pick (b && areDigits s at w) (hexAt w s at) 0
+      go true = rw e
+      go false = refl
+
+  pub number-digits : w ≤ 16 → areDigits s at w ≡ true → numberIn s at w ≡ hexAt w s at
+  unfolding numberIn
+  number-digits l e = rw (le-leb w 16 l, e)
 
   -- ---- writing
   pub written-outside : (x : ℕ) → length s < at + w → s ≡ written s at w x
@@ -96,19 +89,20 @@ written-digit s at w x k l m =
     ∙ getD-take w ds k 0 m)
 
 -- a number that has so many digits is read where it was written
-pub written-read : (s : List ℕ) (at w x : ℕ) → at + w ≤ length s → w ≤ 16 → x < 16 ^ w → readAt (written s at w x) at w ≡ Number x
+pub written-read : (s : List ℕ) (at w x : ℕ) → at + w ≤ length s → w ≤ 16 → x < 16 ^ w → numberIn (written s at w x) at w ≡ x
 written-read s at w x l m z =
     let o = written s at w x in
     let d : Digits o at w = λ k h. rw (written-digit s at w x k l h) (digits-are w x k h) in
     let e : hexAt w o at ≡ x = hex-digits w x o at (λ k h. written-digit s at w x k l h) ∙ mod-eq-of-lt z in
-    read-digits o at w m (digits-all o at w (omega (arith, written-length s at w x)) d) ∙ ap Number e
+    number-digits o at w m (digits-all o at w (omega (arith, written-length s at w x)) d) ∙ e
 
 -- a number that was read has the digits that stand there, so that writing it changes nothing
-pub read-written : (s : List ℕ) (at w x : ℕ) → readAt s at w ≡ Number x → (hexDigits w x ≡ take w (drop at s)) × (written s at w x ≡ s)
-read-written s at w x e =
-    let n = read-number s at w x e in
-    let d = digits-true s at w (n .0) in
-    let h : hexDigits w x ≡ take w (drop at s) = ap (hexDigits w) (n .1) ∙ digits-hex w s at (d .0) (d .1) in
+pub read-written : (s : List ℕ) (at w : ℕ) → areDigits s at w ≡ true
+    → (hexDigits w (hexAt w s at) ≡ take w (drop at s)) × (written s at w (hexAt w s at) ≡ s)
+read-written s at w e =
+    let x = hexAt w s at in
+    let d = digits-true s at w e in
+    let h : hexDigits w x ≡ take w (drop at s) = digits-hex w s at (d .0) (d .1) in
     let t : take w (hexDigits w x) ≡ take w (drop at s) = take-all w (hexDigits w x) (omega (arith, length-digits w x)) ∙ h in
     (h, written-fits s at w x (d .0) ∙ rw (t, ← take-add at w s) (take-append-drop (at + w) s))
 

@@ -6,9 +6,6 @@ use lib.Dec.{ltb, leb}
 use lib.ListN.{length, getD}
 use lib.Seq.{paste}
 use Rattle.lists.specs.Count.{pick, some}
-use Rattle.lists.specs.Answer.{Said}
-use Rattle.hex.specs.declared.Read.{Read}
-use Rattle.hex.specs.declared.Read.the-variants.{Number, NoNumber}
 
 -- a byte that is one of the digits 0-9 and A-F
 unfoldable pub isDigit : ℕ → Bool
@@ -36,14 +33,9 @@ hexDigits (suc width) x = digitOf (x / 16 ^ width % 16) ∷ hexDigits width x
 unfoldable pub areDigits : List ℕ → ℕ → ℕ → Bool
 areDigits s at width = leb (at + width) (length s) && not (some (λ k. not (isDigit (getD s (at + k) 0))) width)
 
--- READING: the number that `width` digits from `at` form, where they are digits and so few that 64 bits hold it
-unfoldable pub readAt : List ℕ → ℕ → ℕ → Read
-readAt s at width = pick (leb width 16 && areDigits s at width) (Number (hexAt width s at)) NoNumber
-
--- what each case of `Read` says: 1 and the number, or 0
-abbrev pub readSaid : Read → Said
-readSaid (Number x) = record { number = 1; values = x ∷ [] }
-readSaid NoNumber = record { number = 0; values = [] }
+-- READING: the number that `width` digits from `at` form, where they are digits and so few that 64 bits hold it; else 0
+unfoldable pub numberIn : List ℕ → ℕ → ℕ → ℕ
+numberIn s at width = pick (leb width 16 && areDigits s at width) (hexAt width s at) 0
 
 -- WRITING: the lowest `width` digits stand from `at` where there is room for all of them, and the other bytes stay
 unfoldable pub written : List ℕ → ℕ → ℕ → ℕ → List ℕ

@@ -2,15 +2,35 @@
 ghost use mathlib.Core.Path.{_≡_};
 ghost use Prim.Native.Nat.{_+_, _/_, _%_, _^_, _≤_, _<_};
 ghost use lib.ListN.{length};
-ghost use Rattle.lists.specs.Answer.{Answers};
-ghost use Rattle.hex.specs.Hex.{isDigit, digitValue, digitOf, hexAt, areDigits, readAt, readSaid, written};
-ghost use Rattle.hex.specs.Private.{Digits};
+ghost use Rattle.hex.specs.Hex.{isDigit, digitOf, areDigits, numberIn, written};
+ghost use Rattle.hex.specs.Private.{valueOr16, ValueTable};
 
-// The number that digits form, if they are digits.
-pub enum Read {
-    Number(u64),
-    NoNumber,
-}
+// The values of the digits, which are bytes from 48 to 70. Those between 57 and 65 are none: 16.
+const VALUES: [u8; 23] = [
+    0,
+    1,
+    2,
+    3,
+    4,
+    5,
+    6,
+    7,
+    8,
+    9,
+    16,
+    16,
+    16,
+    16,
+    16,
+    16,
+    16,
+    10,
+    11,
+    12,
+    13,
+    14,
+    15,
+];
 
 fn is_digit(b: u8) -> bool
     ensures { λ r. ⌜ r ≡ isDigit b ⌝ }
@@ -25,17 +45,6 @@ fn is_digit(b: u8) -> bool
         return false;
     }
     b <= 70
-}
-
-fn digit_value(b: u8) -> u64
-    requires { ⌜ 48 ≤ b ⌝ }
-    ensures { λ r. ⌜ r ≡ digitValue b ⌝ }
-{
-    if b <= 57 {
-        (b - 48) as u64
-    } else {
-        (b - 55) as u64
-    }
 }
 
 // Whether so many bytes from `at` are there, and are digits.
@@ -58,30 +67,46 @@ pub fn are_digits(line: &[u8], at: usize, width: usize) -> bool
     true
 }
 
-fn value_at(line: &[u8], at: usize, width: usize) -> u64
-    requires { ⌜ (width ≤ 16) × (at + width ≤ length (now line)) × Digits (now line) at width ⌝ }
-    ensures { λ r. ⌜ r ≡ hexAt width (now (line .entry)) at ⌝ }
+// The value of a digit; 16 where the byte is none. Looked up, as a branch on which are letters would be foretold wrong.
+fn value_of(b: u8, values: &[u8; 23]) -> u64
+    requires { ⌜ ValueTable (now values) ⌝ }
+    ensures { λ r. ⌜ r ≡ valueOr16 b ⌝ }
 {
-    let mut r: u64 = 0;
-    let mut k = 0;
-    while k < width {
-        r = 16 * r + digit_value(line[at + k]);
-        k += 1;
+    if b < 48 {
+        return 16;
     }
-    r
+    if 70 < b {
+        return 16;
+    }
+    values[(b - 48) as usize] as u64
 }
 
-// The number that up to 16 digits from `at` form.
-pub fn number_at(line: &[u8], at: usize, width: usize) -> Read
-    ensures { λ r. ⌜ Answers readSaid (readAt (now (line .entry)) at width) r ⌝ }
+// The number that up to 16 digits from `at` form; 0 where they are no digits. Tested and valued in one pass.
+pub fn number_in(line: &[u8], at: usize, width: usize) -> u64
+    ensures { λ r. ⌜ r ≡ numberIn (now (line .entry)) at width ⌝ }
 {
     if 16 < width {
-        return Read::NoNumber;
+        return 0;
     }
-    if !are_digits(line, at, width) {
-        return Read::NoNumber;
+    if line.len() < at {
+        return 0;
     }
-    Read::Number(value_at(line, at, width))
+    let left = line.len() - at;
+    if left < width {
+        return 0;
+    }
+    let values = &VALUES;
+    let mut x: u64 = 0;
+    let mut k = 0;
+    while k < width {
+        let v = value_of(line[at + k], values);
+        if v == 16 {
+            return 0;
+        }
+        x = 16 * x + v;
+        k += 1;
+    }
+    x
 }
 
 fn digit_of(d: u8) -> u8

@@ -5,7 +5,7 @@ pub mod Ranks
 pub mod Places
 pub mod Range
 pub mod Kept
-pub mod Lines
+pub mod Recorded
 pub mod Passes
 pub mod Answering
 pub mod BestReading

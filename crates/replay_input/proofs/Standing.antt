@@ -24,16 +24,16 @@ use Rattle.readings.specs.declared.ReplayAnswer.the-variants.{Replayed, Refused
 use Rattle.readings.specs.Recording.{Recorded, readings, badLine}
 use Rattle.readings.specs.Replay.{answersAfter, answerCount, placeOf, saidOf, sayingOf}
 use Rattle.readings.specs.Feeding.{frameCount, frameReadings, waits, Taken, takenAt, endsAs, servedCount, Underway, Begins, Feeds, endLine, Finishes}
-use Rattle.readings.proofs.Framing.{frames-fit}
+use Rattle.lines.specs.Lines.{leading}
+use Rattle.lines.proofs.Leading.{leading-fit, leading-few}
 use Rattle.readings.proofs.Keeping.{used-fits}
 use Rattle.replay_input.specs.declared.steps.Stage.{Stage}
 use Rattle.replay_input.specs.declared.steps.Input.{Input}
 use Rattle.replay_input.specs.declared.steps.Took.{Took}
-use Rattle.replay_input.specs.Starts.{timeIn, boardIn, startLines, room, TakesStarts}
+use Rattle.replay_input.specs.Starts.{timeIn, boardIn, room, TakesStarts}
 use Rattle.replay_input.specs.Input.{Standing, nothingRead, startsAt, stepOf, endOf}
 use Rattle.replay_input.specs.Program.{timesOf, boardsOf, mostOf, Stands, Holds, Fresh, Steps, Ends, TakesBytes, atHand}
 use Rattle.replay_input.specs.Private.{StartsFit, RecordingBegins, EndsUnread}
-use Rattle.replay_input.proofs.Starts.{starts-fit}
 
 pub fresh : Fresh (record { stage = record { starts = 0; starting = true; progress = record { lines = 0; bad = 0 } }; kept = 0 })
 fresh buffer times boards work answers =
@@ -66,8 +66,8 @@ module _ (t : Standing) (stage : Stage) (times boards work answers : List ℕ) (
 -- the recording begins
 pub recording-begins : (s : List ℕ) (lines : ℕ) (times boards work answers : List ℕ) (q : Progress) (work′ answers₁ : List ℕ) (r : Fed) (answers′ : List ℕ)
     → Begins times boards work answers q work′ answers₁ → Feeds (record { lines = lines; bad = 0 }) s times boards work′ answers₁ r answers′
-    → RecordingBegins s lines times boards r work′ answers′
-recording-begins s lines times boards work answers q work′ answers₁ r answers′ b f =
+    → RecordingBegins s linesIn times boards r work′ answers′
+recording-begins s linesIn times boards work answers q work′ answers₁ r answers′ b f =
     record { lines = f .lines; bad = f .bad; used = f .used; given = f .given [] (b .given) }
 
 -- ---- frames
@@ -79,7 +79,7 @@ module _ (t : Taken) (s : List ℕ) (r : Fed) where
     pub bad : r .progress .bad ≡ takenAt t s .bad
     pub rest : drop (r .used) s ≡ takenAt t s .rest
     pub stopped : (takenAt t s .bad ≡ 0 → ⊥) → takenAt t s .rest ≡ []
-    pub found : takenAt t s .found ≡ t .found ++ frameReadings (frameCount s) s
+    pub found : takenAt t s .found ≡ t .found ++ frameReadings s
 
   pub framed : (before : ℕ) → before ≡ t .lines → r .progress .lines ≡ (before + frameCount s) % 2 ^ 64
       → r .progress .bad ≡ pick (waits s) 0 ((before + frameCount s + 1) % 2 ^ 64)
@@ -112,18 +112,18 @@ module _ (t : Taken) (s : List ℕ) (r : Fed) where
 
 taken-lines : (t : Taken) (s : List ℕ) → takenAt t s .lines ≡ t .lines + frameCount s
 unfolding takenAt
-taken-lines t s = go (waits s) refl
+taken-linesIn t s = go (waits s) refl
   where
     go : (w : Bool) → waits s ≡ w → takenAt t s .lines ≡ t .lines + frameCount s
     go true q = rw q
     go false q = rw q
 
-pub begun-fits : (s : List ℕ) (lines : ℕ) (times boards : List ℕ) (r : Fed) (work answers : List ℕ) → RecordingBegins s lines times boards r work answers
+pub begun-fits : (s : List ℕ) (lines : ℕ) (times boards : List ℕ) (r : Fed) (work answers : List ℕ) → RecordingBegins s linesIn times boards r work answers
     → r .used ≤ length s
-begun-fits s lines times boards r work answers b = rw (b .used) (go (waits s))
+begun-fits s linesIn times boards r work answers b = rw (b .used) (go (waits s))
   where
     go : (w : Bool) → pick w (23 * frameCount s) (length s) ≤ length s
-    go true = frames-fit (length s) s
+    go true = leading-fit 22 (length s) s
     go false = le-refl (length s)
 
 -- ---- bytes of the recording
@@ -143,7 +143,7 @@ module _ (s : List ℕ) (stage : Stage) (times boards work answers : List ℕ) (
     boards-same = boards-held t stage times boards work answers h
 
     -- the readings that came behind those so far
-    kept : Underway (timesOf t) (boardsOf t) work answers′ (t .taken .found ++ pick (eqb (stage .progress .bad) 0) (frameReadings (frameCount s) s) [])
+    kept : Underway (timesOf t) (boardsOf t) work answers′ (t .taken .found ++ pick (eqb (stage .progress .bad) 0) (frameReadings s) [])
     kept = rw (times-same, boards-same) at (f .given (t .taken .found) (rw (times-same, boards-same) (h .underway begun)))
 
     stands : (x : Taken) → r .progress .lines ≡ x .lines → r .progress .bad ≡ x .bad → ((x .bad ≡ 0 → ⊥) → x .rest ≡ [])
@@ -212,13 +212,13 @@ stored l n f xs ys e h q =
 module _ (s : List ℕ) (stage : Stage) (times boards : List ℕ) (k : ℕ) (times′ boards′ : List ℕ)
     (g : TakesStarts s (stage .starts) times boards k times′ boards′) where
   pub taken-fit : (19 * k ≤ length s) × (k ≤ room (stage .starts) times boards)
-  taken-fit = rw (g .count) (starts-fit (room (stage .starts) times boards) s)
+  taken-fit = let m = room (stage .starts) times boards in rw (g .count) (leading-fit 18 m s, leading-few 18 m s)
 
   times-size : length times′ ≡ length times
-  times-size = ap length (g .times′-are) ∙ length-sets times (stage .starts) (map timeIn (startLines (room (stage .starts) times boards) s))
+  times-size = ap length (g .times′-are) ∙ length-sets times (stage .starts) (map timeIn (leading 18 (room (stage .starts) times boards) s))
 
   boards-size : length boards′ ≡ length boards
-  boards-size = ap length (g .boards′-are) ∙ length-sets boards (stage .starts) (map boardIn (startLines (room (stage .starts) times boards) s))
+  boards-size = ap length (g .boards′-are) ∙ length-sets boards (stage .starts) (map boardIn (leading 18 (room (stage .starts) times boards) s))
 
   pub starts-room : StartsFit (stage .starts) times boards → StartsFit (stage .starts + k) times′ boards′
   starts-room f =
@@ -230,11 +230,11 @@ module _ (s : List ℕ) (stage : Stage) (times boards : List ℕ) (k : ℕ) (tim
   module _ (work answers : List ℕ) (e : stage .starting ≡ true) where
     module _ (t : Standing) (h : Stands t stage times boards work answers) where
       ks : List (List ℕ)
-      ks = startLines (mostOf times boards - length (t .starts)) s
+      ks = leading 18 (mostOf times boards - length (t .starts)) s
 
-      lines-same : startLines (room (stage .starts) times boards) s ≡ ks
+      lines-same : leading 18 (room (stage .starts) times boards) s ≡ ks
       unfolding ks
-      lines-same = ap (λ (n : ℕ). startLines (mostOf times boards - n) s) (h .count)
+      lines-same = ap (λ (n : ℕ). leading 18 (mostOf times boards - n) s) (h .count)
 
       many : k ≡ length ks
       many = g .count ∙ ap length lines-same
@@ -284,7 +284,7 @@ module _ (s : List ℕ) (stage : Stage) (times boards : List ℕ) (k : ℕ) (tim
         (record { stage = record { starts = stage .starts + k; starting = true; progress = record { lines = lines; bad = 0 } }; used = 19 * k })
         times′ boards′ work answers
     unfolding startsAt ks
-    starts-wait lines l n = record { used = taken-fit .0; holds = go }
+    starts-wait linesIn l n = record { used = taken-fit .0; holds = go }
       where
         go : (t : Standing) → Stands t stage times boards work answers → atHand (mostOf times boards) t s .taken .lines + 1 < 2 ^ 64
             → Stands (atHand (mostOf times boards) t s)
@@ -304,19 +304,19 @@ module _ (s : List ℕ) (stage : Stage) (times boards : List ℕ) (k : ℕ) (tim
 
     -- the recording begins behind the starts
     pub starts-begin : (lines : ℕ) (r : Fed) (work′ answers′ : List ℕ) → lines ≡ (stage .progress .lines + k) % 2 ^ 64 → 19 ≤ length s - 19 * k
-        → RecordingBegins (take (length s - 19 * k) (drop (19 * k) s)) lines (take (stage .starts + k) times′) (take (stage .starts + k) boards′) r
+        → RecordingBegins (take (length s - 19 * k) (drop (19 * k) s)) linesIn (take (stage .starts + k) times′) (take (stage .starts + k) boards′) r
         work′ answers′
         → TakesBytes s stage times boards work answers
         (record { stage = record { starts = stage .starts + k; starting = false; progress = r .progress }; used = 19 * k + r .used })
         times′ boards′ work′ answers′
     unfolding startsAt ks
-    starts-begin lines r work′ answers′ l n b =
+    starts-begin linesIn r work′ answers′ l n b =
         record {
           used = omega (arith, taken-fit .0, length-drop (19 * k) s, begun-fits _ _ _ _ _ _ _ begun);
           holds = go;
         }
       where
-        begun : RecordingBegins (drop (19 * k) s) lines (take (stage .starts + k) times′) (take (stage .starts + k) boards′) r work′ answers′
+        begun : RecordingBegins (drop (19 * k) s) linesIn (take (stage .starts + k) times′) (take (stage .starts + k) boards′) r work′ answers′
         begun = rw (take-all (length s - 19 * k) (drop (19 * k) s) (omega (arith, length-drop (19 * k) s))) at b
 
         go : (t : Standing) → Stands t stage times boards work answers → atHand (mostOf times boards) t s .taken .lines + 1 < 2 ^ 64
@@ -329,9 +329,9 @@ module _ (s : List ℕ) (stage : Stage) (times boards : List ℕ) (k : ℕ) (tim
             let q = le-ltb (length d) 19 (omega (arith, length-drop (19 * length (ks t h)) s)) in
             let x : Taken = record { found = []; lines = t .taken .lines + length (ks t h); bad = 0; rest = [] } in
             let o : takenAt x d .lines + 1 < 2 ^ 64 = rw (first t h, q) at m in
-            let i : lines ≡ t .taken .lines + length (ks t h) = l ∙ omega (arith, h .lines, taken-lines x d) in
+            let i : lines ≡ t .taken .lines + length (ks t h) = l ∙ omega (arith, h .lines, taken-linesIn x d) in
             let f = rw (sym (size t h), times-now t h, boards-now t h, c) at begun in
-            let g = framed x d r lines i (f .lines) (f .bad) (f .used) o in
+            let g = framed x d r linesIn i (f .lines) (f .bad) (f .used) o in
             rw (first t h, q) (
               standing t h false (takenAt x d) (r .progress) work′ answers′ (g .lines) (g .bad) (λ y. absurd (true-false (sym y))) (g .stopped)
                   (λ y. rw (g .found) (f .given)),

@@ -2,34 +2,28 @@
 use mathlib.Core.Path.{_≡_}
 use mathlib.Core.Bool.{Bool, true, false}
 use mathlib.Core.List.{List, [], _∷_, _++_}
-use Prim.Native.Nat.{ℕ, zero, suc, _+_, _-_, _*_}
+use Prim.Native.Nat.{ℕ, _+_, _-_, _*_}
 use lib.Dec.{ltb}
 use lib.ListN.{length, drop}
 use Rattle.lists.specs.Count.{pick}
-use Rattle.readings.specs.Recording.{lines, Recorded, recordedFrom}
+use Rattle.lines.specs.Lines.{linesIn, leading}
+use Rattle.readings.specs.Recording.{Recorded, recordedFrom}
 use Rattle.readings.specs.Feeding.{Taken, nothingTaken, takenAt, taking, endsAs, joined}
-use Rattle.replay_input.specs.Starts.{isStart, startLines}
 
 -- ---- the input as a whole
-
--- the start lines that some lines begin with, at most n
-unfoldable pub startsOf : ℕ → List (List ℕ) → List (List ℕ)
-startsOf zero ls = []
-startsOf (suc n) [] = []
-startsOf (suc n) (l ∷ ls) = pick (isStart l) (l ∷ startsOf n ls) []
 
 -- the starts, and what comes after them
 pub record InputRead : Type 0 where
   pub starts : List (List ℕ)
   pub recording : Recorded
 
--- THE INPUT. Its lines are numbered through, and behind the starts all are the recording's: a start after a reading is a bad line, and so is
--- one more than there may be.
+-- THE INPUT: the start lines that it begins with, at most so many, and then the recording. Its lines are numbered through, and behind the
+-- starts all are the recording's: a start after a reading is a bad line, and so is one more than there may be.
 unfoldable pub inputOf : ℕ → List ℕ → InputRead
 inputOf most s =
     record {
-      starts = startsOf most (lines s);
-      recording = recordedFrom (length (startsOf most (lines s)) + 1) (drop (length (startsOf most (lines s))) (lines s));
+      starts = leading 18 most s;
+      recording = recordedFrom (length (leading 18 most s) + 1) (linesIn (drop (19 * length (leading 18 most s)) s));
     }
 
 -- ---- in steps
@@ -57,7 +51,7 @@ behindStarts t ks s =
 -- the bytes s at hand, where more starts may come
 unfoldable pub startsAt : ℕ → Standing → List ℕ → Standing
 startsAt most t s =
-    behindStarts t (startLines (most - length (t .starts)) s) (drop (19 * length (startLines (most - length (t .starts)) s)) s)
+    behindStarts t (leading 18 (most - length (t .starts)) s) (drop (19 * length (leading 18 (most - length (t .starts)) s)) s)
 
 -- one step more: its bytes come behind those that wait
 abbrev pub stepOf : ℕ → Standing → List ℕ → Standing

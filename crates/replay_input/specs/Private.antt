@@ -24,7 +24,7 @@ pub record RecordingBegins (s : List ℕ) (before : ℕ) (times boards : List �
   pub lines : r .progress .lines ≡ (before + frameCount s) % 2 ^ 64
   pub bad : r .progress .bad ≡ pick (waits s) 0 ((before + frameCount s + 1) % 2 ^ 64)
   pub used : r .used ≡ pick (waits s) (23 * frameCount s) (length s)
-  pub given : Underway times boards work′ answers′ (frameReadings (frameCount s) s)
+  pub given : Underway times boards work′ answers′ (frameReadings s)
 
 -- the end without a recording: as far as what is said goes that of any other, and every answer is none
 pub record EndsUnread (p : Progress) (kept : ℕ) (times boards work answers : List ℕ) (r : ReplayAnswer) (work′ answers′ : List ℕ) : Type 0 where

@@ -90,6 +90,24 @@ fn begin_recording(
     take_frames(bytes, p, starts, times, boards, work, answers)
 }
 
+// More starts may come behind so many, which take so many lines and bytes.
+fn still_starting(starts: usize, lines: u64, used: usize) -> Took
+    ensures { λ r.
+        ⌜ r ≡ record { stage = record { starts = starts; starting = true; progress = record { lines = lines; bad = 0 } }; used = used } ⌝ }
+{
+    Took {
+        stage: Stage {
+            starts: starts,
+            starting: true,
+            progress: Progress {
+                lines: lines,
+                bad: 0,
+            },
+        },
+        used: used,
+    }
+}
+
 // Bytes where more starts may come.
 fn take_starting(
     bytes: &[u8],
@@ -111,17 +129,7 @@ fn take_starting(
     let before = stage.progress;
     let lines = std::num::wrapping_add_u64(before.lines, k as u64);
     if bytes.len() - at < START {
-        return Took {
-            stage: Stage {
-                starts: starts,
-                starting: true,
-                progress: Progress {
-                    lines: lines,
-                    bad: 0,
-                },
-            },
-            used: at,
-        };
+        return still_starting(starts, lines, at);
     }
     let fed = begin_recording(&bytes[at..], lines, starts, times, boards, work, answers);
     let after = fed.progress;

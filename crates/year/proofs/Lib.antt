@@ -1,4 +1,3 @@
-pub mod Lines
 pub mod Slots
 pub mod Rows
 pub mod Sets

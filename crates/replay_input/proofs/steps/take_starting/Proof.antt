@@ -19,9 +19,10 @@ sub-if1 c = let s = c .before .before .before .before .before .before .before .b
 
 returns : tie.Need-returns
 returns c = let s = c .before .before .before .before .before .before .before .before .before .before .before .before .before .before .before in
-    starts-wait _ _ _ _ _ _ _ (c .before .before .before .before .before .before .before .take-starts .ensures) (s .args .work .now) (s .args .answers .now)
+    rw (c .still-starting .ensures)
+    (starts-wait _ _ _ _ _ _ _ (c .before .before .before .before .before .before .before .take-starts .ensures) (s .args .work .now) (s .args .answers .now)
     (s .pre .1) _ (c .before .wrapping-add-u64 .ensures)
-    (c .if1 .taken)
+    (c .if1 .taken))
 
 begin-recording-requires : tie.Need-begin-recording-requires
 begin-recording-requires c κs = let c₁ = c .before .before .before .before .before .before .before .before in
@@ -55,6 +56,7 @@ take-starting-spec =
     mul-at
     (λ c κs. search needs)
     sub-if1
+    (λ c κs. search needs)
     (λ c. search needs)
     (λ c. search needs)
     returns
