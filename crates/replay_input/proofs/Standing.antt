@@ -66,8 +66,8 @@ module _ (t : Standing) (stage : Stage) (times boards work answers : List ℕ) (
 -- the recording begins
 pub recording-begins : (s : List ℕ) (lines : ℕ) (times boards work answers : List ℕ) (q : Progress) (work′ answers₁ : List ℕ) (r : Fed) (answers′ : List ℕ)
     → Begins times boards work answers q work′ answers₁ → Feeds (record { lines = lines; bad = 0 }) s times boards work′ answers₁ r answers′
-    → RecordingBegins s linesIn times boards r work′ answers′
-recording-begins s linesIn times boards work answers q work′ answers₁ r answers′ b f =
+    → RecordingBegins s lines times boards r work′ answers′
+recording-begins s lines times boards work answers q work′ answers₁ r answers′ b f =
     record { lines = f .lines; bad = f .bad; used = f .used; given = f .given [] (b .given) }
 
 -- ---- frames
@@ -112,15 +112,15 @@ module _ (t : Taken) (s : List ℕ) (r : Fed) where
 
 taken-lines : (t : Taken) (s : List ℕ) → takenAt t s .lines ≡ t .lines + frameCount s
 unfolding takenAt
-taken-linesIn t s = go (waits s) refl
+taken-lines t s = go (waits s) refl
   where
     go : (w : Bool) → waits s ≡ w → takenAt t s .lines ≡ t .lines + frameCount s
     go true q = rw q
     go false q = rw q
 
-pub begun-fits : (s : List ℕ) (lines : ℕ) (times boards : List ℕ) (r : Fed) (work answers : List ℕ) → RecordingBegins s linesIn times boards r work answers
+pub begun-fits : (s : List ℕ) (lines : ℕ) (times boards : List ℕ) (r : Fed) (work answers : List ℕ) → RecordingBegins s lines times boards r work answers
     → r .used ≤ length s
-begun-fits s linesIn times boards r work answers b = rw (b .used) (go (waits s))
+begun-fits s lines times boards r work answers b = rw (b .used) (go (waits s))
   where
     go : (w : Bool) → pick w (23 * frameCount s) (length s) ≤ length s
     go true = leading-fit 22 (length s) s
@@ -284,7 +284,7 @@ module _ (s : List ℕ) (stage : Stage) (times boards : List ℕ) (k : ℕ) (tim
         (record { stage = record { starts = stage .starts + k; starting = true; progress = record { lines = lines; bad = 0 } }; used = 19 * k })
         times′ boards′ work answers
     unfolding startsAt ks
-    starts-wait linesIn l n = record { used = taken-fit .0; holds = go }
+    starts-wait lines l n = record { used = taken-fit .0; holds = go }
       where
         go : (t : Standing) → Stands t stage times boards work answers → atHand (mostOf times boards) t s .taken .lines + 1 < 2 ^ 64
             → Stands (atHand (mostOf times boards) t s)
@@ -304,19 +304,19 @@ module _ (s : List ℕ) (stage : Stage) (times boards : List ℕ) (k : ℕ) (tim
 
     -- the recording begins behind the starts
     pub starts-begin : (lines : ℕ) (r : Fed) (work′ answers′ : List ℕ) → lines ≡ (stage .progress .lines + k) % 2 ^ 64 → 19 ≤ length s - 19 * k
-        → RecordingBegins (take (length s - 19 * k) (drop (19 * k) s)) linesIn (take (stage .starts + k) times′) (take (stage .starts + k) boards′) r
+        → RecordingBegins (take (length s - 19 * k) (drop (19 * k) s)) lines (take (stage .starts + k) times′) (take (stage .starts + k) boards′) r
         work′ answers′
         → TakesBytes s stage times boards work answers
         (record { stage = record { starts = stage .starts + k; starting = false; progress = r .progress }; used = 19 * k + r .used })
         times′ boards′ work′ answers′
     unfolding startsAt ks
-    starts-begin linesIn r work′ answers′ l n b =
+    starts-begin lines r work′ answers′ l n b =
         record {
           used = omega (arith, taken-fit .0, length-drop (19 * k) s, begun-fits _ _ _ _ _ _ _ begun);
           holds = go;
         }
       where
-        begun : RecordingBegins (drop (19 * k) s) linesIn (take (stage .starts + k) times′) (take (stage .starts + k) boards′) r work′ answers′
+        begun : RecordingBegins (drop (19 * k) s) lines (take (stage .starts + k) times′) (take (stage .starts + k) boards′) r work′ answers′
         begun = rw (take-all (length s - 19 * k) (drop (19 * k) s) (omega (arith, length-drop (19 * k) s))) at b
 
         go : (t : Standing) → Stands t stage times boards work answers → atHand (mostOf times boards) t s .taken .lines + 1 < 2 ^ 64
@@ -329,9 +329,9 @@ module _ (s : List ℕ) (stage : Stage) (times boards : List ℕ) (k : ℕ) (tim
             let q = le-ltb (length d) 19 (omega (arith, length-drop (19 * length (ks t h)) s)) in
             let x : Taken = record { found = []; lines = t .taken .lines + length (ks t h); bad = 0; rest = [] } in
             let o : takenAt x d .lines + 1 < 2 ^ 64 = rw (first t h, q) at m in
-            let i : lines ≡ t .taken .lines + length (ks t h) = l ∙ omega (arith, h .lines, taken-linesIn x d) in
+            let i : lines ≡ t .taken .lines + length (ks t h) = l ∙ omega (arith, h .lines, taken-lines x d) in
             let f = rw (sym (size t h), times-now t h, boards-now t h, c) at begun in
-            let g = framed x d r linesIn i (f .lines) (f .bad) (f .used) o in
+            let g = framed x d r lines i (f .lines) (f .bad) (f .used) o in
             rw (first t h, q) (
               standing t h false (takenAt x d) (r .progress) work′ answers′ (g .lines) (g .bad) (λ y. absurd (true-false (sym y))) (g .stopped)
                   (λ y. rw (g .found) (f .given)),

@@ -18,11 +18,12 @@ sub-if1 c = let s = c .before .before .before .before .before .before .before .b
     (s .args .stage) _ _ _ _ _ (c .before .before .before .before .before .before .take-starts .ensures) in omega (arith, f .0)
 
 returns : tie.Need-returns
-returns c = let s = c .before .before .before .before .before .before .before .before .before .before .before .before .before .before .before in
+returns c =
+    let d = c .before in
+    let s = d .before .before .before .before .before .before .before .before .before .before .before .before .before .before .before in
     rw (c .still-starting .ensures)
-    (starts-wait _ _ _ _ _ _ _ (c .before .before .before .before .before .before .before .take-starts .ensures) (s .args .work .now) (s .args .answers .now)
-    (s .pre .1) _ (c .before .wrapping-add-u64 .ensures)
-    (c .if1 .taken))
+    (starts-wait _ _ _ _ _ _ _ (d .before .before .before .before .before .before .before .take-starts .ensures) (s .args .work .now) (s .args .answers .now)
+    (s .pre .1) _ (d .before .wrapping-add-u64 .ensures) (d .if1 .taken))
 
 begin-recording-requires : tie.Need-begin-recording-requires
 begin-recording-requires c κs = let c₁ = c .before .before .before .before .before .before .before .before in
