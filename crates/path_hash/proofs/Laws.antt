@@ -27,7 +27,7 @@ unfolding step
 step-mod x c = same-mod (37 * (x % 2 ^ 32) + c) (37 * x + c) (37 * (x / 2 ^ 32)) 0 (omega arith)
 
 -- 803794207 is the negated eighth power of 37, modulo 2 ^ 32
-wrap-add : (c h : ℕ) → wrapSub c (803794207 * h) ≡ (37 ^ 8 * h + c) % 2 ^ 32
+pub wrap-add : (c h : ℕ) → wrapSub c (803794207 * h) ≡ (37 ^ 8 * h + c) % 2 ^ 32
 unfolding wrapSub
 wrap-add c h =
     let b = 803794207 * h in

@@ -1,7 +1,7 @@
 // The path hashes, over numbers and over the bytes of a text.
 ghost use mathlib.Core.Path.{_≡_};
-ghost use Prim.Native.Nat.{_+_, _≤_, _<_};
-ghost use lib.ListN.{length, getD};
+ghost use Prim.Native.Nat.{_+_, _≤_};
+ghost use lib.ListN.{length};
 ghost use Rattle.path_hash.specs.Hash.{step, plain, vista, xp, xpEnd, eight, eightAt, hash2008};
 
 // Where Vista and 2008 start.
@@ -40,7 +40,7 @@ fn eight_step(h: u32, c0: u32, c1: u32, c2: u32, c3: u32, c4: u32, c5: u32, c6: 
     std::num::wrapping_sub_u32((c % 4294967296) as u32, (p % 4294967296) as u32)
 }
 
-// The plain step at each number.
+// The plain step at each of the last numbers.
 fn plain_from(from: u32, cs: &[u32]) -> u32
     ensures { λ r. ⌜ r ≡ plain from (now (cs .entry)) ⌝ }
 {
@@ -51,18 +51,6 @@ fn plain_from(from: u32, cs: &[u32]) -> u32
         i += 1;
     }
     h
-}
-
-pub fn hash_vista(cs: &[u32]) -> u32
-    ensures { λ r. ⌜ r ≡ vista (now (cs .entry)) ⌝ }
-{
-    plain_from(START, cs)
-}
-
-pub fn hash_xp(cs: &[u32]) -> u32
-    ensures { λ r. ⌜ r ≡ xp (now (cs .entry)) ⌝ }
-{
-    signed_end(plain_from(0, cs))
 }
 
 // The eight-number step at the numbers from i.
@@ -83,16 +71,36 @@ fn eight_at(h: u32, cs: &[u32], i: usize) -> u32
     )
 }
 
-pub fn hash_2008(cs: &[u32]) -> u32
-    ensures { λ r. ⌜ r ≡ hash2008 (now (cs .entry)) ⌝ }
+// The plain step at each number, eight at a time: one product of the hash serves eight numbers.
+fn hash_numbers(from: u32, cs: &[u32]) -> u32
+    ensures { λ r. ⌜ r ≡ plain from (now (cs .entry)) ⌝ }
 {
-    let mut h = START;
+    let mut h = from;
     let mut i = 0;
-    while 8 < cs.len() - i {
+    while 8 <= cs.len() - i {
         h = eight_at(h, cs, i);
         i += 8;
     }
     plain_from(h, &cs[i..])
+}
+
+pub fn hash_vista(cs: &[u32]) -> u32
+    ensures { λ r. ⌜ r ≡ vista (now (cs .entry)) ⌝ }
+{
+    hash_numbers(START, cs)
+}
+
+pub fn hash_xp(cs: &[u32]) -> u32
+    ensures { λ r. ⌜ r ≡ xp (now (cs .entry)) ⌝ }
+{
+    signed_end(hash_numbers(0, cs))
+}
+
+// Vista and 2008 are equal on every list (`vista-2008`).
+pub fn hash_2008(cs: &[u32]) -> u32
+    ensures { λ r. ⌜ r ≡ hash2008 (now (cs .entry)) ⌝ }
+{
+    hash_numbers(START, cs)
 }
 
 // A byte as the number that it is, from 0 to 255: none is negative.
@@ -102,49 +110,38 @@ fn wide(byte: u8) -> u32
     byte as u32
 }
 
-fn byte_at(text: &[u8], i: usize) -> u32
-    requires { ⌜ i < length (now text) ⌝ }
-    ensures { λ r. ⌜ r ≡ getD (now (text .entry)) i 0 ⌝ }
-{
-    wide(text[i])
-}
-
-// The plain step at each byte.
+// The plain step at each of the last bytes.
 fn plain_bytes(from: u32, text: &[u8]) -> u32
     ensures { λ r. ⌜ r ≡ plain from (now (text .entry)) ⌝ }
 {
     let mut h = from;
     let mut i = 0;
     while i < text.len() {
-        h = next(h, byte_at(text, i));
+        h = next(h, wide(text[i]));
         i += 1;
     }
     h
 }
 
-// The eight-number step at the bytes from i.
+// The eight-number step at the bytes from i, read as one number. Neighbours are joined in lanes of 16 bits, and these in lanes of 32:
+// each mask keeps the lower half of a lane, so that a sum has room. What came before weighs 37^8.
 fn eight_bytes(h: u32, text: &[u8], i: usize) -> u32
-    requires { ⌜ i + 8 ≤ length (now text) ⌝ }
     ensures { λ r. ⌜ r ≡ eightAt h (now (text .entry)) i ⌝ }
 {
-    let c0 = byte_at(text, i);
-    let c1 = byte_at(text, i + 1);
-    let c2 = byte_at(text, i + 2);
-    let c3 = byte_at(text, i + 3);
-    let c4 = byte_at(text, i + 4);
-    let c5 = byte_at(text, i + 5);
-    let c6 = byte_at(text, i + 6);
-    let c7 = byte_at(text, i + 7);
-    eight_step(h, c0, c1, c2, c3, c4, c5, c6, c7)
+    let x = little_endian::u64_at(text, i);
+    let pairs = 37 * (x & 71777214294589695) + ((x / 256) & 71777214294589695);
+    let fours = 1369 * (pairs & 281470681808895) + ((pairs / 65536) & 281470681808895);
+    ((3491173089 * (h as u64) + 1874161 * (fours % 4294967296) + fours / 4294967296)
+        % 4294967296) as u32
 }
 
-// The plain step at each byte, eight at a time while more than eight remain: one multiplication of the hash serves eight bytes.
+// The same as `hash_numbers`, over bytes.
 fn hash_bytes(from: u32, text: &[u8]) -> u32
     ensures { λ r. ⌜ r ≡ plain from (now (text .entry)) ⌝ }
 {
     let mut h = from;
     let mut i = 0;
-    while 8 < text.len() - i {
+    while 8 <= text.len() - i {
         h = eight_bytes(h, text, i);
         i += 8;
     }
@@ -164,7 +161,6 @@ pub fn hash_xp_bytes(text: &[u8]) -> u32
     signed_end(hash_bytes(0, text))
 }
 
-// Vista and 2008 are equal on every list (`vista-2008`).
 pub fn hash_2008_bytes(text: &[u8]) -> u32
     ensures { λ r. ⌜ r ≡ hash2008 (now (text .entry)) ⌝ }
 {

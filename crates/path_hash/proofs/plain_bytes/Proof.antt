@@ -17,10 +17,10 @@ abbrev μ-loop : tie.MeasureT-loop
 
 loop-again : tie.Need-loop-again Inv-loop μ-loop
 loop-again c =
-    let b = c .before .before .before in
+    let b = c .before .before .before .before in
     let text = b .before .before .args .text .now in
     let l : b .loop .i < length text = omega arith in
-    (omega arith, rw (c .next .ensures, c .before .byte-at .ensures) (sym (plain-more text (b .loop .h) (b .loop .i) _ l refl) ∙ b .loop .inv .1))
+    (omega arith, rw (c .next .ensures, c .before .wide .ensures) (sym (plain-more text (b .loop .h) (b .loop .i) _ l refl) ∙ b .loop .inv .1))
 
 returns : tie.Need-returns Inv-loop μ-loop
 returns c =
@@ -33,6 +33,7 @@ plain-bytes-spec =
     (tie.spec
     Inv-loop
     μ-loop
+    (λ c. search needs)
     (λ c. search needs)
     (λ c κs. search needs)
     (λ c κs. search needs)
