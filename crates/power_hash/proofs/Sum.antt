@@ -3,7 +3,7 @@ use mathlib.Core.Path.{_≡_, refl, sym, ap, _∙_}
 use mathlib.Core.Bool.{Bool, true, false}
 use mathlib.Core.List.{List, [], _∷_}
 use Prim.Native.Nat.{ℕ, suc, _+_, _-_, _*_, _/_, _%_, _^_, _≤_, _<_}
-use native.Mathlib.Nat.{div-add-mod, pow-suc, mod-lt}
+use native.Mathlib.Nat.{div-add-mod, pow-suc, mod-lt, mod-add-mod, add-mod-mod}
 use native.Mathlib.Numerals.{add-one}
 use native.Mathlib.Omega.{arith}
 use borrow.Author.Tests.{le-leb}
@@ -59,7 +59,14 @@ powers-vista cs = go (leb (length cs) 1024)
     go true = sym (plain-sum cs 314159 (lit< tt))
     go false = refl
 
--- what the engine gives from the count and the sum
-pub sum-hash : (s : List ℕ) (n sum r : ℕ) → length s ≤ 1024 → n ≡ length s → sum ≡ powerSum s → r ≡ (314159 * 37 ^ n + sum) % 2 ^ 32 → r ≡ hashPowers s
+-- what the engine gives: the start times its power, and the sum, each reduced
+pub sum-hash : (s : List ℕ) (x y r : ℕ) → length s ≤ 1024 → x ≡ 314159 * 37 ^ length s % 2 ^ 32 → y ≡ powerSum s % 2 ^ 32 → r ≡ (x + y) % 2 ^ 32
+    → r ≡ hashPowers s
 unfolding hashPowers
-sum-hash s n sum r l e d f = f ∙ rw (e, d, le-leb (length s) 1024 l)
+sum-hash s x y r l e d f =
+    let a = 314159 * 37 ^ length s in
+    f ∙ rw (e, d, le-leb (length s) 1024 l) (mod-add-mod a (2 ^ 32) (powerSum s % 2 ^ 32) ∙ add-mod-mod a (powerSum s) (2 ^ 32))
+
+-- past 1,024 numbers it is the plain hash
+pub plain-hash : (s : List ℕ) (r : ℕ) → r ≡ vista s → r ≡ hashPowers s
+plain-hash s r e = e ∙ sym (powers-vista s)

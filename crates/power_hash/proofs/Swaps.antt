@@ -13,7 +13,6 @@ use Rattle.path_hash.specs.Hash.{step, plain, vista, wrapSub}
 use Rattle.path_hash.proofs.Laws.{same-mod, wrapped}
 use Rattle.power_hash.specs.Powers.{powerSum, swapHash, swapAnswer, swapSaid}
 use Rattle.power_hash.specs.declared.Swap.the-variants.{Swapped, TooLong}
-use Rattle.power_hash.proofs.Products.{mod-right}
 use Rattle.power_hash.proofs.Sum.{plain-lt, plain-sum}
 
 pub plain-append : (h : ℕ) (s t : List ℕ) → plain h (s ++ t) ≡ plain (plain h s) t
@@ -53,11 +52,11 @@ swap-joined old start p l =
     )))
 
 -- what the code gives for the swap's hash
-pub swap-turn : (h new old kept d w x r : ℕ) → d < 2 ^ 32 → (d + old) % 2 ^ 32 ≡ new → w ≡ 37 ^ kept % 2 ^ 32 → x ≡ d * w % 2 ^ 32
-    → r ≡ (h + x) % 2 ^ 32 → r ≡ (h + wrapSub new old * 37 ^ kept) % 2 ^ 32
-swap-turn h new old kept d w x r l e p m f =
+pub swap-turn : (h new old kept d x r : ℕ) → d < 2 ^ 32 → (d + old) % 2 ^ 32 ≡ new → x ≡ d * 37 ^ kept % 2 ^ 32 → r ≡ (h + x) % 2 ^ 32
+    → r ≡ (h + wrapSub new old * 37 ^ kept) % 2 ^ 32
+swap-turn h new old kept d x r l e m f =
     let y : d ≡ wrapSub new old = wrapped d new old l (omega arith) in
-    f ∙ rw (m, p, mod-right d (37 ^ kept), ← y) (add-mod-mod h (d * 37 ^ kept) (2 ^ 32))
+    f ∙ rw (m, ← y) (add-mod-mod h (d * 37 ^ kept) (2 ^ 32))
 
 -- the two answers
 pub answer-long : (h p : ℕ) (old start : List ℕ) → length old < p → Answers swapSaid (swapAnswer h old p start) TooLong

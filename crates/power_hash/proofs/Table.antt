@@ -1,14 +1,16 @@
 -- The rule of the constant table, proved once: one test that is computed over the whole table, and what it says of each entry.
-use mathlib.Core.Path.{_≡_, refl, sym, ap, _∙_}
+use mathlib.Core.Path.{_≡_, refl, ap, _∙_}
 use mathlib.Core.Bool.{Bool, true, false, _&&_}
 use mathlib.Core.List.{List, [], _∷_}
 use Prim.Native.Nat.{ℕ, zero, suc, _+_, _-_, _*_, _%_, _^_, _≤_, _<_}
-use native.Mathlib.Nat.{pow-suc, mod-add-mod, not-suc-le-zero, le-of-suc-le-suc}
+use native.Mathlib.Nat.{pow-suc, not-suc-le-zero, le-of-suc-le-suc}
 use native.Mathlib.Numerals.{add-one}
 use native.Mathlib.Omega.{arith}
 use lib.Dec.{T, eqb, eqb→eq}
-use lib.ListN.{length, getD, drop}
+use lib.ListN.{length, getD, take, drop}
+use lib.Seq.{length-take-le, getD-take}
 use Rattle.power_hash.specs.Powers.{PowerTable, powerSum}
+use Rattle.power_hash.specs.Private.{Entries}
 use Rattle.power_hash.proofs.Products.{mod-right}
 use Rattle.power_hash.proofs.Sum.{sum-more, sum-step}
 use Rattle.power_hash.proofs.Powers.{rest, powers}
@@ -47,25 +49,19 @@ pub powers-table : PowerTable powers
 unfolding powers rest follow
 powers-table = record { size = refl; first = refl; next = λ k l. rw (add-one k) (each 1 rest tt k (omega arith)) }
 
--- ENTRY k OF THE CONSTANT TABLE IS 37 ^ k, modulo 2 ^ 32
-pub powers-entry : (k : ℕ) → k < 1024 → getD powers k 0 ≡ 37 ^ k % 2 ^ 32
-powers-entry k l = table-power powers powers-table k l
+-- ENTRY k OF THE CONSTANT TABLE IS 37 ^ k, modulo 2 ^ 32, and so it is in its first part
+pub powers-entries : Entries powers
+powers-entries k l = table-power powers powers-table k (omega (arith, powers-table .size))
+
+pub first-entries : Entries (take 256 powers)
+first-entries k l =
+    let h : k < 256 = omega (arith, length-take-le 256 powers (omega (arith, powers-table .size))) in
+    getD-take 256 powers k 0 h ∙ table-power powers powers-table k (omega arith)
 
 -- one turn of the sum: a number times its entry is added
-pub sum-turn : (s t : List ℕ) (sum i p r g : ℕ) → PowerTable t → length s ≤ 1024 → i < length s → p ≡ getD s i 0 * getD t (length s - 1 - i) 0 % 2 ^ 32
-    → r ≡ (sum + p) % 2 ^ 32 → (sum + powerSum (drop i s)) % 2 ^ 32 ≡ g → (r + powerSum (drop (i + 1) s)) % 2 ^ 32 ≡ g
+pub sum-turn : (s t : List ℕ) (sum i p r g : ℕ) → Entries t → length s ≤ length t → i < length s
+    → p ≡ getD s i 0 * getD t (length s - 1 - i) 0 % 2 ^ 32 → r ≡ (sum + p) % 2 ^ 32 → (sum + powerSum (drop i s)) % 2 ^ 32 ≡ g
+    → (r + powerSum (drop (i + 1) s)) % 2 ^ 32 ≡ g
 sum-turn s t sum i p r g w m l e d h =
     let k = length s - 1 - i in
-    let n : k < 1024 = omega arith in
-    rw (d, e, table-power t w k n) (sum-step sum (powerSum (drop (i + 1) s)) (getD s i 0) (37 ^ k) ∙ rw (sum-more s i l) at h)
-
--- 314159 is added, times 37 to the count: one step past the entry before
-pub start-turn : (t : List ℕ) (n sum w x r : ℕ) → PowerTable t → 0 < n → n ≤ 1024 → w ≡ 37 * getD t (n - 1) 0 % 2 ^ 32 → x ≡ 314159 * w % 2 ^ 32
-    → r ≡ (x + sum) % 2 ^ 32 → r ≡ (314159 * 37 ^ n + sum) % 2 ^ 32
-start-turn t n sum w x r p l m e d f =
-    let k = n - 1 in
-    let j : n ≡ suc k = omega arith in
-    let u : 37 ^ n ≡ 37 * 37 ^ k = ap (λ (i : ℕ). 37 ^ i) j ∙ omega (arith, pow-suc 37 k) in
-    let v : w ≡ 37 ^ n % 2 ^ 32 =
-    e ∙ ap (λ (i : ℕ). 37 * i % 2 ^ 32) (table-power t p k (omega arith)) ∙ mod-right 37 (37 ^ k) ∙ ap (λ (i : ℕ). i % 2 ^ 32) (sym u) in
-    f ∙ rw (d, v, mod-right 314159 (37 ^ n)) (mod-add-mod (314159 * 37 ^ n) (2 ^ 32) sum)
+    rw (d, e, w k (omega arith)) (sum-step sum (powerSum (drop (i + 1) s)) (getD s i 0) (37 ^ k) ∙ rw (sum-more s i l) at h)

@@ -1,18 +1,24 @@
--- Each way gives the Vista hash, which is that of the powers on every list.
-use mathlib.Core.Path.{sym, _∙_}
-use Rattle.power_hash.proofs.Sum.{powers-vista}
+-- The start times its power, and the sum; or the Vista hash, which is that of the powers on every list.
+use native.Mathlib.Omega.{arith}
+use Rattle.power_hash.proofs.Sum.{sum-hash, plain-hash}
 use borrow.Author.Needs.{needs}
 use Rattle.power_hash.proofs.hash_powers_bytes.Statement.{statement}
 use Rattle.power_hash.proofs.hash_powers_bytes.Tie as tie
 
 returns : tie.Need-returns
-returns c = c .few-bytes .ensures ∙ sym (powers-vista _)
+returns c = plain-hash _ _ (c .hash-vista-bytes .ensures)
 
 returns-2 : tie.Need-returns-2
-returns-2 c = c .from-four-bytes .ensures ∙ sym (powers-vista _)
+returns-2 c =
+    let b = c .before in
+    let r = b .before .before in
+    sum-hash (r .before .before .before .args .text .now) _ _ _ (omega arith) (r .raised .ensures) (b .bytes-by-all .ensures) (c .wrapping-add-u32 .ensures)
 
-returns-4 : tie.Need-returns-4
-returns-4 c = c .from-eight-bytes .ensures ∙ sym (powers-vista _)
+returns-3 : tie.Need-returns-3
+returns-3 c =
+    let b = c .before in
+    let r = b .before .before in
+    sum-hash (r .before .before .before .args .text .now) _ _ _ (omega arith) (r .raised .ensures) (b .bytes-by-first .ensures) (c .wrapping-add-u322 .ensures)
 
 pub hash-powers-bytes-spec : {M : Type 1} → statement M
 hash-powers-bytes-spec =
@@ -21,8 +27,9 @@ hash-powers-bytes-spec =
     (λ c κs. search needs)
     returns
     (λ c κs. search needs)
+    (λ c κs. search needs)
+    (λ c κs. search needs)
     returns-2
     (λ c κs. search needs)
-    (λ c. search needs)
     (λ c κs. search needs)
-    returns-4)
+    returns-3)

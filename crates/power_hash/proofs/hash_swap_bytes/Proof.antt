@@ -11,15 +11,15 @@ returns c =
     let a = c .before .before .before .args in
     answer-long (a .old-hash) (a .p) (a .old .now) (a .start .now) (c .if1 .taken)
 
-slice-aggregate-bytes-by-eights : tie.Need-slice-aggregate-bytes-by-eights
-slice-aggregate-bytes-by-eights c = simp length-take (omega arith)
+slice-aggregate-hash-vista-bytes : tie.Need-slice-aggregate-hash-vista-bytes
+slice-aggregate-hash-vista-bytes c = simp length-take (omega arith)
 
 returns-2 : tie.Need-returns-2
 returns-2 c =
     let e = c .before .before .before in
     let a = e .before .before .before .before .args in
-    answer-swapped (a .old-hash) (a .p) _ _ _ (a .old .now) (a .start .now) (e .before .if1 .left) (e .bytes-by-eights .ensures)
-    (c .before .bytes-by-eights2 .ensures) (c .swapped .ensures)
+    answer-swapped (a .old-hash) (a .p) _ _ _ (a .old .now) (a .start .now) (e .before .if1 .left) (e .hash-vista-bytes .ensures)
+    (c .before .hash-vista-bytes2 .ensures) (c .swapped .ensures)
 
 pub hash-swap-bytes-spec : {M : Type 1} → statement M
 hash-swap-bytes-spec =
@@ -27,7 +27,7 @@ hash-swap-bytes-spec =
     (tie.spec
     returns
     (λ c κs. search needs)
-    slice-aggregate-bytes-by-eights
+    slice-aggregate-hash-vista-bytes
     (λ c κs. search needs)
     (λ c κs. search needs)
     returns-2)

@@ -20,8 +20,8 @@ abbrev μ-loop : tie.MeasureT-loop
 loop-again : tie.Need-loop-again Inv-loop μ-loop
 loop-again c =
     let b = c .before .before .before .before .before in
-    let a = b .before .before .args in
-    let p = b .before .before .pre in (
+    let a = b .before .before .before .args in
+    let p = b .before .before .before .pre in (
       search needs,
       search needs,
       sum-turn (a .cs .now) (a .t .now) (b .loop .sum) (b .loop .i) _ _ _
@@ -32,7 +32,7 @@ loop-again c =
 returns : tie.Need-returns Inv-loop μ-loop
 returns c =
     let b = c .before in
-    omega (arith, b .loop .inv .2, sum-done (b .before .before .args .cs .now) (b .loop .i) (c .loop-test .left))
+    omega (arith, b .loop .inv .2, sum-done (b .before .before .before .args .cs .now) (b .loop .i) (c .loop-test .left))
 
 pub sum-numbers-spec : {M : Type 1} → statement M
 sum-numbers-spec =

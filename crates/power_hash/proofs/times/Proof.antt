@@ -1,7 +1,7 @@
 use borrow.Author.Needs.{needs}
 use Rattle.power_hash.proofs.Products.{product-fits}
-use Rattle.power_hash.proofs.raise.times.Statement.{statement}
-use Rattle.power_hash.proofs.raise.times.Tie as tie
+use Rattle.power_hash.proofs.times.Statement.{statement}
+use Rattle.power_hash.proofs.times.Tie as tie
 
 mul-result : tie.Need-mul-result
 mul-result c = record { fits = product-fits (search needs) (search needs) }

@@ -4,17 +4,17 @@ use mathlib.Core.Logic.{⊎-elim}
 use Prim.Native.Nat.{_*_, _%_, _^_}
 use Rattle.power_hash.proofs.Products.{Stands, stands-start, stands-odd, stands-even, stands-done}
 use borrow.Author.Needs.{needs}
-use Rattle.power_hash.proofs.raise.raised.Statement.{statement}
-use Rattle.power_hash.proofs.raise.raised.Tie as tie
+use Rattle.power_hash.proofs.raised.Statement.{statement}
+use Rattle.power_hash.proofs.raised.Tie as tie
 
 abbrev Inv-loop : tie.InvT-loop
-Inv-loop from base k r₀ b₀ q₀ r b q = Stands r b q (from * base ^ k % 2 ^ 32)
+Inv-loop from k r₀ b₀ q₀ r b q = Stands r b q (from * 37 ^ k % 2 ^ 32)
 
 abbrev μ-loop : tie.MeasureT-loop
-μ-loop from base k r₀ b₀ q₀ r b q = q
+μ-loop from k r₀ b₀ q₀ r b q = q
 
 loop-holds : tie.Need-loop-holds Inv-loop μ-loop
-loop-holds c = stands-start (c .args .from) (c .args .base) (c .args .k) (search needs)
+loop-holds c = stands-start (c .args .from) 37 (c .args .k) (search needs)
 
 loop-again : tie.Need-loop-again Inv-loop μ-loop
 loop-again c =
