@@ -20,7 +20,7 @@ pub enum Swap {
 // Where Vista starts.
 const START: u32 = 314159;
 
-// The most numbers that the table serves, and its first entries.
+// The most numbers that the table serves, and its first entries alone.
 const MOST: usize = 1024;
 
 const FEW: usize = 256;
@@ -31,13 +31,7 @@ fn times(a: u32, b: u32) -> u32
     ((a as u64) * (b as u64) % 4294967296) as u32
 }
 
-fn wide(b: u8) -> u32
-    ensures { λ r. ⌜ r ≡ b ⌝ }
-{
-    b as u32
-}
-
-// By squaring: the cost grows with the logarithm of k.
+// 37 to the k by squaring: the cost grows with the logarithm of k.
 fn raised(from: u32, k: usize) -> u32
     ensures { λ r. ⌜ r ≡ from * 37 ^ k % 2 ^ 32 ⌝ }
 {
@@ -77,13 +71,13 @@ fn sum_bytes(text: &[u8], t: &[u32]) -> u32
     let mut sum = 0;
     let mut i = 0;
     while i < n {
-        sum = std::num::wrapping_add_u32(sum, times(wide(text[i]), t[n - 1 - i]));
+        sum = std::num::wrapping_add_u32(sum, times(text[i] as u32, t[n - 1 - i]));
         i += 1;
     }
     sum
 }
 
-// The first entries are laid out only here, and the whole table only below.
+// A table is laid out anew in each call of the function that lends it. So the first entries have a function of their own.
 fn numbers_by_first(cs: &[u32]) -> u32
     requires { ⌜ length (now cs) ≤ 256 ⌝ }
     ensures { λ r. ⌜ r ≡ powerSum (now (cs .entry)) % 2 ^ 32 ⌝ }

@@ -19,14 +19,14 @@ abbrev μ-loop : tie.MeasureT-loop
 
 loop-again : tie.Need-loop-again Inv-loop μ-loop
 loop-again c =
-    let b = c .before .before .before .before .before .before in
+    let b = c .before .before .before .before .before in
     let a = b .before .before .before .args in
     let p = b .before .before .before .pre in (
       search needs,
       search needs,
       sum-turn (a .text .now) (a .t .now) (b .loop .sum) (b .loop .i) _ _ _
           (p .1) (p .0) (search needs)
-          (rw (c .before .before .before .wide .ensures) at (c .before .times .ensures)) (c .wrapping-add-u32 .ensures) (b .loop .inv .2),
+          (c .before .times .ensures) (c .wrapping-add-u32 .ensures) (b .loop .inv .2),
     )
 
 returns : tie.Need-returns Inv-loop μ-loop
@@ -42,7 +42,7 @@ sum-bytes-spec =
     μ-loop
     (λ c. search needs)
     (λ c. search needs)
-    (λ c κs. search needs)
+    (λ c. omega (arith, c .shared-slice-known3 .given (c .before .before .loop .i) .fits))
     (λ c. search needs)
     (λ c. search needs)
     (λ c. search needs)

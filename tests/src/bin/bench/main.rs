@@ -4,9 +4,9 @@
 //!
 //! bench powers
 //!
-//! The second hash engine on device paths and on single lengths, and its swap
-//! of a path's volume, beside the plain Rust loop. A single length is timed from
-//! loops at four places in a line, and the mean of their medians is shown.
+//! The second hash engine on device paths and on single lengths, its swap of a
+//! path's volume, and the Vista and 2008 hashes of the same paths, beside the
+//! plain Rust loop.
 //!
 //! bench readers
 //!
