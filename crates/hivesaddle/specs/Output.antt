@@ -7,7 +7,6 @@ use Rattle.lists.specs.Answer.{Said}
 use Rattle.lists.specs.Count.{pick}
 use Rattle.incremental.specs.Plan.{Answer}
 use Rattle.reader.specs.Verdict.{Acceptable, Values, answerValues, bufferAfter}
-use Rattle.reader.specs.declared.verdict.Acceptance.{Acceptance}
 use Rattle.reader.specs.Checks.{prefixAnswer, fileAnswer}
 use Rattle.walk.specs.Walk as walk
 use Rattle.writer.specs.LaidOut.{Description}
@@ -16,16 +15,27 @@ use Rattle.lists.specs.Filled.{filled}
 use Rattle.readings.specs.Recording.{recorded}
 use Rattle.readings.specs.Replay.{sayingOf, answersAfter, answerCount}
 use Rattle.catalogue.specs.declared.Fields.{Fields}
-use Rattle.catalogue.specs.Line.{canWrite, lineOf}
+use Rattle.catalogue.specs.Line.{LineAnswer, canWrite, lineOf}
 use Rattle.year.specs.Year as year
 
 -- the values that fit, and the rest of the output as it was
 abbrev pub overlay : List ℕ → List ℕ → List ℕ
 overlay out values = take (length out) values ++ drop (length values) out
 
--- a line's fields in order
+-- THE PROMISE of a function that says a number and values: it answers the number, and the values are in its output
+pub record Answered (said : Said) (r : ℕ) (out out′ : List ℕ) : Type 0 where
+  pub number : r ≡ said .number
+  pub output : out′ ≡ overlay out (said .values)
+
+-- ---- a catalogue line
+
+-- its fields in order
 abbrev pub lineValues : Fields → List ℕ
 lineValues f = f .size ∷ f .hash ∷ f .runs ∷ f .version ∷ []
+
+-- reading one: 0 or 18, and the fields, zeros where there is no line
+abbrev pub lineSaid : LineAnswer → Said
+lineSaid a = record { number = a .number; values = lineValues (a .fields) }
 
 abbrev pub fieldsOf : ℕ → ℕ → ℕ → ℕ → Fields
 fieldsOf size hash runs version = record { size = size; hash = hash; runs = runs; version = version }
@@ -34,6 +44,8 @@ fieldsOf size hash runs version = record { size = size; hash = hash; runs = runs
 pub record LineWriting (f : Fields) (before : List ℕ) (r : ℕ) (after : List ℕ) : Type 0 where
   pub number : r ≡ pick (canWrite f (length before)) 0 19
   pub output : after ≡ pick (canWrite f (length before)) (lineOf 8 f ++ drop 27 before) before
+
+-- ---- the readers
 
 -- a verdict's values in order: refusal number and index, bytes wanted, the acceptance record with the latest run time, the refusal's
 -- file offset, how many run times there are, and the seven older ones
@@ -63,16 +75,13 @@ verdictValues v =
     ∷ v .fields .times .eighth
     ∷ []
 
--- the values of a number, an index, a file offset, the bytes wanted and a record
-abbrev pub valuesWith : ℕ → ℕ → ℕ → ℕ → Acceptance → List ℕ
-valuesWith number index offset wanted a =
-    verdictValues (record { kind = 0; number = number; index = index; offset = offset; wanted = wanted; fields = a })
+abbrev pub verdictSaid : Values → Said
+verdictSaid v = record { number = v .kind; values = verdictValues v }
 
 -- what a reader says over the C boundary: 0 accepted, 1 refused, 2 more bytes wanted; the values, and the working buffer afterwards
 pub record ReadOut (answer : Answer Acceptable) (m : ℕ) (code : ℕ) (buffer out out′ : List ℕ) : Type 0 where
-  pub kind : code ≡ answerValues answer .kind
+  pub said : Answered (verdictSaid (answerValues answer)) code out out′
   pub places : buffer ≡ bufferAfter answer m
-  pub values : out′ ≡ overlay out (verdictValues (answerValues answer))
 
 -- what the two readers say of bytes `p` and a working buffer
 abbrev pub PrefixOut : List ℕ → List ℕ → ℕ → List ℕ → List ℕ → List ℕ → Type 0
@@ -80,11 +89,6 @@ PrefixOut p before code buffer out out′ = ReadOut (prefixAnswer p (length befo
 
 abbrev pub FileOut : List ℕ → List ℕ → ℕ → List ℕ → List ℕ → List ℕ → Type 0
 FileOut p before code buffer out out′ = ReadOut (fileAnswer p (length before)) (length before) code buffer out out′
-
--- ---- queries: 1 for yes, 0 for no, and the values, zeros where the answer is no
-pub record Answered (said : Said) (r : ℕ) (out out′ : List ℕ) : Type 0 where
-  pub number : r ≡ said .number
-  pub output : out′ ≡ overlay out (said .values)
 
 -- ---- the walk: 0 walked, 1 refused; refusal number, index, file offset, steps and total; the place and the working buffer afterwards
 abbrev pub walkSaid : walk.Values → Said

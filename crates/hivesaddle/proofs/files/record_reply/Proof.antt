@@ -1,0 +1,22 @@
+-- Twenty-two numbers in the order of the definition; one cast's bound lies far back.
+use native.Mathlib.Omega.{arith}
+use borrow.Author.Needs.{needs}
+use Rattle.hivesaddle.proofs.files.record_reply.Statement.{statement}
+use Rattle.hivesaddle.proofs.files.record_reply.Tie as tie
+
+cast-t19 : tie.Need-cast-t19
+cast-t19 c = omega (arith, c .struct-known7 .given)
+
+pub record-reply-spec : {M : Type 1} → statement M
+record-reply-spec =
+    tie.close
+    (tie.spec
+    (λ c. search needs)
+    (λ c. search needs)
+    (λ c. search needs)
+    (λ c. search needs)
+    (λ c. search needs)
+    (λ c. search needs)
+    cast-t19
+    (λ c. search needs)
+    (λ c. search needs))
