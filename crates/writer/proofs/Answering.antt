@@ -10,6 +10,7 @@ use native.Mathlib.Omega.{arith}
 use borrow.Author.Tests.{lt-ltb, le-ltb, ltb-true, ltb-false, ne-eqb}
 use lib.Dec.{ltb, eqb}
 use lib.ListN.{length, take, drop}
+use lib.Seq.{sets-eq}
 use Rattle.lists.specs.Count.{pick}
 use Rattle.layout.specs.Head.{versionAt, declaredSizeAt, programNameAt}
 use Rattle.layout.specs.Versions.{versionNumber, versionOf, layoutOf, sizeLimit}
@@ -110,7 +111,7 @@ module _ (v : Version) (l : Layout) (p : Plan) (g : Given) (name metrics trace s
         a .holds n c ∙ ap (λ (j : ℕ). predecessors (firsts trace j) (length buffer)) (ap (λ (w : Plan). w .trace) (r .plan)) in
         record {
           reads = rw b (record { verdict = ap acceptedValues (z ∙ same); buffer = table });
-          placed = rw b (e ∙ ap (λ (j : ℕ). file ++ drop j output) (zero-add (length file)));
+          placed = rw b (e ∙ sets-eq file output 0 (omega (arith, size)) ∙ ap (λ (j : ℕ). file ++ drop j output) (zero-add (length file)));
         }
 
   pub planned-refused : (f : Refusal) (x : Verdict) (filled′ : List ℕ) → k ≡ links.Refused f → length after ≡ length buffer

@@ -15,7 +15,7 @@ use Rattle.writer.specs.LaidOut.{Field, number, bytesOf, spread, entries
 use Rattle.writer.specs.Private.{patch, Ordered, joined, numbersAt, Writable}
 use Rattle.writer.proofs.Bytes.{length-bytes, length-entries}
 use Rattle.writer.proofs.Spread.{ordered-end, length-spread}
-use Rattle.writer.proofs.Patch.{patch-none, patch-join, length-patch, then-laid}
+use Rattle.writer.proofs.Stores.{patch-none, patch-join, laid-long, then-laid}
 
 pub sum-fits : (a b : ℕ) → a + b < 18446744073709551616 → Fits w64 (a + b)
 sum-fits a b h = omega arith
@@ -81,8 +81,8 @@ module _ (o places values : List ℕ) (start : ℕ) (output : List ℕ) (from i 
       record {
         ordered = rw (k, ← s) (h .1);
         whole = rw (k, e, ← s)
-            (patch-join output from (z ++ b) (joined (at + length b) rest) (at + length b) (omega (arith, n, r .0)) (omega (arith, n, r .0, r .1)) ∙ w);
-        long = ap length e ∙ length-patch output from (z ++ b) (omega (arith, n, r .0, r .1)) ∙ g .long;
+            (patch-join output from (z ++ b) (joined (at + length b) rest) (at + length b) (omega (arith, n, r .0)) ∙ w);
+        long = laid-long _ _ _ _ e ∙ g .long;
         low = omega arith;
       }
 
@@ -90,7 +90,7 @@ module _ (o places values : List ℕ) (start : ℕ) (output : List ℕ) (from i 
   unfolding joined
   putting-end l =
       let e : drop i places ≡ [] = drop-of-length-le places l in
-      sym (patch-none output from) ∙ rw e at (g .whole)
+      patch-none output from ∙ rw e at (g .whole)
 
 -- ---- entries of one size one behind another
 module _ (l : Layout) (w : Writable l) (table : List ℕ) where
@@ -116,14 +116,11 @@ pub record Laying (o : List ℕ) (at : ℕ) (f : ℕ → List ℕ) (size count :
 module _ (o : List ℕ) (at : ℕ) (f : ℕ → List ℕ) (size : ℕ) (sized : (k : ℕ) → length (f k) ≡ size) (count : ℕ) (room : at + count * size ≤ length o) where
   pub laying-start : Laying o at f size count o 0
   unfolding entries
-  laying-start = record { placed = sym (patch-none o at); low = omega arith }
+  laying-start = record { placed = patch-none o at; low = omega arith }
 
   module _ (output : List ℕ) (i : ℕ) (g : Laying o at f size count output i) where
-    fits : i * size ≤ count * size
-    fits = mul-le-mul-right size (g .low)
-
     pub laying-long : length output ≡ length o
-    laying-long = ap length (g .placed) ∙ length-patch o at (entries f i) (omega (arith, length-entries f size sized i, fits))
+    laying-long = laid-long _ _ _ _ (g .placed)
 
     pub laying-room : i < count → at + i * size + size ≤ length output
     laying-room l = let m : suc i * size ≤ count * size = mul-le-mul-right size l in omega (arith, laying-long, suc-mul i size)
@@ -136,7 +133,7 @@ module _ (o : List ℕ) (at : ℕ) (f : ℕ → List ℕ) (size : ℕ) (sized : 
         record {
           placed = rw k
               (then-laid o output output′ (entries f i) (f i) (entries f i ++ f i) at next (g .placed) e (omega (arith, length-entries f size sized i))
-              (omega (arith, length-entries f size sized i, fits)) refl);
+              refl);
           low = omega arith;
         }
 

@@ -4,7 +4,8 @@ use mathlib.Core.Bool.{true}
 use mathlib.Core.List.{List, [], _∷_, _++_}
 use Prim.Native.Nat.{ℕ, _+_, _-_, _*_, _/_, _^_, _≤_, _<_}
 use lib.Dec.{ltb}
-use lib.ListN.{length, getD, take, drop, replicate}
+use lib.ListN.{length, getD, replicate}
+use lib.Seq.{sets}
 use Rattle.lists.specs.Count.{pick}
 use Rattle.layout.specs.Head.{versionAt, signatureAt, declaredSizeAt, programNameAt, storedHashAt, metricsOffsetAt, metricsCountAt, entryOffset}
 use Rattle.layout.specs.Head.{traceOffsetAt, traceCountAt, stringsOffsetAt, stringsSizeAt, volumesOffsetAt, volumesCountAt, volumesSizeAt}
@@ -37,9 +38,9 @@ use Rattle.writer.specs.LaidOut.{volumesAt, laidSize}
 
 -- ---- bytes into the place
 
--- a list with other bytes from a place on
+-- a list with some bytes put at a place; shut, so that a law finds the bytes from what it is given
 unfoldable pub patch : List ℕ → ℕ → List ℕ → List ℕ
-patch s at bytes = take at s ++ bytes ++ drop (at + length bytes) s
+patch s at bytes = sets s at bytes
 
 -- fields in rising order between a place and an end
 abbrev pub Ordered : ℕ → List Field → ℕ → Type 0

@@ -6,7 +6,7 @@ use native.Mathlib.Omega.{arith}
 use lib.ListN.{length, take, length-take}
 use lib.Seq.{take-all}
 use Rattle.writer.specs.Private.{patch}
-use Rattle.writer.proofs.Patch.{patch-none, patch-one, then-laid, laid-long, bytes-more}
+use Rattle.writer.proofs.Stores.{patch-none, patch-one, then-laid, laid-long, bytes-more}
 use borrow.Author.Needs.{needs}
 use Rattle.writer.proofs.put_bytes.Statement.{statement}
 use Rattle.writer.proofs.put_bytes.Tie as tie
@@ -20,10 +20,10 @@ abbrev μ-loop : tie.MeasureT-loop
     length bytes - i
 
 long : (c : tie.At-loop Inv-loop μ-loop) → length (c .loop .output) ≡ length (c .before .args .output .now)
-long c = laid-long _ _ _ _ (c .loop .inv .1) (omega (arith, length-take (c .loop .i) (c .before .args .bytes .now), c .before .pre))
+long c = laid-long _ _ _ _ (c .loop .inv .1)
 
 loop-holds : tie.Need-loop-holds Inv-loop μ-loop
-loop-holds c = (omega arith, sym (patch-none _ _))
+loop-holds c = (omega arith, patch-none _ _)
 
 add-output : tie.Need-add-output Inv-loop μ-loop
 add-output c = let b = c .before .before in omega (arith, b .before .pre, b .before .good)
@@ -36,8 +36,7 @@ loop-again c =
     let b = c .before .before in
     let n = length-take (b .loop .i) (b .before .args .bytes .now) in (
       omega arith,
-      then-laid _ _ _ _ _ _ _ (b .before .args .at + b .loop .i) (b .loop .inv .1) (patch-one _ _ _ (omega (arith, b .before .pre, long b)))
-          (omega (arith, n)) (omega (arith, n, b .before .pre))
+      then-laid _ _ _ _ _ _ _ (b .before .args .at + b .loop .i) (b .loop .inv .1) (patch-one _ _ _) (omega (arith, n))
           (bytes-more (b .before .args .bytes .now) (b .loop .i) (omega arith)),
     )
 

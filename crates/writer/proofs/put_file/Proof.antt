@@ -5,7 +5,7 @@ use native.Mathlib.Omega.{arith}
 use lib.ListN.{length}
 use Rattle.layout.specs.Versions.{firstSection, metricsEntry, traceEntry}
 use Rattle.writer.specs.declared.Plan.{Plan}
-use Rattle.writer.proofs.Patch.{five-laid}
+use Rattle.writer.proofs.Stores.{five-laid}
 use Rattle.writer.proofs.Planning.{trace-place, strings-place, volumes-place, size-place}
 use Rattle.writer.proofs.Whole.{name-fits, head-long, metrics-long, trace-long, file-pieces}
 use borrow.Author.Needs.{needs}
@@ -87,7 +87,7 @@ returns c =
     (bytes .put-bytes .ensures)
     (last .put-bytes2 .ensures)
     (head-long _ _ _ g _ _ _ _ _ _ r _ n) (omega (arith, metrics-long _ _ _ g _ _ _ _ _ _ r, m .0)) (omega (arith, trace-long _ _ _ g _ _ _ _ _ _ r, m .1))
-    (omega (arith, m .2)) (omega (arith, m .3, s .pre .1))
+    (omega (arith, m .2))
     (file-pieces _ _ _ g _ _ _ _ _ _ r _ n)
 
 pub put-file-spec : {M : Type 1} → statement M

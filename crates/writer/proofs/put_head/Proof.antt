@@ -6,7 +6,7 @@ use native.Mathlib.Omega.{arith}
 use lib.ListN.{length, take, length-take}
 use Rattle.writer.specs.LaidOut.{unitBytes}
 use Rattle.writer.proofs.Bytes.{length-units}
-use Rattle.writer.proofs.Patch.{four-laid}
+use Rattle.writer.proofs.Stores.{four-laid}
 use Rattle.writer.proofs.Behind.{first-ordered, first-long, behind-long, head-pieces}
 use borrow.Author.Needs.{needs}
 use Rattle.writer.proofs.put_head.Statement.{statement}
@@ -44,7 +44,7 @@ returns c =
     let z = rw few at (behind-long (s .args .l) w (s .args .p) (s .args .g) (s .args .version) us at-most) in
     let whole = rw few at (head-pieces (s .args .l) w (s .args .p) (s .args .g) (s .args .version) us at-most) in
     four-laid _ _ _ _ _ _ _ _ _ _ _ _ _ _ (numbers .put-numbers .ensures) (units .put-units .ensures) (fields .put-fields .ensures) (zeros .put-zeros .ensures)
-    (omega (arith, x)) (omega (arith, y)) (omega (arith, z, w .run-time, w .run-count)) (omega (arith, w .head, w .section, s .pre .1)) whole
+    (omega (arith, x)) (omega (arith, y)) (omega (arith, z, w .run-time, w .run-count)) whole
 
 pub put-head-spec : {M : Type 1} → statement M
 put-head-spec =

@@ -1,7 +1,7 @@
 -- Three numbers one behind another.
 use native.Mathlib.Omega.{arith}
 use Rattle.writer.proofs.Bytes.{length-bytes}
-use Rattle.writer.proofs.Patch.{three-laid}
+use Rattle.writer.proofs.Stores.{three-laid}
 use Rattle.writer.proofs.Entries.{link-laid}
 use borrow.Author.Needs.{needs}
 use Rattle.writer.proofs.put_link.Statement.{statement}
@@ -18,7 +18,7 @@ returns c =
     let m = length-bytes 4 (a .result) in
     let n = length-bytes 4 (b .result) in
     three-laid _ _ _ _ _ _ _ _ _ _ _ (first .put-u32 .ensures) (second .put-u322 .ensures) (third .put-u323 .ensures) (omega (arith, m)) (omega (arith, n))
-    (omega (arith, m, n, start .pre .0 .trace, start .pre .1)) (link-laid _ _ _ _ _ (start .pre .0 .trace) (a .ensures) (b .ensures))
+    (link-laid _ _ _ _ _ (start .pre .0 .trace) (a .ensures) (b .ensures))
 
 pub put-link-spec : {M : Type 1} → statement M
 put-link-spec =

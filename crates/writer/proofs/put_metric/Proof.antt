@@ -1,7 +1,7 @@
 -- Two numbers with zeros before, between and behind them.
 use Prim.Native.Nat.{_+_, _-_}
 use native.Mathlib.Omega.{arith}
-use Rattle.writer.proofs.Patch.{three-laid}
+use Rattle.writer.proofs.Stores.{three-laid}
 use Rattle.layout.specs.Versions.{metricsEntry, nameOffsetAt, nameLengthAt}
 use Rattle.writer.proofs.Entries.{field-size, metric-laid}
 use borrow.Author.Needs.{needs}
@@ -23,7 +23,7 @@ returns c =
     let x = field-size (at + no - at) (a .result) in
     let y = field-size (at + nl - (at + no + 4)) (b .result) in
     three-laid _ _ _ _ _ _ _ _ _ _ _ (first .put-field .ensures) (second .put-field2 .ensures) (zeros .put-zeros .ensures)
-    (omega (arith, x, w .name-length)) (omega (arith, y, w .name-length)) (omega (arith, x, y, w .name-length, w .metrics, start .pre .1))
+    (omega (arith, x, w .name-length)) (omega (arith, y, w .name-length))
     (metric-laid no nl (metricsEntry (start .args .l)) (a .result) (b .result) _ _ (at + no - at) (at + nl - (at + no + 4))
     (at + metricsEntry (start .args .l) - (at + nl + 4))
     (omega arith) (omega arith) (omega arith) (a .ensures) (b .ensures))

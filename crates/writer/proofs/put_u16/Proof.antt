@@ -1,6 +1,6 @@
 -- Two stores one after the other.
 use Rattle.writer.specs.LaidOut.{bytesOf}
-use Rattle.writer.proofs.Patch.{two-stores}
+use Rattle.writer.proofs.Stores.{two-stores}
 use native.Mathlib.Omega.{arith}
 use lib.ListN.{length-set}
 use borrow.Author.Needs.{needs}
@@ -12,7 +12,7 @@ slice-write-output-2 c = simp length-set (omega (arith, c .pre))
 
 returns : tie.Need-returns
 unfolding bytesOf
-returns c = two-stores _ _ _ _ (c .pre)
+returns c = two-stores _ _ _ _
 
 pub put-u16-spec : {M : Type 1} → statement M
 put-u16-spec =

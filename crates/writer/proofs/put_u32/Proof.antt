@@ -1,6 +1,6 @@
 -- Four stores one after another.
 use Rattle.writer.specs.LaidOut.{bytesOf}
-use Rattle.writer.proofs.Patch.{four-stores}
+use Rattle.writer.proofs.Stores.{four-stores}
 use native.Mathlib.Omega.{arith}
 use lib.ListN.{length-set}
 use borrow.Author.Needs.{needs}
@@ -18,7 +18,7 @@ slice-write-output-4 c = simp length-set (omega (arith, c .pre))
 
 returns : tie.Need-returns
 unfolding bytesOf
-returns c = four-stores _ _ _ _ _ _ (c .pre)
+returns c = four-stores _ _ _ _ _ _
 
 pub put-u32-spec : {M : Type 1} → statement M
 put-u32-spec =

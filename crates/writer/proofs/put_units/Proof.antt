@@ -3,10 +3,10 @@ use mathlib.Core.Path.{_≡_, refl, sym, ap, _∙_}
 use Prim.Native.Nat.{ℕ, _+_, _-_, _*_, _≤_}
 use native.Mathlib.Omega.{arith}
 use lib.ListN.{length, take, length-take}
-use Rattle.writer.specs.LaidOut.{unitBytes}
 use Rattle.writer.specs.Private.{patch}
+use Rattle.writer.specs.LaidOut.{unitBytes}
 use Rattle.writer.proofs.Bytes.{length-units}
-use Rattle.writer.proofs.Patch.{patch-none, then-laid, laid-long, laid-by, units-more}
+use Rattle.writer.proofs.Stores.{patch-none, then-laid, laid-long, laid-by, units-more}
 use borrow.Author.Needs.{needs}
 use Rattle.writer.proofs.put_units.Statement.{statement}
 use Rattle.writer.proofs.put_units.Tie as tie
@@ -26,11 +26,11 @@ size : (c : tie.At-loop Inv-loop μ-loop) → length (unitBytes (take (c .loop .
 size c = length-units _ ∙ omega (arith, length-take (c .loop .i) (start c .args .name .now), start c .pre .0)
 
 long : (c : tie.At-loop Inv-loop μ-loop) → length (c .loop .output) ≡ length (start c .args .output .now)
-long c = laid-long _ _ _ _ (c .loop .inv .1) (omega (arith, size c, start c .pre .1))
+long c = laid-long _ _ _ _ (c .loop .inv .1)
 
 loop-holds : tie.Need-loop-holds Inv-loop μ-loop
 unfolding unitBytes
-loop-holds c = (omega arith, sym (patch-none _ _))
+loop-holds c = (omega arith, patch-none _ _)
 
 put-u16-requires : tie.Need-put-u16-requires Inv-loop μ-loop
 put-u16-requires c κs = let b = c .before .before .before in omega (arith, start b .pre .1, long b)
@@ -40,7 +40,7 @@ loop-again c =
     let put = c .before .before in
     let b = put .before .before .before .before in (
       omega arith,
-      then-laid _ _ _ _ _ _ _ _ (b .loop .inv .1) (put .put-u16 .ensures) (omega (arith, size b)) (omega (arith, size b, start b .pre .1))
+      then-laid _ _ _ _ _ _ _ _ (b .loop .inv .1) (put .put-u16 .ensures) (omega (arith, size b))
           (units-more (start b .args .name .now) (b .loop .i) (omega (arith, start b .pre .0))),
     )
 

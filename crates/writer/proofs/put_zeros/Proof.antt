@@ -5,7 +5,7 @@ use Prim.Native.Nat.{ℕ, _+_, _-_, _≤_}
 use native.Mathlib.Omega.{arith}
 use lib.ListN.{length, replicate, length-replicate}
 use Rattle.writer.specs.Private.{patch}
-use Rattle.writer.proofs.Patch.{patch-one, then-laid, laid-long, laid-by, zeros-start, zeros-next}
+use Rattle.writer.proofs.Stores.{patch-one, then-laid, laid-long, laid-by, zeros-start, zeros-next}
 use borrow.Author.Needs.{needs}
 use Rattle.writer.proofs.put_zeros.Statement.{statement}
 use Rattle.writer.proofs.put_zeros.Tie as tie
@@ -19,7 +19,7 @@ abbrev μ-loop : tie.MeasureT-loop
     to - i
 
 long : (c : tie.At-loop Inv-loop μ-loop) → length (c .loop .output) ≡ length (c .before .args .output .now)
-long c = laid-long _ _ _ _ (c .loop .inv .2) (omega (arith, length-replicate {A = ℕ} (c .loop .i - c .before .args .from) 0, c .before .pre .1))
+long c = laid-long _ _ _ _ (c .loop .inv .2)
 
 loop-holds : tie.Need-loop-holds Inv-loop μ-loop
 loop-holds c =
@@ -35,9 +35,7 @@ loop-again c =
     let n = length-replicate {A = ℕ} (b .loop .i - o .from) 0 in (
       omega arith,
       omega arith,
-      then-laid _ _ _ _ _ _ _ (b .loop .i) (b .loop .inv .2) (patch-one _ _ _ (omega (arith, b .before .pre .1, long b))) (omega (arith, n))
-          (omega (arith, n, b .before .pre .1))
-          (zeros-next _ _ (b .loop .inv .0)),
+      then-laid _ _ _ _ _ _ _ (b .loop .i) (b .loop .inv .2) (patch-one _ _ _) (omega (arith, n)) (zeros-next _ _ (b .loop .inv .0)),
     )
 
 same-length : tie.Need-same-length Inv-loop μ-loop

@@ -1,4 +1,5 @@
 -- Twenty-two numbers in the order of the definition; one cast's bound lies far back.
+use mathlib.Core.Path.{refl}
 use native.Mathlib.Omega.{arith}
 use borrow.Author.Needs.{needs}
 use Rattle.hivesaddle.proofs.files.record_reply.Statement.{statement}
@@ -6,6 +7,9 @@ use Rattle.hivesaddle.proofs.files.record_reply.Tie as tie
 
 cast-t19 : tie.Need-cast-t19
 cast-t19 c = omega (arith, c .struct-known7 .given)
+
+returns : tie.Need-returns
+returns c = refl
 
 pub record-reply-spec : {M : Type 1} → statement M
 record-reply-spec =
@@ -19,4 +23,4 @@ record-reply-spec =
     (λ c. search needs)
     cast-t19
     (λ c. search needs)
-    (λ c. search needs))
+    returns)
