@@ -37,6 +37,7 @@ pub enum WrittenLine {
     Refused,
 }
 
+// The fields of a line of digits whose size has that width.
 fn fields_of(line: &[u8], width: usize) -> Fields
     requires { ⌜ (width ≤ 8) × (isLine (width + 18) (now line) ≡ true) ⌝ }
     ensures { λ r. ⌜ r ≡ fieldsIn width (now (line .entry)) ⌝ }
@@ -95,6 +96,7 @@ pub fn read_line(line: &[u8]) -> ReadLine
     }
 }
 
+// The digits of the fields and the line feed, where there is room for them.
 fn write_fields(output: &mut [u8], fields: Fields, width: usize)
     requires { ⌜ width + 19 ≤ length (now output) ⌝ }
     ensures { λ _. ⌜ now (output .exit) ≡ lineOf width fields ++ drop (width + 19) (now (output .entry)) ⌝ }

@@ -7,14 +7,12 @@ ghost use lib.ListN.{length, take, drop};
 ghost use Rattle.readings.specs.Feeding.{Feeds, Finishes};
 ghost use Rattle.replay_input.specs.Program.{Fresh, Steps, Ends, TakesBytes};
 ghost use Rattle.replay_input.specs.Private.{StartsFit, RecordingBegins, EndsUnread};
+use crate::START_BYTES;
 use crate::least;
 use crate::take_starts;
 use readings::Fed;
 use readings::Progress;
 use readings::ReplayAnswer;
-
-// Bytes of a start line.
-const START: usize = 19;
 
 // How many starts have been taken and whether more may come, and how far the recording is.
 pub struct Stage {
@@ -125,10 +123,10 @@ fn take_starting(
     let held = stage.starts;
     let k = take_starts(bytes, held, times, boards);
     let starts = held + k;
-    let at = START * k;
+    let at = START_BYTES * k;
     let before = stage.progress;
     let lines = std::num::wrapping_add_u64(before.lines, k as u64);
-    if bytes.len() - at < START {
+    if bytes.len() - at < START_BYTES {
         return still_starting(starts, lines, at);
     }
     let fed = begin_recording(&bytes[at..], lines, starts, times, boards, work, answers);
