@@ -43,8 +43,8 @@ use Rattle.reader.specs.Allowed.{Allowed}
 use Rattle.reader.proofs.Allowed.{opens as allowed-opens, demand-2}
 use Rattle.reader.proofs.AllowedLaws.{whole-accepted}
 use Rattle.reader.proofs.Values.{accepted-answer, refused-answer, wanted-answer, same-values}
-use Rattle.writer.specs.LaidOut.{Description, laidBy, laidOut, head, beforeZero, carried, pairs, metricsAt, traceAt, stringsAt, volumesAt, laidSize}
-use Rattle.writer.specs.Private.{Numbers, Writable, headFor, linksIn, sectionChecks, acceptableFor}
+use Rattle.writer.specs.LaidOut.{Description, Numbers, laidBy, laidOut, head, beforeZero, carried, pairs, metricsAt, traceAt, stringsAt, volumesAt, laidSize}
+use Rattle.writer.specs.Private.{Writable, headFor, linksIn, sectionChecks, acceptableFor}
 use Rattle.writer.specs.Writes.{writable, roomed, placedAnswer, writeAnswer, fileFor, outputAfter, Lays, Writes}
 use Rattle.writer.proofs.Facts.{LaidFacts}
 use Rattle.writer.proofs.Bytes.{le-left}

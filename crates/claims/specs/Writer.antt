@@ -22,8 +22,7 @@ use Rattle.reader.specs.declared.verdict.Verdict.{Verdict}
 use Rattle.reader.specs.declared.verdict.Verdict.the-variants.{Accepted, Refused, Wanted}
 use Rattle.reader.specs.Verdict.{Acceptable}
 use Rattle.reader.specs.Checks.{fileAnswer, ReadsFile}
-use Rattle.writer.specs.LaidOut.{Description, laidOut, beforeZero, pairs, stringsAt}
-use Rattle.writer.specs.Private.{Numbers}
+use Rattle.writer.specs.LaidOut.{Description, Numbers, laidOut, beforeZero, pairs, stringsAt}
 use Rattle.writer.specs.Writes.{Writes}
 
 -- "A writer for versions 17 and 23": the version that a number asks for

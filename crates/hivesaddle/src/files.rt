@@ -12,6 +12,7 @@ use reader::Acceptance;
 use reader::RunTimes;
 use reader::Verdict;
 use walk::WalkAnswer;
+use writer::Given;
 
 // The values of a verdict: a refusal's number, index and offset, or the bytes wanted, or a record; zeros for what it has not.
 fn record_reply(
@@ -131,22 +132,24 @@ pub extern "C" fn hs_write_file(
     out: &mut [u64],
 ) -> u32
     ensures { λ r.
-        ⌜ WriteOut version
-        (description (now (name .entry)) «stored_hash» «run_time» «run_count» (now (metrics .entry)) (now (trace .entry)) (now (strings .entry))
-        (now (volumes .entry)) «volume_count») (now (predecessors .entry)) (now (output .entry)) r (now (predecessors .exit)) (now (output .exit))
-        (now (out .entry)) (now (out .exit)) ⌝ }
+        ⌜ WriteOut version (description (now (name .entry)) «stored_hash» «run_time» «run_count» (now (metrics .entry)) (now (trace .entry))
+        (now (strings .entry)) (now (volumes .entry)) «volume_count») (now (predecessors .entry)) (now (output .entry)) r (now (predecessors .exit))
+        (now (output .exit)) (now (out .entry)) (now (out .exit)) ⌝ }
 {
+    let given = Given {
+        version: version,
+        stored_hash: stored_hash,
+        run_time: run_time,
+        run_count: run_count,
+        volume_count: volume_count,
+    };
     let v = writer::write_file(
-        version,
+        given,
         name,
-        stored_hash,
-        run_time,
-        run_count,
         metrics,
         trace,
         strings,
         volumes,
-        volume_count,
         predecessors,
         output,
     );

@@ -2,8 +2,8 @@
 use mathlib.Core.Path.{_≡_, refl, sym, ap, _∙_}
 use mathlib.Core.Bool.{Bool, true, false}
 use mathlib.Core.List.{List, [], _++_}
-use mathlib.Core.Option.{some}
-use Prim.Native.Nat.{ℕ, _+_, _≤_, _<_}
+use mathlib.Core.Option.{some, none}
+use Prim.Native.Nat.{ℕ, _≤_, _<_}
 use mathlib.Core.Logic.{⊎-elim}
 use native.Mathlib.Nat.{zero-add, eq-or-lt-of-le}
 use native.Mathlib.Omega.{arith}
@@ -25,18 +25,19 @@ use Rattle.lists.specs.Filled.{filled}
 use Rattle.trace.specs.Links.{firsts, predecessors, linksOf}
 use Rattle.trace.specs.declared.Links.{Links}
 use Rattle.trace.specs.declared.Links.the-variants as links
-use Rattle.reader.specs.Verdict.{Acceptable, Reads, valuesOf, refusedValues, acceptedValues}
+use Rattle.reader.specs.Verdict.{Acceptable, Reads, refusedValues, acceptedValues}
 use Rattle.reader.specs.Checks.{fileAnswer}
 use Rattle.reader.specs.declared.verdict.Verdict.{Verdict}
 use Rattle.reader.specs.declared.verdict.Verdict.the-variants as verdict
 use Rattle.reader.specs.declared.verdict.Acceptance.{Acceptance}
 use Rattle.writer.specs.declared.Plan.{Plan}
 use Rattle.writer.specs.declared.Given.{Given}
+use Rattle.writer.specs.declared.Draft.{Draft}
 use Rattle.writer.specs.declared.write.Planned.{Planned}
 use Rattle.writer.specs.declared.write.Planned.the-variants.{Fits, TooLarge}
-use Rattle.writer.specs.LaidOut.{Description, beforeZero, laidBy, laidOut, carried, laidSize}
+use Rattle.writer.specs.LaidOut.{Description, descriptionOf, Numbers, beforeZero, laidBy, laidOut, carried, laidSize}
 use Rattle.writer.specs.Writes.{writable, roomed, placedAnswer, answerFor, outputAfter, Lays, Writes}
-use Rattle.writer.specs.Private.{patch, Writable, Numbers, Ready, LaysBy, descriptionOf, planBy, planned, sectionChecks, SectionsAnswered, described}
+use Rattle.writer.specs.Private.{patch, Writable, Ready, LaysBy, planBy, planned, sectionChecks, SectionsAnswered, described}
 use Rattle.writer.specs.Private.{linksIn}
 use Rattle.writer.specs.Private.{recordBy, acceptableFor, recordFor}
 use Rattle.writer.proofs.Name.{carried-most}
@@ -62,11 +63,22 @@ pub lays-long : (a : ℕ → Answer Acceptable) (file buffer before output : Lis
 lays-long a file buffer before output r after output′ e h = record { reads = rw (← e) (h .reads); placed = rw (← e) (h .placed) }
 
 -- ---- a plan within the limit
-module _ (v : Version) (l : Layout) (p : Plan) (g : Given) (name metrics trace strings volumes : List ℕ) (units : ℕ)
-    (r : Ready v l p (descriptionOf name g metrics trace strings volumes) units) (few : units < 30) (buffer output : List ℕ)
-    (k : Links) (after : List ℕ)
-    (a : SectionsAnswered (sectionChecks l (descriptionOf [] g metrics trace strings volumes) (length buffer)) (firsts trace (p .trace))
-    (length buffer) k after) where
+module _ (w : Draft) (name metrics trace strings volumes : List ℕ) (r : Ready w (descriptionOf name (w .given) metrics trace strings volumes))
+    (few : w .units < 30) (buffer output : List ℕ) (k : Links) (after : List ℕ)
+    (a : SectionsAnswered (sectionChecks (w .layout) (descriptionOf [] (w .given) metrics trace strings volumes) (length buffer))
+    (firsts trace (w .plan .trace)) (length buffer) k after) where
+  abbrev v : Version
+  v = w .version
+
+  abbrev l : Layout
+  l = w .layout
+
+  abbrev p : Plan
+  p = w .plan
+
+  abbrev g : Given
+  g = w .given
+
   abbrev d : Description
   d = descriptionOf name g metrics trace strings volumes
 
@@ -91,22 +103,22 @@ module _ (v : Version) (l : Layout) (p : Plan) (g : Given) (name metrics trace s
         answered
         ∙ ap (λ (x : Decision ℕ). decided (x >>= λ i. accept (acceptableFor v l d (length buffer) i))) (sym checked ∙ ap linksOf c)
 
-    pub planned-short : (x : Refusal) (filled′ : List ℕ) → length output < p .size → length after ≡ length buffer → x ≡ refusal 20 0 0
-        → filled′ ≡ filled (length after) → ((file output : List ℕ) (f : Refusal) → output ≡ outputAfter (decided (refuse f)) file output)
-        → LaysBy v l d buffer output (verdict.Refused x) filled′ output
-    planned-short x filled′ h e y z j =
+    pub planned-short : (x : Verdict) (filled′ : List ℕ) → length output < p .size → length after ≡ length buffer
+        → Reads (decided (refuse (refusal 20 0 0))) (length after) x filled′
+        → ((file output : List ℕ) (f : Refusal) → output ≡ outputAfter (decided (refuse f)) file output)
+        → LaysBy v l d buffer output x filled′ output
+    planned-short x filled′ h e y j =
         let b : placedAnswer file (length buffer) (length output) ≡ decided (refuse (refusal 20 0 0)) =
         rw (lt-ltb (length output) (length file) (omega (arith, size))) (ap (roomed true) accepted) in
-        lays-refused file buffer output filled′ (refusal 20 0 0) (verdict.Refused x) b (j file output (refusal 20 0 0))
-        (reads-refused (refusal 20 0 0) x (length buffer) filled′ y (rw e at z))
+        lays-refused file buffer output filled′ (refusal 20 0 0) x b (j file output (refusal 20 0 0)) (rw e at y)
 
     pub planned-laid : (x : Acceptance) (output′ : List ℕ) (number : ℕ) → p .size ≤ length output → output′ ≡ patch output 0 file
-        → number ≡ versionNumber v → x ≡ recordBy number p g units n → LaysBy v l d buffer output (verdict.Accepted x) after output′
+        → number ≡ versionNumber v → x ≡ recordBy number p g (w .units) n → LaysBy v l d buffer output (verdict.Accepted x) after output′
     unfolding patch
     planned-laid x output′ number h e q z =
         let b : placedAnswer file (length buffer) (length output) ≡ decided (accept (acceptableFor v l d (length buffer) n)) =
         rw (le-ltb (length output) (length file) (omega (arith, size))) (ap (roomed false) accepted) in
-        let same : recordBy number p g units n ≡ recordFor v l d n = rw (q, r .plan, r .named) refl in
+        let same : recordBy number p g (w .units) n ≡ recordFor v l d n = rw (q, r .plan, r .named) refl in
         let table : after ≡ predecessors (linksIn d) (length buffer) =
         a .holds n c ∙ ap (λ (j : ℕ). predecessors (firsts trace j) (length buffer)) (ap (λ (w : Plan). w .trace) (r .plan)) in
         record {
@@ -212,15 +224,28 @@ module _ (version : ℕ) (d : Description) (buffer output : List ℕ) (x : Verdi
       → LaysBy v (layoutOf v) d buffer output x after output′ → Writes version d buffer output x after output′
   writes-known v e first h = rw (e, first) h
 
-  pub writes-other : (version ≡ 17 → ⊥) → (version ≡ 23 → ⊥) → Reads (decided (refuse (refusal 1 0 versionAt))) (length buffer) x after → output′ ≡ output
+  pub writes-other : writable version ≡ none → Reads (decided (refuse (refusal 1 0 versionAt))) (length buffer) x after → output′ ≡ output
       → Writes version d buffer output x after output′
-  unfolding writable
-  writes-other a b h e = rw (ne-eqb version 17 a, ne-eqb version 23 b) (record { reads = h; placed = e })
+  writes-other e h k = rw e (record { reads = h; placed = k })
 
-pub is-17 : (n : ℕ) → n ≡ 17 → writable n ≡ some V17
+pub is-17 : (n : ℕ) → n ≡ 17 → some V17 ≡ writable n
 unfolding writable
 is-17 n e = rw e refl
 
-pub is-23 : (n : ℕ) → n ≡ 23 → writable n ≡ some V23
+pub is-23 : (n : ℕ) → n ≡ 23 → some V23 ≡ writable n
 unfolding writable
 is-23 n e = rw e refl
+
+pub is-other : (n : ℕ) → (n ≡ 17 → ⊥) → (n ≡ 23 → ⊥) → none ≡ writable n
+unfolding writable
+is-other n a b = rw (ne-eqb n 17 a, ne-eqb n 23 b) refl
+
+-- a version that is written can be
+pub written-known : (n : ℕ) (v : Version) → writable n ≡ some v → Writable (layoutOf v) × (versionOf (versionNumber v) ≡ Known v)
+unfolding writable
+written-known n v e = go (eqb n 17) (eqb n 23) e
+  where
+    go : (a b : Bool) → pick a (some V17) (pick b (some V23) none) ≡ some v → Writable (layoutOf v) × (versionOf (versionNumber v) ≡ Known v)
+    go true b q = let z : v ≡ V17 = cc in rw z (writable-17, known-17)
+    go false true q = let z : v ≡ V23 = cc in rw z (writable-23, known-23)
+    go false false q = let z : _≡_ {A = ℕ} 0 1 = cc in absurd (omega arith)

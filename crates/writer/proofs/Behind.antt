@@ -1,18 +1,18 @@
 -- The head in the pieces that the code puts: three numbers, the name, the fields behind it, and zeros.
 use mathlib.Core.Path.{_≡_, refl, sym, ap, _∙_}
-use mathlib.Core.List.{List, [], _∷_, _++_, append-assoc, append-nil}
-use Prim.Native.Nat.{ℕ, zero, suc, _+_, _-_, _*_, _/_, _%_, _≤_, _<_}
-use native.Mathlib.Nat.{sub-zero, sub-self, add-mul-div-left}
+use mathlib.Core.List.{List, [], _∷_, _++_, append-assoc}
+use Prim.Native.Nat.{ℕ, _+_, _-_, _*_, _/_, _%_, _≤_}
+use native.Mathlib.Nat.{sub-self, add-mul-div-left}
 use native.Mathlib.Omega.{arith}
-use lib.ListN.{length, take, replicate, length-append, length-replicate}
+use lib.ListN.{length, replicate}
 use Rattle.layout.specs.Versions.{runTimeAt, runCountAt, firstSection}
 use Rattle.layout.specs.declared.Layout.{Layout}
 use Rattle.writer.specs.declared.Plan.{Plan}
 use Rattle.writer.specs.declared.Given.{Given}
-use Rattle.writer.specs.LaidOut.{Field, number, bytesOf, unitBytes, spread}
-use Rattle.writer.specs.Private.{Ordered, joined, numbersAt, Writable, fieldsBehind, headBy}
+use Rattle.writer.specs.LaidOut.{Field, number, bytesOf, unitBytes}
+use Rattle.writer.specs.Private.{Ordered, joined, Writable, fieldsBehind, headBy}
 use Rattle.writer.proofs.Bytes.{length-bytes, length-units}
-use Rattle.writer.proofs.Spread.{endOf, lastEnd, spread-joined, joined-append, joined-same, length-joined}
+use Rattle.writer.proofs.Spread.{spread-joined, joined-append, joined-same, length-joined}
 
 -- the lowest byte, and what is above it
 byte-step : (a k : ℕ) → ((a + 256 * k) % 256 ≡ a % 256) × ((a + 256 * k) / 256 ≡ a / 256 + k)

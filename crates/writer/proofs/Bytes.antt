@@ -1,14 +1,14 @@
 -- A number laid out in bytes is read again: in a field, in a row of units, and among entries of one size.
 use mathlib.Core.Path.{_≡_, refl, sym, ap, _∙_}
-use mathlib.Core.List.{List, [], _∷_, _++_, append-assoc}
-use mathlib.Core.Logic.{inl, inr, ⊎-elim}
-use Prim.Native.Nat.{ℕ, zero, suc, _+_, _-_, _*_, _/_, _%_, _^_, _≤_, _<_}
-use native.Mathlib.Nat.{add-zero, zero-add, pow-zero, pow-suc, suc-mul, zero-mul, not-suc-le-zero, le-of-suc-le-suc, eq-or-lt-of-le, mul-le-mul-right}
+use mathlib.Core.List.{List, [], _∷_, _++_}
+use mathlib.Core.Logic.{⊎-elim}
+use Prim.Native.Nat.{ℕ, zero, suc, _+_, _*_, _/_, _%_, _^_, _≤_, _<_}
+use native.Mathlib.Nat.{pow-zero, pow-suc, suc-mul, zero-mul, not-suc-le-zero, le-of-suc-le-suc, eq-or-lt-of-le, mul-le-mul-right}
 use native.Mathlib.Omega.{arith}
-use lib.ListN.{length, getD, take, drop, replicate, length-append, length-replicate, getD-replicate}
-use lib.Seq.{take-append-seam, drop-append-seam, drop-append-add, drop-at, take-at}
+use lib.ListN.{length, getD, replicate, length-append}
+use lib.Seq.{take-append-seam, drop-append-seam}
 use Rattle.little_endian.specs.Number.{le}
-use Rattle.little_endian.proofs.Number.{le-take, le-drop, le-ext}
+use Rattle.little_endian.proofs.Number.{le-take, le-drop}
 use Rattle.writer.specs.LaidOut.{bytesOf, unitBytes, entries}
 
 pub length-bytes : (w n : ℕ) → length (bytesOf w n) ≡ w

@@ -7,7 +7,7 @@ use lib.ListN.{length}
 use Rattle.layout.specs.Head.{entryOffset}
 use Rattle.layout.specs.Versions.{volumeEntry, traceEntry}
 use Rattle.layout.specs.declared.Layout.{Layout}
-use Rattle.incremental.specs.Decision.{Decision, accept, refuse, refusal, check, checkedOf, _>>=_, _>>_}
+use Rattle.incremental.specs.Decision.{Decision, accept, refuse, refusal, check, checkedOf, _>>_}
 use Rattle.incremental.specs.declared.Refusal.{Refusal}
 use Rattle.incremental.specs.declared.Fault.{Fault}
 use Rattle.incremental.specs.declared.Fault.the-variants.{At, Nowhere}
@@ -24,8 +24,8 @@ use Rattle.writer.specs.declared.Plan.{Plan}
 use Rattle.names.specs.Names.{misfitPair, unsoundPair}
 use Rattle.incremental.proofs.Decision.{check-at, check-nowhere}
 use Rattle.writer.specs.declared.Given.{Given}
-use Rattle.writer.specs.LaidOut.{metricsAt}
-use Rattle.writer.specs.Private.{nameChecks, tableChecks, SectionsAnswered, planBy, sectionChecks, descriptionOf}
+use Rattle.writer.specs.LaidOut.{descriptionOf, metricsAt}
+use Rattle.writer.specs.Private.{nameChecks, tableChecks, SectionsAnswered, planBy, sectionChecks}
 
 -- the last of some checks
 pub last-at : (n i at : ℕ) (f r : Fault) (x : Refusal) → r ≡ f → r ≡ At i at → x ≡ refusal n i at → refuse x ≡ check n f

@@ -1,17 +1,17 @@
 -- The pieces that the code puts one behind another are the entries and the fields of the definition.
-use mathlib.Core.Path.{_≡_, refl, sym, ap, _∙_}
-use mathlib.Core.List.{List, [], _∷_, _++_, append-assoc, append-nil}
-use Prim.Native.Nat.{ℕ, zero, suc, _+_, _-_, _*_, _≤_, _<_}
+use mathlib.Core.Path.{_≡_, refl, ap, _∙_}
+use mathlib.Core.List.{List, [], _∷_, _++_, append-assoc}
+use Prim.Native.Nat.{ℕ, suc, _+_, _-_, _*_, _≤_, _<_}
 use native.Mathlib.Nat.{sub-zero, suc-mul, mul-le-mul-right}
 use native.Mathlib.Omega.{arith}
-use lib.ListN.{length, getD, take, drop, replicate, length-append, length-replicate, drop-of-length-le}
+use lib.ListN.{length, getD, drop, replicate, length-append, length-replicate, drop-of-length-le}
 use lib.Seq.{drop-cons}
 use mir.Syntax.{w64}
 use mir.Val.{Fits}
 use Rattle.lists.specs.Pairs.{firstOf, secondOf}
 use Rattle.layout.specs.Versions.{metricsEntry, nameOffsetAt, nameLengthAt, traceEntry}
 use Rattle.layout.specs.declared.Layout.{Layout}
-use Rattle.writer.specs.LaidOut.{Field, number, bytesOf, spread, entries, metricsBytes, traceBytes}
+use Rattle.writer.specs.LaidOut.{number, bytesOf, spread, entries, metricsBytes, traceBytes}
 use Rattle.writer.specs.Private.{patch, Ordered, joined, numbersAt, Writable}
 use Rattle.writer.proofs.Bytes.{length-bytes, length-entries}
 use Rattle.writer.proofs.Spread.{ordered-end, length-spread}

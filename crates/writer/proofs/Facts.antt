@@ -9,7 +9,7 @@ use Rattle.lists.specs.declared.Found.the-variants.{At, Nothing}
 use Rattle.lists.specs.Pairs.{firstOf, secondOf}
 use Rattle.little_endian.specs.Number.{le}
 use Rattle.layout.specs.Head.{versionAt, signatureAt, declaredSizeAt, storedHashAt}
-use Rattle.layout.specs.Versions.{versionNumber, versionOf, headEnd, runTimeAt, runCountAt, traceEntry, sizeLimit}
+use Rattle.layout.specs.Versions.{versionNumber, headEnd, runTimeAt, runCountAt, traceEntry, sizeLimit}
 use Rattle.layout.specs.declared.Version.{Version}
 use Rattle.layout.specs.declared.Layout.{Layout}
 use Rattle.sections.specs.Fields.{nameEnd, headOf, part}

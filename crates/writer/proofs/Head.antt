@@ -1,27 +1,23 @@
 -- What is read in the head of a laid-out file.
 use mathlib.Core.Path.{_≡_, refl, sym, ap, _∙_}
-use mathlib.Core.Bool.{Bool, true, false}
-use mathlib.Core.List.{List, [], _∷_, _++_}
-use Prim.Native.Nat.{ℕ, zero, suc, _+_, _-_, _*_, _^_, _≤_, _<_, min}
-use native.Mathlib.Nat.{add-zero, sub-zero}
+use mathlib.Core.List.{List, _++_}
+use Prim.Native.Nat.{ℕ, _+_, _-_, _*_, _^_, _<_, min}
+use native.Mathlib.Nat.{sub-zero}
 use native.Mathlib.Omega.{arith}
-use borrow.Author.Tests.{eq-eqb, ne-eqb, eqb-true, eqb-false}
-use lib.Dec.{eqb}
-use lib.ListN.{length, getD, take, drop, replicate, length-replicate}
-use Rattle.lists.specs.Count.{pick}
-use Rattle.little_endian.specs.Number.{le, zeroUnit}
+use lib.ListN.{length, getD, replicate, length-replicate}
+use Rattle.little_endian.specs.Number.{le}
 use Rattle.little_endian.proofs.Number.{le-drop}
 use Rattle.layout.specs.Versions.{versionNumber, runTimeAt, runCountAt, firstSection}
 use Rattle.layout.specs.declared.Version.{Version}
 use Rattle.layout.specs.declared.Version.the-variants.{V17, V23, V26, V30}
 use Rattle.layout.specs.declared.Layout.{Layout}
-use Rattle.writer.specs.LaidOut.{Field, number, bytesOf, unitBytes, spread, Description, carried, pairs, metricsAt, traceAt, stringsAt, volumesAt}
+use Rattle.writer.specs.LaidOut.{Numbers, number, bytesOf, unitBytes, spread, Description, carried}
 use Rattle.writer.specs.LaidOut.{laidSize}
 use Rattle.writer.specs.LaidOut.{headFields, head}
-use Rattle.writer.specs.Private.{Ordered, Writable, Numbers}
-use Rattle.writer.proofs.Bytes.{length-bytes, length-units, le-left, le-right, le-units, le-zeros}
-use Rattle.writer.proofs.Spread.{length-spread, spread-drop, field-number, fieldAt, fieldsAfter, endOf}
-use Rattle.writer.proofs.Name.{carried-most, carried-nonzero, carried-low}
+use Rattle.writer.specs.Private.{Ordered, Writable}
+use Rattle.writer.proofs.Bytes.{length-units, le-left, le-right, le-units, le-zeros}
+use Rattle.writer.proofs.Spread.{length-spread, spread-drop, field-number, fieldAt, fieldsAfter}
+use Rattle.writer.proofs.Name.{carried-most, carried-low}
 
 number-small : (v : Version) → versionNumber v < 256 ^ 4
 number-small V17 = omega arith

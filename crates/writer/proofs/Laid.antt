@@ -1,37 +1,34 @@
 -- The laid-out file has what the checks are to see: its head is read field by field, and each section stands where the head says.
 use mathlib.Core.Path.{_≡_, refl, sym, ap, _∙_}
 use mathlib.Core.Bool.{Bool, true, false}
-use mathlib.Core.List.{List, [], _∷_, _++_, append-assoc}
-use Prim.Native.Nat.{ℕ, zero, suc, _+_, _-_, _*_, _/_, _^_, _≤_, _<_, min}
+use mathlib.Core.List.{List, _++_, append-assoc}
+use Prim.Native.Nat.{ℕ, _+_, _*_, _≤_, _<_, min}
 use mathlib.Core.Logic.{⊎-elim}
 use native.Mathlib.Nat.{add-zero, eq-or-lt-of-le, mul-le-mul-left, mul-one}
 use native.Mathlib.Omega.{arith}
 use borrow.Author.Tests.{eq-eqb, ne-eqb, eqb-true, eqb-false}
 use lib.Dec.{eqb}
-use lib.ListN.{length, getD, take, drop, length-append, length-take}
-use lib.Seq.{take-at, drop-at, drop-append-add, take-all}
+use lib.ListN.{length, take, drop, length-append, length-take}
+use lib.Seq.{take-at, drop-at, take-all}
 use Rattle.lists.specs.Count.{pick}
 use Rattle.lists.specs.First.{first}
 use Rattle.lists.specs.Pairs.{firstOf, secondOf}
-use Rattle.lists.specs.Table.{tabulate}
-use Rattle.lists.specs.declared.Found.{Found}
 use Rattle.lists.specs.declared.Found.the-variants.{At, Nothing}
 use Rattle.lists.proofs.Table.{tabulate-same}
 use Rattle.lists.proofs.First.{first-is-at, first-is-nothing}
 use Rattle.little_endian.specs.Number.{le, zeroUnit}
 use Rattle.little_endian.proofs.Number.{le-take}
-use Rattle.layout.specs.Versions.{versionNumber, headEnd, runTimeAt, runCountAt, metricsEntry, nameOffsetAt, nameLengthAt, traceEntry, firstSection, sizeLimit}
+use Rattle.layout.specs.Versions.{headEnd, runTimeAt, runCountAt, metricsEntry, nameOffsetAt, nameLengthAt, traceEntry, firstSection, sizeLimit}
 use Rattle.layout.specs.declared.Version.{Version}
 use Rattle.layout.specs.declared.Layout.{Layout}
-use Rattle.sections.specs.Fields.{nameEnd, nameUnitsIn, headOf, part, sectionOf}
-use Rattle.sections.specs.declared.Section.{Section}
+use Rattle.sections.specs.Fields.{nameEnd, nameUnitsIn, headOf, part}
 use Rattle.sections.proofs.Name.{units-whole}
 use Rattle.names.specs.Names.{nameAt, nameUnits}
 use Rattle.trace.specs.Links.{nexts}
 use Rattle.trace.specs.Links.{firsts}
-use Rattle.writer.specs.LaidOut.{Description, number, bytesOf, entries, spread, head, headFields, metricsBytes, traceBytes, laidBy}
+use Rattle.writer.specs.LaidOut.{Numbers, Description, entries, head, metricsBytes, traceBytes, laidBy}
 use Rattle.writer.specs.LaidOut.{carried, pairs, metricsAt, traceAt, stringsAt, volumesAt, laidSize}
-use Rattle.writer.specs.Private.{Writable, Numbers, headFor, linksIn}
+use Rattle.writer.specs.Private.{Writable, headFor, linksIn}
 use Rattle.writer.proofs.Facts.{StartFacts, LaidFacts}
 use Rattle.writer.proofs.Bytes.{le-left, length-entries, le-entry}
 use Rattle.writer.proofs.Spread.{field-number}

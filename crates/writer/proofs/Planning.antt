@@ -1,23 +1,22 @@
 -- A plan within the limit: what its lengths add up to, and where its sections meet.
 use mathlib.Core.Path.{_≡_, refl, sym, ap, _∙_}
 use mathlib.Core.Bool.{Bool, true, false}
-use mathlib.Core.List.{List, [], _∷_, _++_}
+use mathlib.Core.List.{List, [], _∷_}
 use mathlib.Core.Logic.{⊎-elim}
-use Prim.Native.Nat.{ℕ, zero, suc, _+_, _-_, _*_, _/_, _≤_, _<_, min}
-use native.Mathlib.Nat.{mul-one, mul-le-mul-left, mul-le-mul-right, not-suc-le-zero, le-of-suc-le-suc, eq-or-lt-of-le}
+use Prim.Native.Nat.{ℕ, zero, suc, _+_, _*_, _/_, _≤_, _<_}
+use native.Mathlib.Nat.{mul-one, mul-le-mul-left, not-suc-le-zero, le-of-suc-le-suc, eq-or-lt-of-le}
 use native.Mathlib.Omega.{arith}
-use borrow.Author.Tests.{lt-ltb, le-ltb, eqb-true, eqb-false, eq-eqb, ne-eqb}
+use borrow.Author.Tests.{lt-ltb, le-ltb, eq-eqb, ne-eqb}
 use lib.Dec.{eqb}
 use lib.ListN.{length, getD, take, drop, length-take, take-append-drop}
 use lib.Seq.{take-take, take-append-seam}
 use Rattle.lists.specs.Count.{pick}
 use Rattle.layout.specs.Versions.{firstSection, metricsEntry, traceEntry, sizeLimit}
 use Rattle.layout.specs.declared.Layout.{Layout}
-use Rattle.layout.specs.declared.Version.{Version}
 use Rattle.writer.specs.declared.Plan.{Plan}
-use Rattle.writer.specs.declared.write.Planned.{Planned}
+use Rattle.writer.specs.declared.Draft.{Draft}
 use Rattle.writer.specs.declared.write.Planned.the-variants.{Fits, TooLarge}
-use Rattle.writer.specs.LaidOut.{Description, beforeZero, laidSize}
+use Rattle.writer.specs.LaidOut.{Description, beforeZero}
 use Rattle.writer.specs.Private.{Writable, planBy, planned, Ready}
 
 -- ---- the plan
@@ -45,7 +44,13 @@ module _ (l : Layout) (w : Writable l) (m t s v : ℕ) where
       omega (arith, w .small)
 
 -- ---- the places of a plan
-module _ (v : Version) (l : Layout) (p : Plan) (d : Description) (units : ℕ) (r : Ready v l p d units) where
+module _ (w : Draft) (d : Description) (r : Ready w d) where
+  abbrev l : Layout
+  l = w .layout
+
+  abbrev p : Plan
+  p = w .plan
+
   pub trace-place : p .«trace_at» ≡ firstSection l + p .metrics * metricsEntry l
   trace-place = rw (r .plan) refl
 

@@ -1,14 +1,14 @@
 -- Fields in rising order among zeros: behind the zeros before it each field is read as it is.
 use mathlib.Core.Path.{_≡_, refl, sym, ap, _∙_}
 use mathlib.Core.List.{List, [], _∷_, _++_, append-assoc}
-use Prim.Native.Nat.{ℕ, zero, suc, _+_, _-_, _*_, _^_, _≤_, _<_}
-use native.Mathlib.Nat.{add-zero, not-suc-le-zero, le-of-suc-le-suc}
+use Prim.Native.Nat.{ℕ, zero, suc, _+_, _-_, _^_, _≤_, _<_}
+use native.Mathlib.Nat.{not-suc-le-zero, le-of-suc-le-suc}
 use native.Mathlib.Omega.{arith}
-use lib.ListN.{length, take, drop, replicate, length-append, length-replicate}
-use lib.Seq.{drop-append-add, drop-at, drop-drop}
+use lib.ListN.{length, drop, replicate, length-append, length-replicate}
+use lib.Seq.{drop-append-add, drop-at}
 use Rattle.little_endian.specs.Number.{le}
 use Rattle.little_endian.proofs.Number.{le-drop}
-use Rattle.writer.specs.LaidOut.{Field, number, bytesOf, spread}
+use Rattle.writer.specs.LaidOut.{Field, number, spread}
 use Rattle.writer.specs.Private.{Ordered, joined}
 use Rattle.writer.proofs.Bytes.{le-number}
 

@@ -1,10 +1,10 @@
 -- Bytes put one behind another into a list are put as one.
 use mathlib.Core.Path.{_≡_, refl, sym, ap, _∙_}
 use mathlib.Core.List.{List, [], _∷_, _++_, append-assoc, append-nil}
-use Prim.Native.Nat.{ℕ, zero, suc, _+_, _-_, _*_, _≤_, _<_, min}
-use native.Mathlib.Nat.{add-zero, sub-self}
+use Prim.Native.Nat.{ℕ, suc, _+_, _-_, _≤_, _<_}
+use native.Mathlib.Nat.{sub-self}
 use native.Mathlib.Omega.{arith}
-use lib.ListN.{length, getD, set, take, drop, replicate, length-append, length-take, length-drop, take-append-drop, replicate-append-replicate}
+use lib.ListN.{length, getD, set, take, replicate, length-append, replicate-append-replicate}
 use lib.Seq.{take-suc, sets, length-sets}
 use Rattle.writer.specs.LaidOut.{bytesOf, unitBytes}
 use Rattle.writer.specs.Private.{patch}

@@ -1,24 +1,39 @@
 -- The file in the pieces that the code puts, and what the writer answers with it.
-use mathlib.Core.Path.{_≡_, refl, sym, ap, _∙_}
-use mathlib.Core.List.{List, [], _∷_, _++_, append-assoc}
-use Prim.Native.Nat.{ℕ, _+_, _*_, _≤_, _<_, min}
+use mathlib.Core.Path.{_≡_, refl, ap, _∙_}
+use mathlib.Core.List.{List, _++_, append-assoc}
+use Prim.Native.Nat.{ℕ, _+_, _*_, _≤_, min}
 use native.Mathlib.Omega.{arith}
 use lib.ListN.{length, take, length-take}
-use Rattle.layout.specs.Versions.{versionNumber, metricsEntry, traceEntry, firstSection, sizeLimit}
+use Rattle.layout.specs.Versions.{versionNumber, metricsEntry, traceEntry, firstSection}
 use Rattle.layout.specs.declared.Version.{Version}
 use Rattle.layout.specs.declared.Layout.{Layout}
 use Rattle.writer.specs.declared.Plan.{Plan}
 use Rattle.writer.specs.declared.Given.{Given}
-use Rattle.writer.specs.LaidOut.{Description, entries, head, metricsBytes, traceBytes, laidBy, carried, laidSize, pairs}
-use Rattle.writer.specs.Private.{Ready, descriptionOf, headBy, planFor, Writable}
+use Rattle.writer.specs.declared.Draft.{Draft}
+use Rattle.writer.specs.LaidOut.{Description, descriptionOf, entries, head, metricsBytes, traceBytes, laidBy, carried, laidSize, pairs}
+use Rattle.writer.specs.Private.{Ready, headBy}
 use Rattle.writer.proofs.Bytes.{length-entries}
 use Rattle.writer.proofs.Entries.{metrics-size, trace-size}
 use Rattle.writer.proofs.Name.{carried-most}
 use Rattle.writer.proofs.Head.{length-head}
 use Rattle.writer.proofs.Planning.{carried-prefix}
 
-module _ (v : Version) (l : Layout) (p : Plan) (g : Given) (name metrics trace strings volumes : List ℕ) (units : ℕ)
-    (r : Ready v l p (descriptionOf name g metrics trace strings volumes) units) where
+module _ (w : Draft) (name metrics trace strings volumes : List ℕ) (r : Ready w (descriptionOf name (w .given) metrics trace strings volumes)) where
+  abbrev v : Version
+  v = w .version
+
+  abbrev l : Layout
+  l = w .layout
+
+  abbrev p : Plan
+  p = w .plan
+
+  abbrev g : Given
+  g = w .given
+
+  abbrev units : ℕ
+  units = w .units
+
   abbrev d : Description
   d = descriptionOf name g metrics trace strings volumes
 

@@ -1,6 +1,6 @@
 -- REQUEST 101, test files on demand: the bytes of the file that a description gives.
 use mathlib.Core.List.{List, [], _∷_, _++_}
-use Prim.Native.Nat.{ℕ, zero, suc, _+_, _-_, _*_, _/_, _%_, min}
+use Prim.Native.Nat.{ℕ, zero, suc, _+_, _-_, _*_, _/_, _%_, _^_, _<_, min}
 use lib.Dec.{eqb}
 use lib.ListN.{length, getD, take, replicate}
 use Rattle.lists.specs.Count.{pick}
@@ -10,6 +10,7 @@ use Rattle.layout.specs.Head.{traceOffsetAt, traceCountAt, stringsOffsetAt, str
 use Rattle.layout.specs.Versions.{versionNumber, layoutOf, runTimeAt, runCountAt, metricsEntry, nameOffsetAt, nameLengthAt, traceEntry, firstSection}
 use Rattle.layout.specs.declared.Version.{Version}
 use Rattle.layout.specs.declared.Layout.{Layout}
+use Rattle.writer.specs.declared.Given.{Given}
 
 -- ---- bytes
 
@@ -68,6 +69,20 @@ description name hash time count metrics trace strings volumes volumeCount =
       volumes = volumes;
       volumeCount = volumeCount;
     }
+
+abbrev pub descriptionOf : List ℕ → Given → List ℕ → List ℕ → List ℕ → List ℕ → Description
+descriptionOf name g metrics trace strings volumes =
+    description name (g .«stored_hash») (g .«run_time») (g .«run_count») metrics trace strings volumes (g .«volume_count»)
+
+-- its numbers fit their widths
+pub record Numbers (d : Description) : Type 0 where
+  pub units : (k : ℕ) → getD (d .name) k 0 < 65536
+  pub hash : d .storedHash < 256 ^ 4
+  pub time : d .runTime < 256 ^ 8
+  pub count : d .runCount < 256 ^ 4
+  pub metrics : (k : ℕ) → getD (d .metrics) k 0 < 256 ^ 4
+  pub trace : (k : ℕ) → getD (d .trace) k 0 < 256 ^ 4
+  pub volumes : d .volumeCount < 256 ^ 4
 
 -- the name's units up to its first zero, or all of them
 unfoldable pub beforeZero : List ℕ → List ℕ

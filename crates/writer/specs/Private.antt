@@ -1,10 +1,11 @@
 -- What only private contracts need: how the bytes come into the place, and the checks on a description in place of its file.
 use mathlib.Core.Path.{_≡_}
 use mathlib.Core.Bool.{true}
+use mathlib.Core.Option.{Option, some, none}
 use mathlib.Core.List.{List, [], _∷_, _++_}
-use Prim.Native.Nat.{ℕ, _+_, _-_, _*_, _/_, _^_, _≤_, _<_}
+use Prim.Native.Nat.{ℕ, _+_, _-_, _*_, _/_, _≤_}
 use lib.Dec.{ltb}
-use lib.ListN.{length, getD, replicate}
+use lib.ListN.{length, replicate}
 use lib.Seq.{sets}
 use Rattle.lists.specs.Count.{pick}
 use Rattle.layout.specs.Head.{versionAt, signatureAt, declaredSizeAt, programNameAt, storedHashAt, metricsOffsetAt, metricsCountAt, entryOffset}
@@ -12,7 +13,8 @@ use Rattle.layout.specs.Head.{traceOffsetAt, traceCountAt, stringsOffsetAt, str
 use Rattle.layout.specs.Versions.{versionNumber, headEnd, timeCount, runTimeAt, runCountAt, metricsEntry, nameOffsetAt, nameLengthAt, volumeEntry, traceEntry}
 use Rattle.layout.specs.Versions.{hasNext, firstSection, formRequired, sizeLimit}
 use Rattle.layout.specs.Versions.{layoutOf, versionOf}
-use Rattle.layout.specs.declared.KnownVersion.the-variants.{Known}
+use Rattle.layout.specs.declared.KnownVersion.{KnownVersion}
+use Rattle.layout.specs.declared.KnownVersion.the-variants.{Known, Unknown}
 use Rattle.layout.specs.declared.Version.{Version}
 use Rattle.layout.specs.declared.Layout.{Layout}
 use Rattle.incremental.specs.Decision.{Decision, accept, check, _>>=_, _>>_}
@@ -29,11 +31,12 @@ use Rattle.reader.specs.declared.verdict.RunTimes.{RunTimes}
 use Rattle.reader.specs.Verdict.{Acceptable}
 use Rattle.writer.specs.declared.Plan.{Plan}
 use Rattle.writer.specs.declared.Given.{Given}
+use Rattle.writer.specs.declared.Draft.{Draft}
 use Rattle.writer.specs.declared.write.Planned.{Planned}
 use Rattle.writer.specs.declared.write.Planned.the-variants.{Fits, TooLarge}
 use Rattle.reader.specs.declared.verdict.Verdict.{Verdict}
 use Rattle.writer.specs.Writes.{placedAnswer, Lays}
-use Rattle.writer.specs.LaidOut.{Field, number, unitBytes, spread, Description, description, laidBy, carried, pairs, metricsAt, traceAt, stringsAt}
+use Rattle.writer.specs.LaidOut.{Field, number, unitBytes, spread, Description, Numbers, laidBy, carried, pairs, metricsAt, traceAt, stringsAt}
 use Rattle.writer.specs.LaidOut.{volumesAt, laidSize}
 
 -- ---- bytes into the place
@@ -76,10 +79,6 @@ pub record Writable (l : Layout) : Type 0 where
 
 -- ---- a description
 
-abbrev pub descriptionOf : List ℕ → Given → List ℕ → List ℕ → List ℕ → List ℕ → Description
-descriptionOf name f metrics trace strings volumes =
-    description name (f .«stored_hash») (f .«run_time») (f .«run_count») metrics trace strings volumes (f .«volume_count»)
-
 -- where its sections stand, by the lengths of its tables and sections
 abbrev pub planBy : Layout → ℕ → ℕ → ℕ → ℕ → Plan
 planBy l metrics trace strings volumes =
@@ -102,25 +101,20 @@ abbrev pub planned : Layout → ℕ → ℕ → ℕ → ℕ → Planned
 planned l metrics trace strings volumes =
     pick (ltb sizeLimit (planBy l metrics trace strings volumes .size)) TooLarge (Fits (planBy l metrics trace strings volumes))
 
--- the numbers of a description fit their widths
-pub record Numbers (d : Description) : Type 0 where
-  pub units : (k : ℕ) → getD (d .name) k 0 < 65536
-  pub hash : d .storedHash < 256 ^ 4
-  pub time : d .runTime < 256 ^ 8
-  pub count : d .runCount < 256 ^ 4
-  pub metrics : (k : ℕ) → getD (d .metrics) k 0 < 256 ^ 4
-  pub trace : (k : ℕ) → getD (d .trace) k 0 < 256 ^ 4
-  pub volumes : d .volumeCount < 256 ^ 4
-
 -- a plan within the limit, for a description by a version's layout, and the length of its name
-pub record Ready (v : Version) (l : Layout) (p : Plan) (d : Description) (units : ℕ) : Type 0 where
-  pub laid : l ≡ layoutOf v
-  pub known : versionOf (versionNumber v) ≡ Known v
-  pub writable : Writable l
+pub record Ready (w : Draft) (d : Description) : Type 0 where
+  pub laid : w .layout ≡ layoutOf (w .version)
+  pub known : versionOf (versionNumber (w .version)) ≡ Known (w .version)
+  pub writable : Writable (w .layout)
   pub numbers : Numbers d
-  pub plan : p ≡ planFor l d
-  pub small : laidSize l d ≤ sizeLimit
-  pub named : units ≡ length (carried d)
+  pub plan : w .plan ≡ planFor (w .layout) d
+  pub small : laidSize (w .layout) d ≤ sizeLimit
+  pub named : w .units ≡ length (carried d)
+
+-- the version of a number as the promise has it
+abbrev pub knownIs : KnownVersion → Option Version
+knownIs (Known v) = some v
+knownIs Unknown = none
 
 -- the head by a plan: the fields behind the program name, and all of it
 abbrev pub fieldsBehind : Layout → Plan → Given → List Field

@@ -2,11 +2,11 @@
 // into a borrowed place; each writes from a place on, and what lies behind stays.
 ghost use mathlib.Core.Path.{_≡_};
 ghost use mathlib.Core.List.{_++_};
-ghost use Prim.Native.Nat.{_+_, _-_, _*_, _≤_, _^_};
+ghost use Prim.Native.Nat.{_+_, _-_, _*_, _≤_};
 ghost use lib.ListN.{length, take, replicate};
-ghost use Rattle.layout.specs.Versions.{sizeLimit, versionNumber, firstSection, metricsEntry, traceEntry};
-ghost use Rattle.writer.specs.LaidOut.{bytesOf, unitBytes, entries, pairs, carried, laidSize, metricsBytes, traceBytes, head, laidBy};
-ghost use Rattle.writer.specs.Private.{patch, Ordered, joined, numbersAt, Writable, fieldsBehind, headBy, descriptionOf, Ready};
+ghost use Rattle.layout.specs.Versions.{firstSection, metricsEntry, traceEntry};
+ghost use Rattle.writer.specs.LaidOut.{bytesOf, unitBytes, entries, descriptionOf, metricsBytes, traceBytes, laidBy};
+ghost use Rattle.writer.specs.Private.{patch, Ordered, joined, numbersAt, Writable, fieldsBehind, headBy, Ready};
 use layout::Layout;
 use layout::Version;
 
@@ -26,12 +26,22 @@ struct Plan {
     size: u32,
 }
 
-// The numbers of a file that stand in its head and nowhere else.
-struct Given {
-    stored_hash: u32,
-    run_time: u64,
-    run_count: u32,
-    volume_count: u32,
+// What a file's head is given: the version's number, and what stands nowhere else.
+pub struct Given {
+    pub version: u32,
+    pub stored_hash: u32,
+    pub run_time: u64,
+    pub run_count: u32,
+    pub volume_count: u32,
+}
+
+// What a file is laid out by: its version and layout, its plan, what its head is given and how many units of its name it carries.
+struct Draft {
+    version: Version,
+    layout: Layout,
+    plan: Plan,
+    given: Given,
+    units: usize,
 }
 
 fn put_u16(output: &mut [u8], at: usize, n: u16)
@@ -255,23 +265,23 @@ fn put_head(
 // The whole file.
 fn put_file(
     output: &mut [u8],
-    v: Version,
-    l: Layout,
-    p: Plan,
-    g: Given,
+    w: Draft,
     name: &[u16],
-    units: usize,
     metrics: &[u32],
     trace: &[u32],
     strings: &[u8],
     volumes: &[u8],
 )
-    requires { ⌜ Ready v l p (descriptionOf (now name) g (now metrics) (now trace) (now strings) (now volumes)) units × (p .size ≤ length (now output)) ⌝ }
+    requires { ⌜ Ready w (descriptionOf (now name) (w .given) (now metrics) (now trace) (now strings) (now volumes)) × (w .plan .size ≤ length (now output)) ⌝ }
     ensures { λ _.
         ⌜ now (output .exit) ≡ patch (now (output .entry)) 0
-        (laidBy v l (descriptionOf (now (name .entry)) g (now (metrics .entry)) (now (trace .entry)) (now (strings .entry)) (now (volumes .entry)))) ⌝ }
+        (laidBy (w .version) (w .layout)
+        (descriptionOf (now (name .entry)) (w .given) (now (metrics .entry)) (now (trace .entry)) (now (strings .entry)) (now (volumes .entry)))) ⌝ }
 {
-    put_head(output, v.number(), l, p, g, name, units);
+    let v = w.version;
+    let l = w.layout;
+    let p = w.plan;
+    put_head(output, v.number(), l, p, w.given, name, w.units);
     put_metrics(output, l.first_section as usize, l, metrics, p.metrics);
     put_trace(output, p.trace_at as usize, l, trace, p.trace);
     put_bytes(output, p.strings_at as usize, strings);

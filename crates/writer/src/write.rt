@@ -1,7 +1,7 @@
 // The checks on what a file is to be made from, in the reader's order, and the writer.
 ghost use mathlib.Core.Path.{_≡_};
 ghost use mathlib.Core.List.{[]};
-ghost use Prim.Native.Nat.{_+_, _*_, _≤_, _<_};
+ghost use Prim.Native.Nat.{_*_, _≤_, _<_};
 ghost use lib.ListN.{length, take};
 ghost use Rattle.layout.specs.Versions.{layoutOf, versionOf, versionNumber};
 ghost use Rattle.layout.specs.declared.KnownVersion.the-variants.{Known};
@@ -9,14 +9,16 @@ ghost use Rattle.incremental.specs.Decision.{refuse, refusal, checkedOf};
 ghost use Rattle.incremental.specs.Plan.{decided};
 ghost use Rattle.trace.specs.Links.{firsts};
 ghost use Rattle.reader.specs.Verdict.{Reads};
-ghost use Rattle.writer.specs.LaidOut.{description, beforeZero};
-ghost use Rattle.writer.specs.Writes.{Writes};
-ghost use Rattle.writer.specs.Private.{LaysBy, Writable, planned, planBy, Ready, descriptionOf, recordBy};
+ghost use Rattle.writer.specs.LaidOut.{descriptionOf, beforeZero};
+ghost use Rattle.writer.specs.Writes.{writable, Writes};
+ghost use Rattle.writer.specs.Private.{LaysBy, Writable, planned, planBy, Ready, knownIs, recordBy};
 ghost use Rattle.writer.specs.Private.{nameChecks, tableChecks, sectionChecks, SectionsAnswered};
+use crate::Draft;
 use crate::Given;
 use crate::Plan;
 use incremental::Checked;
 use incremental::Fault;
+use layout::KnownVersion;
 use layout::Layout;
 use layout::Version;
 use reader::Acceptance;
@@ -193,12 +195,8 @@ fn refused(number: u32, index: usize, offset: usize, buffer: &mut [u32]) -> Verd
 
 // The writer, where checks 1 to 4 have passed.
 fn write_planned(
-    v: Version,
-    l: Layout,
-    p: Plan,
-    g: Given,
+    w: Draft,
     name: &[u16],
-    units: usize,
     metrics: &[u32],
     trace: &[u32],
     strings: &[u8],
@@ -206,31 +204,30 @@ fn write_planned(
     predecessors: &mut [u32],
     output: &mut [u8],
 ) -> Verdict
-    requires { ⌜ Ready v l p (descriptionOf (now name) g (now metrics) (now trace) (now strings) (now volumes)) units × (units < 30) ⌝ }
+    requires { ⌜ Ready w (descriptionOf (now name) (w .given) (now metrics) (now trace) (now strings) (now volumes)) × (w .units < 30) ⌝ }
     ensures { λ r.
-        ⌜ LaysBy v l (descriptionOf (now (name .entry)) g (now (metrics .entry)) (now (trace .entry)) (now (strings .entry)) (now (volumes .entry)))
+        ⌜ LaysBy (w .version) (w .layout)
+        (descriptionOf (now (name .entry)) (w .given) (now (metrics .entry)) (now (trace .entry)) (now (strings .entry)) (now (volumes .entry)))
         (now (predecessors .entry)) (now (output .entry)) r (now (predecessors .exit)) (now (output .exit)) ⌝ }
 {
-    match check_sections(l, p, g, metrics, trace, strings, volumes, predecessors) {
+    let p = w.plan;
+    match check_sections(
+        w.layout,
+        p,
+        w.given,
+        metrics,
+        trace,
+        strings,
+        volumes,
+        predecessors,
+    ) {
         Links::Chains(n) => {
             if output.len() < p.size as usize {
-                lists::fill(predecessors);
-                return Verdict::Refused(incremental::refuse(20, 0, 0));
+                return refused(20, 0, 0, predecessors);
             }
-            crate::put_file(
-                output,
-                v,
-                l,
-                p,
-                g,
-                name,
-                units,
-                metrics,
-                trace,
-                strings,
-                volumes,
-            );
-            Verdict::Accepted(record_of(v.number(), p, g, units, n))
+            crate::put_file(output, w, name, metrics, trace, strings, volumes);
+            let v = w.version;
+            Verdict::Accepted(record_of(v.number(), p, w.given, w.units, n))
         }
         Links::Refused(r) => refused(r.number, r.index, r.offset, predecessors),
     }
@@ -245,31 +242,68 @@ fn write_version(
     trace: &[u32],
     strings: &[u8],
     volumes: &[u8],
-    predecessors: &mut [u32],
+    buffer: &mut [u32],
     output: &mut [u8],
 ) -> Verdict
     requires { ⌜ Writable (layoutOf v) × (versionOf (versionNumber v) ≡ Known v) ⌝ }
     ensures { λ r.
         ⌜ LaysBy v (layoutOf v)
         (descriptionOf (now (name .entry)) g (now (metrics .entry)) (now (trace .entry)) (now (strings .entry)) (now (volumes .entry)))
-        (now (predecessors .entry)) (now (output .entry)) r (now (predecessors .exit)) (now (output .exit)) ⌝ }
+        (now (buffer .entry)) (now (output .entry)) r (now (buffer .exit)) (now (output .exit)) ⌝ }
 {
     let l = Layout::of(v);
     let Planned::Fits(p) = plan_of(l, metrics.len(), trace.len(), strings.len(), volumes.len())
     else {
-        return refused(3, 0, layout::DECLARED_SIZE_AT, predecessors);
+        return refused(3, 0, layout::DECLARED_SIZE_AT, buffer);
     };
     let units = name_units(name);
     if units == 30 {
-        return refused(4, 0, layout::PROGRAM_NAME_AT, predecessors);
+        return refused(4, 0, layout::PROGRAM_NAME_AT, buffer);
     }
-    write_planned(
+    let w = Draft {
+        version: v,
+        layout: l,
+        plan: p,
+        given: g,
+        units: units,
+    };
+    write_planned(w, name, metrics, trace, strings, volumes, buffer, output)
+}
+
+// The version that is written under a number.
+fn written_version(number: u32) -> KnownVersion
+    ensures { λ r. ⌜ knownIs r ≡ writable number ⌝ }
+{
+    match number {
+        17 => KnownVersion::Known(Version::V17),
+        23 => KnownVersion::Known(Version::V23),
+        _ => KnownVersion::Unknown,
+    }
+}
+
+// Lays a file out into a borrowed place. It answers as the whole-file reader does on that file, and 20 where the place is too short.
+pub fn write_file(
+    g: Given,
+    name: &[u16],
+    metrics: &[u32],
+    trace: &[u32],
+    strings: &[u8],
+    volumes: &[u8],
+    predecessors: &mut [u32],
+    output: &mut [u8],
+) -> Verdict
+    ensures { λ r.
+        ⌜ Writes (g .version)
+        (descriptionOf (now (name .entry)) g (now (metrics .entry)) (now (trace .entry)) (now (strings .entry)) (now (volumes .entry)))
+        (now (predecessors .entry)) (now (output .entry)) r (now (predecessors .exit)) (now (output .exit)) ⌝ }
+{
+    let KnownVersion::Known(v) = written_version(g.version) else {
+        return refused(1, 0, layout::VERSION_AT, predecessors);
+    };
+    write_version(
         v,
-        l,
-        p,
         g,
         name,
-        units,
         metrics,
         trace,
         strings,
@@ -277,57 +311,4 @@ fn write_version(
         predecessors,
         output,
     )
-}
-
-// Lays a file out into a borrowed place. It answers as the whole-file reader does on that file, and 20 where the place is too short.
-pub fn write_file(
-    version: u32,
-    name: &[u16],
-    stored_hash: u32,
-    run_time: u64,
-    run_count: u32,
-    metrics: &[u32],
-    trace: &[u32],
-    strings: &[u8],
-    volumes: &[u8],
-    volume_count: u32,
-    predecessors: &mut [u32],
-    output: &mut [u8],
-) -> Verdict
-    ensures { λ r.
-        ⌜ Writes version
-        (description (now (name .entry)) «stored_hash» «run_time» «run_count» (now (metrics .entry)) (now (trace .entry)) (now (strings .entry))
-        (now (volumes .entry)) «volume_count») (now (predecessors .entry)) (now (output .entry)) r (now (predecessors .exit)) (now (output .exit)) ⌝ }
-{
-    let g = Given {
-        stored_hash: stored_hash,
-        run_time: run_time,
-        run_count: run_count,
-        volume_count: volume_count,
-    };
-    match version {
-        17 => write_version(
-            Version::V17,
-            g,
-            name,
-            metrics,
-            trace,
-            strings,
-            volumes,
-            predecessors,
-            output,
-        ),
-        23 => write_version(
-            Version::V23,
-            g,
-            name,
-            metrics,
-            trace,
-            strings,
-            volumes,
-            predecessors,
-            output,
-        ),
-        _ => refused(1, 0, layout::VERSION_AT, predecessors),
-    }
 }

@@ -1,6 +1,6 @@
 -- Head, metrics, trace, strings and volumes one behind another, as the plan has their places.
-use mathlib.Core.Path.{_≡_, refl, _∙_}
-use Prim.Native.Nat.{_+_, _*_, _≤_}
+use mathlib.Core.Path.{_≡_, _∙_}
+use Prim.Native.Nat.{_+_, _*_}
 use native.Mathlib.Omega.{arith}
 use lib.ListN.{length}
 use Rattle.layout.specs.Versions.{firstSection, metricsEntry, traceEntry}
@@ -13,22 +13,22 @@ use Rattle.writer.proofs.put_file.Statement.{statement}
 use Rattle.writer.proofs.put_file.Tie as tie
 
 abbrev start : tie.After-put-head → tie.Start
-start c = c .before .before .before .before .before .before .before .before .before
+start c = c .before .before .before .before .before .before .before .before .before .before .before
 
 -- where each section ends the next one starts
-meets : (s : tie.Start) → let p : Plan = s .args .p in
-    (p .«trace_at» ≡ firstSection (s .args .l) + p .metrics * metricsEntry (s .args .l))
-    × (p .«strings_at» ≡ p .«trace_at» + p .trace * traceEntry (s .args .l))
+meets : (s : tie.Start) → let p : Plan = s .args .w .plan in
+    (p .«trace_at» ≡ firstSection (s .args .w .layout) + p .metrics * metricsEntry (s .args .w .layout))
+    × (p .«strings_at» ≡ p .«trace_at» + p .trace * traceEntry (s .args .w .layout))
     × (p .«volumes_at» ≡ p .«strings_at» + length (s .args .strings .now))
     × (p .size ≡ p .«volumes_at» + length (s .args .volumes .now))
 meets s =
     let r = s .pre .0 in
-    (trace-place _ _ _ _ _ r, strings-place _ _ _ _ _ r, volumes-place _ _ _ _ _ r, size-place _ _ _ _ _ r)
+    (trace-place _ _ r, strings-place _ _ r, volumes-place _ _ r, size-place _ _ r)
 
 put-head-requires : tie.Need-put-head-requires
 put-head-requires c κs =
-    let s = c .before .before .before .before .before .before .before .before in
-    let n = name-fits _ _ _ (s .args .g) _ _ _ _ _ _ (s .pre .0) in
+    let s = c .before .before .before .before .before .before .before .before .before .before in
+    let n = name-fits (s .args .w) _ _ _ _ _ (s .pre .0) in
     let m = meets s in
     (s .pre .0 .writable, omega (arith, m .0, m .1, m .2, m .3, s .pre .1), n .0, n .1)
 
@@ -80,15 +80,15 @@ returns c =
     let head = metrics .before .before .before .before .before in
     let s = start head in
     let r = s .pre .0 in
-    let g = s .args .g in
+    let w = s .args .w in
     let m = meets s in
     let n = head .before .number .ensures in
     five-laid _ _ _ _ _ _ _ _ _ _ _ _ _ _ _ _ _ (head .put-head .ensures) (metrics .put-metrics .ensures) (trace .put-trace .ensures)
     (bytes .put-bytes .ensures)
     (last .put-bytes2 .ensures)
-    (head-long _ _ _ g _ _ _ _ _ _ r _ n) (omega (arith, metrics-long _ _ _ g _ _ _ _ _ _ r, m .0)) (omega (arith, trace-long _ _ _ g _ _ _ _ _ _ r, m .1))
+    (head-long w _ _ _ _ _ r _ n) (omega (arith, metrics-long w _ _ _ _ _ r, m .0)) (omega (arith, trace-long w _ _ _ _ _ r, m .1))
     (omega (arith, m .2))
-    (file-pieces _ _ _ g _ _ _ _ _ _ r _ n)
+    (file-pieces w _ _ _ _ _ r _ n)
 
 pub put-file-spec : {M : Type 1} → statement M
 put-file-spec =

@@ -1,10 +1,9 @@
 -- Three numbers, the name, the fields behind it, and zeros.
 use mathlib.Core.Path.{_≡_, refl, _∙_}
 use mathlib.Core.List.{[]}
-use Prim.Native.Nat.{_+_, _*_, _≤_}
+use Prim.Native.Nat.{_≤_}
 use native.Mathlib.Omega.{arith}
 use lib.ListN.{length, take, length-take}
-use Rattle.writer.specs.LaidOut.{unitBytes}
 use Rattle.writer.proofs.Bytes.{length-units}
 use Rattle.writer.proofs.Stores.{four-laid}
 use Rattle.writer.proofs.Behind.{first-ordered, first-long, behind-long, head-pieces}

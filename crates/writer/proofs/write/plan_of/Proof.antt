@@ -1,8 +1,7 @@
 -- Each length is within the limit before it is multiplied, so no sum wraps.
-use mathlib.Core.Path.{_≡_}
-use Prim.Native.Nat.{ℕ, _+_, _*_, _/_, _≤_}
+use Prim.Native.Nat.{_+_, _*_, _/_, _≤_}
 use native.Mathlib.Omega.{arith}
-use Rattle.layout.specs.Versions.{firstSection, metricsEntry, traceEntry, sizeLimit}
+use Rattle.layout.specs.Versions.{firstSection, metricsEntry, traceEntry}
 use Rattle.sections.proofs.Cases.{length-fits}
 use Rattle.writer.specs.Private.{planBy}
 use Rattle.writer.proofs.Entries.{sum-fits}

@@ -23,14 +23,14 @@ place-kept file output f = refl
 
 returns : tie.Need-returns
 returns c =
-    let fill = c .before .before .before in
-    let short = fill .before .before in
+    let refused = c .before .before in
+    let short = refused .before .before in
     let arm = short .before .before .before in
     let sections = arm .before .before .before .before in
-    let s = sections .before .before .before .before .before .before .before .before .before in
-    planned-short (s .args .v) (s .args .l) (s .args .p) (s .args .g) _ _ _ _ _ _ (s .pre .0) (s .pre .1) _ _ _ _ (sections .check-sections .ensures) _
+    let s = sections .before .before .before .before .before .before .before .before .before .before in
+    planned-short (s .args .w) _ _ _ _ _ (s .pre .0) (s .pre .1) _ _ _ _ (sections .check-sections .ensures) _
     (arm .n .given .1) _ _
-    (short .if1 .taken) (sections .check-sections .kept .1 .1 .1 .1 .1 .1 .1 .0) (c .refuse .ensures) (fill .fill .ensures) place-kept
+    (short .if1 .taken) (sections .check-sections .kept .1 .1 .1 .1 .1 .1 .1 .0) (refused .refused .ensures) place-kept
 
 returns-2 : tie.Need-returns-2
 returns-2 c =
@@ -38,8 +38,8 @@ returns-2 c =
     let room = put .before .before in
     let arm = room .before .before .before in
     let sections = arm .before .before .before .before in
-    let s = sections .before .before .before .before .before .before .before .before .before in
-    planned-laid (s .args .v) (s .args .l) (s .args .p) (s .args .g) _ _ _ _ _ _ (s .pre .0) (s .pre .1) _ _ _ _ (sections .check-sections .ensures) _
+    let s = sections .before .before .before .before .before .before .before .before .before .before in
+    planned-laid (s .args .w) _ _ _ _ _ (s .pre .0) (s .pre .1) _ _ _ _ (sections .check-sections .ensures) _
     (arm .n .given .1) _ _ _
     (room .if1 .left) (put .put-file .ensures) (c .before .number .ensures) (c .record-of .ensures)
 
@@ -48,10 +48,10 @@ returns-3 c =
     let refused = c .before .before in
     let arm = refused .before .before .before in
     let sections = arm .before .before .before .before in
-    let s = sections .before .before .before .before .before .before .before .before .before in
-    planned-refused (s .args .v) (s .args .l) (s .args .p) (s .args .g) _ _ _ _ _ _ (s .pre .0) (s .pre .1) _ _ _ _ (sections .check-sections .ensures) _ _ _
+    let s = sections .before .before .before .before .before .before .before .before .before .before in
+    planned-refused (s .args .w) _ _ _ _ _ (s .pre .0) (s .pre .1) _ _ _ _ (sections .check-sections .ensures) _ _ _
     (arm .r .given .1)
-    (sections .check-sections .kept .1 .1 .1 .1 .1 .1 .1 .0) (refused .refused .ensures) (checks-first _ _ _ _) place-kept
+    (sections .check-sections .kept .1 .1 .1 .1 .1 .1 .1 .0) (refused .refused2 .ensures) (checks-first _ _ _ _) place-kept
 
 pub write-planned-spec : {M : Type 1} → statement M
 write-planned-spec =
@@ -60,7 +60,6 @@ write-planned-spec =
     (λ c κs. search needs)
     (λ c. search needs)
     (λ c. search needs)
-    (λ c κs. search needs)
     (λ c κs. search needs)
     (λ c. search needs)
     returns

@@ -1,10 +1,8 @@
 -- 3, then 4, and the rest by a plan.
-use mathlib.Core.Path.{_≡_, sym, ap, _∙_}
+use mathlib.Core.Path.{sym, _∙_}
 use native.Mathlib.Omega.{arith}
-use Rattle.layout.specs.Versions.{layoutOf}
-use Rattle.layout.specs.declared.Layout.{Layout}
-use Rattle.writer.specs.Private.{Numbers, descriptionOf, Writable}
 use Rattle.writer.proofs.Answering.{below-30, version-laid, plan-is, plan-none, version-large, version-endless}
+use Rattle.writer.specs.LaidOut.{descriptionOf, Numbers}
 use borrow.Author.Needs.{needs}
 use Rattle.writer.proofs.write.write_version.Statement.{statement}
 use Rattle.writer.proofs.write.write_version.Tie as tie
