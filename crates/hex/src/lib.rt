@@ -32,6 +32,7 @@ const VALUES: [u8; 23] = [
     15,
 ];
 
+// Whether a byte is one of 0-9 A-F.
 fn is_digit(b: u8) -> bool
     ensures { λ r. ⌜ r ≡ isDigit b ⌝ }
 {
@@ -109,6 +110,7 @@ pub fn number_in(line: &[u8], at: usize, width: usize) -> u64
     x
 }
 
+// The digit of a number below 16.
 fn digit_of(d: u8) -> u8
     requires { ⌜ d < 16 ⌝ }
     ensures { λ r. ⌜ r ≡ digitOf d ⌝ }

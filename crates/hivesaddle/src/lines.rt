@@ -12,6 +12,7 @@ use catalogue::WrittenLine;
 // The refusal of bytes that are no line.
 const NO_LINE: u32 = 18;
 
+// A line's fields in the order of the output.
 fn fields_reply(number: u32, f: Fields) -> Reply
     ensures { λ r. ⌜ saidBy r ≡ saying number (lineValues f) ⌝ }
 {

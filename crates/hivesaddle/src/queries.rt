@@ -59,6 +59,7 @@ pub extern "C" fn hs_entry_name(file: &[u8], i: u64, out: &mut [u64]) -> u32
     put_reply(place_reply(query::entry_place(file, i as usize)), out)
 }
 
+// A volume's facts in the order of the output.
 fn facts_reply(number: u32, f: VolumeFacts) -> Reply
     ensures { λ r. ⌜ saidBy r ≡ saying number (volumeList f) ⌝ }
 {

@@ -12,6 +12,7 @@ pub(crate) struct Reply {
     pub values: [u64; 22],
 }
 
+// A reply with one value.
 pub(crate) fn one(number: u32, a: u64) -> Reply
     ensures { λ r. ⌜ saidBy r ≡ saying number (a ∷ []) ⌝ }
 {
@@ -24,6 +25,7 @@ pub(crate) fn one(number: u32, a: u64) -> Reply
     }
 }
 
+// A reply with two.
 pub(crate) fn two(number: u32, a: u64, b: u64) -> Reply
     ensures { λ r. ⌜ saidBy r ≡ saying number (a ∷ b ∷ []) ⌝ }
 {

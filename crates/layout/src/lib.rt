@@ -171,6 +171,7 @@ impl Layout {
 }
 
 impl Version {
+    // The number that stands in a file of this version.
     pub fn number(self) -> u32
         ensures { λ r. ⌜ r ≡ versionNumber self ⌝ }
     {
@@ -182,6 +183,7 @@ impl Version {
         }
     }
 
+    // The version of such a number, where it is one of the four.
     pub fn of(number: u32) -> KnownVersion
         ensures { λ r. ⌜ Answers knownSaid (versionOf number) r ⌝ }
     {

@@ -6,6 +6,7 @@ ghost use Rattle.lists.specs.First.{first};
 ghost use Rattle.little_endian.specs.Number.{le, zeroUnit};
 use lists::Found;
 
+// A read whose bytes are all there, as in most reads: none is tested for itself.
 fn whole_u16(s: &[u8], at: usize) -> u16
     requires { ⌜ at + 2 ≤ length (now s) ⌝ }
     ensures { λ r. ⌜ r ≡ le 2 (now (s .entry)) at ⌝ }
@@ -13,6 +14,7 @@ fn whole_u16(s: &[u8], at: usize) -> u16
     s[at] as u16 + 256 * (s[at + 1] as u16)
 }
 
+// The same of four bytes.
 fn whole_u32(s: &[u8], at: usize) -> u32
     requires { ⌜ at + 4 ≤ length (now s) ⌝ }
     ensures { λ r. ⌜ r ≡ le 4 (now (s .entry)) at ⌝ }
@@ -20,6 +22,7 @@ fn whole_u32(s: &[u8], at: usize) -> u32
     whole_u16(s, at) as u32 + 65536 * (whole_u16(s, at + 2) as u32)
 }
 
+// The same of eight.
 fn whole_u64(s: &[u8], at: usize) -> u64
     requires { ⌜ at + 8 ≤ length (now s) ⌝ }
     ensures { λ r. ⌜ r ≡ le 8 (now (s .entry)) at ⌝ }
@@ -27,6 +30,7 @@ fn whole_u64(s: &[u8], at: usize) -> u64
     whole_u32(s, at) as u64 + 4294967296 * (whole_u32(s, at + 4) as u64)
 }
 
+// The 16-bit number at an offset; so for the widths below.
 pub fn u16_at(s: &[u8], at: usize) -> u16
     ensures { λ r. ⌜ r ≡ le 2 (now (s .entry)) at ⌝ }
 {
@@ -51,6 +55,7 @@ pub fn u32_at(s: &[u8], at: usize) -> u32
     whole_u32(s, at)
 }
 
+// Six bytes: a 32-bit number and the 16 bits above it.
 pub fn u48_at(s: &[u8], at: usize) -> u64
     ensures { λ r. ⌜ r ≡ le 6 (now (s .entry)) at ⌝ }
 {

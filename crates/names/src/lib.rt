@@ -97,6 +97,7 @@ pub fn name_at(metrics: &[u8], l: Layout, i: u32) -> u32
     entry_field(metrics, l.metrics_entry, l.name_offset_at, i)
 }
 
+// The length of that name in units.
 pub fn name_units(metrics: &[u8], l: Layout, i: u32) -> u32
     ensures { λ r. ⌜ r ≡ nameUnits l (now (metrics .entry)) i ⌝ }
 {

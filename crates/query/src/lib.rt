@@ -237,6 +237,7 @@ fn reference_in(file: &[u8], o: Opening, i: usize, k: usize) -> ReferenceAnswer
     ReferenceAnswer::Shown(volumes::reference_at(section, l, i as u32, k as u32))
 }
 
+// Reference k of volume i of a file: not shown where checks 1 to 6 do not pass.
 pub fn reference(file: &[u8], i: usize, k: usize) -> ReferenceAnswer
     ensures { λ r. ⌜ Answers referenceSaid (referenceAsked (now (file .entry)) i k) r ⌝ }
 {

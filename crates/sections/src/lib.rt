@@ -101,6 +101,7 @@ pub fn find_form(b: &[u8], l: Layout) -> KnownForm
     KnownForm::Known(form)
 }
 
+// A section by its offset and length. An empty one ends at H, so that no byte is waited for on its account.
 fn section_of(h: usize, at: u32, len: usize, count: u32) -> Section
     requires { ⌜ len ≤ 281474976710656 ⌝ }
     ensures { λ r. ⌜ r ≡ sectionOf h at len count ⌝ }
@@ -163,6 +164,7 @@ pub fn head_of(l: Layout, b: &[u8]) -> Head
     }
 }
 
+// Whether a section of nonzero length starts before H or ends after S.
 fn is_outside(h: usize, size: u32, s: Section) -> bool
     ensures { λ r. ⌜ r ≡ outside h size s ⌝ }
 {
@@ -212,6 +214,7 @@ pub fn outside_fault(l: Layout, h: Head) -> Fault
     Fault::Nowhere
 }
 
+// Whether two sections have a byte in common.
 fn share(s: Section, t: Section) -> bool
     ensures { λ r. ⌜ r ≡ shares s t ⌝ }
 {

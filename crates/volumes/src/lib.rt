@@ -26,6 +26,7 @@ pub enum Step {
 }
 
 impl Cursor {
+    // Over the directory string here: its count of units, the units, and a zero. Nothing past the section is read.
     pub fn step(self, section: &[u8]) -> Step
         ensures { λ r. ⌜ Answers stepSaid (stepAt (now (section .entry)) (self .at)) r ⌝ }
     {
@@ -227,6 +228,7 @@ pub fn volume_at(section: &[u8], l: Layout, i: u32) -> Volume
     }
 }
 
+// Reference k of volume i: eight bytes each, behind the eight that start the list.
 pub fn reference_at(section: &[u8], l: Layout, i: u32, k: u32) -> Reference
     ensures { λ r. ⌜ r ≡ referenceOf (now (section .entry)) (entryAt l i) k ⌝ }
 {

@@ -146,6 +146,7 @@ fn put_metric(output: &mut [u8], at: usize, l: Layout, table: &[u32], i: u32)
     put_zeros(output, units + 4, at + l.metrics_entry as usize);
 }
 
+// The metrics array: entries one behind another.
 fn put_metrics(output: &mut [u8], at: usize, l: Layout, table: &[u32], count: u32)
     requires { ⌜ Writable l × (at + count * metricsEntry l ≤ length (now output)) ⌝ }
     ensures { λ _. ⌜ now (output .exit) ≡ patch (now (output .entry)) at (entries (metricsBytes l (now (table .entry))) count) ⌝ }
@@ -177,6 +178,7 @@ fn put_link(output: &mut [u8], at: usize, l: Layout, table: &[u32], i: u32)
     put_u32(output, at + 8, 0);
 }
 
+// The trace array, likewise.
 fn put_trace(output: &mut [u8], at: usize, l: Layout, table: &[u32], count: u32)
     requires { ⌜ Writable l × (at + count * traceEntry l ≤ length (now output)) ⌝ }
     ensures { λ _. ⌜ now (output .exit) ≡ patch (now (output .entry)) at (entries (traceBytes l (now (table .entry))) count) ⌝ }
