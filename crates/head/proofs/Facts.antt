@@ -25,7 +25,7 @@ use Rattle.layout.specs.declared.KnownVersion.the-variants.{Known, Unknown}
 use Rattle.incremental.specs.declared.Fault.the-variants.{Nowhere}
 use Rattle.incremental.specs.Decision.{accept}
 use Rattle.incremental.specs.Plan.{Plan, decided, andThen, done, run}
-use Rattle.incremental.proofs.Plan.{run-then, reach-here, check-passed, given-some, Holds, holds-accept, holds-reach, holds-check}
+use Rattle.incremental.proofs.Plan.{answer-then, reach-here, check-passed, given-some, Holds, holds-accept, holds-reach, holds-check}
 use Rattle.incremental.proofs.Plan.{holds-given, holds-then, Decided, decided-decide, decided-reach, decided-check, decided-given, decided-then}
 use Rattle.sections.specs.declared.Head.{Head}
 use Rattle.sections.specs.Fields.{signatureFault, declaredSize, sizeFault, nameEnd, roomFor, formIn, headOf, outsideFault, sharedFault}
@@ -35,8 +35,8 @@ use Rattle.head.specs.declared.checks.StartAnswer.the-variants as startA
 use Rattle.head.specs.declared.checks.Opening.{Opening}
 use Rattle.head.specs.declared.checks.OpenAnswer.{OpenAnswer}
 use Rattle.head.specs.declared.checks.OpenAnswer.the-variants as openAnswer
-use Rattle.head.specs.Checks.{version, units, startPlan, openPlan, startOf, openOf}
-use Rattle.head.specs.Private.{startIn, StartFacts, OpenFacts}
+use Rattle.head.specs.Checks.{version, units, startPlan, formPlan, sectionPlan, openPlan, startOf, openOf}
+use Rattle.head.specs.Opened.{startIn, StartFacts, OpenFacts}
 use Rattle.head.proofs.Rules.{size-law, none-outside, section-end}
 
 -- ---- what is read of a prefix is read of the bytes
@@ -134,46 +134,44 @@ start-met p r s e q = start-facts p .holds s (sym e ∙ ap startOf q)
 
 -- ---- checks 1 to 6
 
--- what is known once 21 has passed too
-record FormFacts (p : List ℕ) (s : Start) (l : Layout) : Type 0 where
-  started : StartFacts p s
-  told : formRequired (s .layout) ≤ length p
-  formed : formIn (s .layout) p ≡ some l
-  sound : SoundLayout l
-  least : headEnd l ≤ declaredSize p
+-- what checks 1 to 4 gave, where 21 gave `t`
+abbrev before21 : Start → Start
+before21 t = record { version = t .version; layout = layoutOf (t .version); «name_units» = t .«name_units» }
 
-form-met : (p : List ℕ) (s : Start) (l : Layout) → StartFacts p s → formRequired (s .layout) ≤ length p
-    → formIn (s .layout) (take (formRequired (s .layout)) p) ≡ some l → FormFacts p s l
-form-met p s l f t e =
+-- what is known once 21 has passed too
+record FormFacts (p : List ℕ) (t : Start) : Type 0 where
+  start : StartFacts p (before21 t)
+  told : formRequired (layoutOf (t .version)) ≤ length p
+  formed : formIn (layoutOf (t .version)) p ≡ some (t .layout)
+  sound : SoundLayout (t .layout)
+  least : headEnd (t .layout) ≤ declaredSize p
+
+form-holds : (p : List ℕ) (s : Start) → StartFacts p s → Holds (FormFacts p) (run (formPlan s) p)
+unfolding formPlan
+form-holds p s f =
+    holds-reach (formRequired (s .layout)) _ p _ λ t.
+    holds-given _ 21 84 (formIn (s .layout) (take (formRequired (s .layout)) p)) _ p λ l e.
     let q : formIn (s .layout) p ≡ some l = sym (form-take (s .layout) p (rw (f .laid) (form-required (s .version)))) ∙ e in
     let k = form-facts (s .layout) l p q (rw (f .laid) (layout-sound (s .version))) (f .least) in
-    record { started = f; told = t; formed = q; sound = k .0; least = k .1 }
+    holds-accept (FormFacts p) _ p
+    (record { start = rw (← f .laid) f; told = rw (← f .laid) t; formed = rw (← f .laid) q; sound = k .0; least = k .1 })
 
-open-inside : (p : List ℕ) (s : Start) (l : Layout) → FormFacts p s l → headEnd l ≤ length p
-    → outsideFault l (headOf l (take (headEnd l) p)) ≡ Nowhere
-    → sharedFault (headOf l (take (headEnd l) p)) ≡ Nowhere
-    → OpenFacts p (record { version = s .version; layout = l; «name_units» = s .«name_units»; head = headOf l (take (headEnd l) p) })
+open-inside : (p : List ℕ) (s : Start) → FormFacts p s → headEnd (s .layout) ≤ length p
+    → outsideFault (s .layout) (headOf (s .layout) (take (headEnd (s .layout)) p)) ≡ Nowhere
+    → sharedFault (headOf (s .layout) (take (headEnd (s .layout)) p)) ≡ Nowhere
+    → OpenFacts p
+    (record { version = s .version; layout = s .layout; «name_units» = s .«name_units»; head = headOf (s .layout) (take (headEnd (s .layout)) p) })
 unfolding headOf
-open-inside p s y f w g a =
-    let h = headEnd y in
+open-inside p s f w g a =
+    let h = headEnd (s .layout) in
     let b = take h p in
     let k : le 4 b 12 ≡ le 4 p 12 = le-take 4 h p 12 (omega (arith, f .sound .fixed)) in
-    let u = none-outside y (headOf y b) g in
+    let u = none-outside (s .layout) (headOf (s .layout) b) g in
     let l : h ≤ le 4 b 12 = rw k (f .least) in
-    let laid = f .started .laid in
     record {
-      start =
-          record {
-            laid = refl;
-            least = rw (← laid) (f .started .least);
-            most = f .started .most;
-            known = f .started .known;
-            ended = f .started .ended;
-            named = f .started .named;
-            signed = f .started .signed;
-          };
-      told = rw (← laid) (f .told);
-      formed = rw (← laid) (f .formed);
+      start = f .start;
+      told = f .told;
+      formed = f .formed;
       least = f .least;
       whole = w;
       fields = refl;
@@ -185,28 +183,38 @@ open-inside p s y f w g a =
       volumes = rw (← k) (section-end h (le 4 b 12) _ _ _ l (u .3));
     }
 
+sections-hold : (p : List ℕ) (s : Start) → FormFacts p s → Holds (OpenFacts p) (run (sectionPlan s) p)
+unfolding sectionPlan
+sections-hold p s f =
+    let h = headOf (s .layout) (take (headEnd (s .layout)) p) in
+    holds-reach (headEnd (s .layout)) _ p _ λ w.
+    holds-check _ 5 (outsideFault (s .layout) h) _ p λ g.
+    holds-check _ 6 (sharedFault h) _ p λ a.
+    holds-accept (OpenFacts p) _ p (open-inside p s f w g a)
+
 pub open-facts : (p : List ℕ) → Holds (OpenFacts p) (run openPlan p)
 unfolding openPlan
 open-facts p =
     holds-then _ startPlan _ p λ s e.
-    holds-reach (formRequired (s .layout)) _ p _ λ t.
-    holds-given _ 21 84 (formIn (s .layout) (take (formRequired (s .layout)) p)) _ p λ l q.
-    let h = headOf l (take (headEnd l) p) in
-    holds-reach (headEnd l) _ p _ λ w.
-    holds-check _ 5 (outsideFault l h) _ p λ g.
-    holds-check _ 6 (sharedFault h) _ p λ a.
-    holds-accept _ _ p (open-inside p s l (form-met p s l (start-facts p .holds s e) t q) w g a)
+    holds-then _ (formPlan s) _ p λ t q.
+    sections-hold p t (form-holds p s (start-facts p .holds s e) .holds t q)
 
 pub open-complete : (p : List ℕ) (o : Opening) → OpenFacts p o → run openPlan p ≡ decided (accept o)
-unfolding openPlan run
+unfolding openPlan formPlan sectionPlan run
 open-complete p o f =
     let l = layoutOf (o .version) in
-    rw (run-then startPlan _ p, start-complete p (startIn o) (f .start))
-    (reach-here (formRequired l) _ p (f .told)
-    ∙ given-some 21 _ _ _ p (o .layout) (form-take l p (form-required (o .version)) ∙ f .formed)
-    ∙ reach-here (headEnd (o .layout)) _ p (f .whole)
+    let s : Start = record { version = o .version; layout = o .layout; «name_units» = o .«name_units» } in
+    let form : run (formPlan (startIn o)) p ≡ decided (accept s) =
+    reach-here (formRequired l) _ p (f .told)
+    ∙ given-some 21 _ _ _ p (o .layout) (form-take l p (form-required (o .version)) ∙ f .formed) in
+    let sections : run (sectionPlan s) p ≡ decided (accept o) =
+    reach-here (headEnd (o .layout)) _ p (f .whole)
     ∙ rw (← f .fields)
-    (check-passed 5 (outsideFault (o .layout) (o .head)) _ p (f .inside) ∙ check-passed 6 (sharedFault (o .head)) _ p (f .apart)))
+    (check-passed 5 (outsideFault (o .layout) (o .head)) _ p (f .inside) ∙ check-passed 6 (sharedFault (o .head)) _ p (f .apart)) in
+    sym
+    (sym sections
+    ∙ answer-then (formPlan (startIn o)) sectionPlan p _ form
+    ∙ answer-then startPlan _ p _ (start-complete p (startIn o) (f .start)))
 
 pub open-met : (p : List ℕ) (r : OpenAnswer) (o : Opening) → openOf r ≡ run openPlan p → r ≡ openAnswer.Opened o → OpenFacts p o
 open-met p r o e q = open-facts p .holds o (sym e ∙ ap openOf q)
@@ -256,17 +264,25 @@ decided-start p h d =
     decided-reach 76 _ p (omega (arith, l, layout-sound v .fixed))
     (decided-given 4 16 (units (nameEnd (take 76 p))) _ p λ n _. decided-decide _ p))))
 
+decided-form : (p : List ℕ) (s : Start) → StartFacts p s → declaredSize p ≤ length p → Decided (run (formPlan s) p)
+unfolding formPlan
+decided-form p s f d =
+    let sound : SoundLayout (s .layout) = rw (f .laid) (layout-sound (s .version)) in
+    decided-reach (formRequired (s .layout)) _ p (omega (arith, f .least, sound .fixed, sound .form))
+    (decided-given 21 84 (formIn (s .layout) (take (formRequired (s .layout)) p)) _ p λ l _. decided-decide _ p)
+
+decided-sections : (p : List ℕ) (s : Start) → FormFacts p s → declaredSize p ≤ length p → Decided (run (sectionPlan s) p)
+unfolding sectionPlan
+decided-sections p s f d =
+    let h = headOf (s .layout) (take (headEnd (s .layout)) p) in
+    decided-reach (headEnd (s .layout)) _ p (le-trans (f .least) d)
+    (decided-check 5 (outsideFault (s .layout) h) _ p λ _.
+    decided-check 6 (sharedFault h) _ p λ _.
+    decided-decide _ p)
+
 pub decided-open : (p : List ℕ) → 16 ≤ length p → declaredSize p ≤ length p → Decided (run openPlan p)
 unfolding openPlan
 decided-open p h d =
     decided-then startPlan _ p (decided-start p h d) λ s e.
     let f = start-facts p .holds s e in
-    let sound : SoundLayout (s .layout) = rw (f .laid) (layout-sound (s .version)) in
-    let t : formRequired (s .layout) ≤ length p = omega (arith, f .least, sound .fixed, sound .form) in
-    decided-reach (formRequired (s .layout)) _ p t
-    (decided-given 21 84 (formIn (s .layout) (take (formRequired (s .layout)) p)) _ p λ l q.
-    let b = headOf l (take (headEnd l) p) in
-    decided-reach (headEnd l) _ p (le-trans (form-met p s l f t q .least) d)
-    (decided-check 5 (outsideFault l b) _ p λ _.
-    decided-check 6 (sharedFault b) _ p λ _.
-    decided-decide _ p))
+    decided-then (formPlan s) _ p (decided-form p s f d) λ t q. decided-sections p t (form-holds p s f .holds t q) d

@@ -8,7 +8,7 @@ use Rattle.lists.specs.Answer.{Answers}
 use Rattle.lists.specs.declared.Found.{Found}
 use Rattle.lists.specs.declared.Found.the-variants.{At, Nothing}
 use Rattle.layout.specs.Head.{versionAt, programNameAt, metricsOffsetAt}
-use Rattle.layout.specs.Versions.{versionOf, layoutOf, headEnd, formRequired, knownSaid, formSaid}
+use Rattle.layout.specs.Versions.{versionOf, layoutOf, headEnd, knownSaid, formSaid}
 use Rattle.layout.specs.declared.Version.{Version}
 use Rattle.layout.specs.declared.Layout.{Layout}
 use Rattle.layout.specs.declared.KnownVersion.{KnownVersion}
@@ -16,19 +16,18 @@ use Rattle.layout.specs.declared.KnownVersion.the-variants.{Known, Unknown}
 use Rattle.layout.specs.declared.KnownForm.{KnownForm}
 use Rattle.layout.specs.declared.KnownForm.the-variants as form
 use Rattle.incremental.specs.Decision.{accept, refuse, refusal}
-use Rattle.incremental.specs.Plan.{Plan, Answer, decided, wants, andThen, reach, given, done, run, _>>=_}
+use Rattle.incremental.specs.Plan.{Plan, Answer, decided, wants, andThen, given, done, run}
 use Rattle.incremental.specs.declared.Refusal.{Refusal}
 use Rattle.incremental.specs.declared.Fault.{Fault}
 use Rattle.incremental.specs.declared.Fault.the-variants as fault
 use Rattle.sections.specs.declared.Head.{Head}
-use Rattle.sections.specs.Fields.{sizeFault, formIn, headOf, outsideFault, sharedFault}
-use Rattle.incremental.proofs.Plan.{onward, run-same, line, last, run-steps, reach-on, check-on, check-refused, decide-it, given-some, given-none, then-case}
+use Rattle.sections.specs.Fields.{sizeFault, headOf, outsideFault, sharedFault}
+use Rattle.incremental.proofs.Plan.{onward, run-steps, reach-on, check-on, check-refused, decide-it, given-some, given-none, then-case}
 use Rattle.head.specs.declared.checks.Start.{Start}
 use Rattle.head.specs.declared.checks.StartAnswer.{StartAnswer}
 use Rattle.head.specs.declared.checks.Opening.{Opening}
 use Rattle.head.specs.declared.checks.OpenAnswer.{OpenAnswer}
-use Rattle.head.specs.Checks.{version, units, startPlan, openPlan, startOf, openOf}
-use Rattle.head.specs.Private.{formPlan, sectionPlan, openingPlan}
+use Rattle.head.specs.Checks.{version, units, sectionPlan, startOf, openOf}
 
 -- 1: the number read is that of a known version, or not
 module _ {B : Type 0} (m n : ℕ) (r : KnownVersion) (g : Version → Plan B) (p : List ℕ) (k : n ≡ m) (e : Answers knownSaid (versionOf n) r) where
@@ -91,24 +90,6 @@ pub ruleset steps = (
   start-then,
   open-then,
 )
-
--- checks 21, 5 and 6 one after another, and all after 1 to 4
-abbrev openingLines : Start → Plan Opening
-openingLines s = do
-  b ← reach (formRequired (s .layout))
-  l ← given 21 metricsOffsetAt (formIn (s .layout) b)
-  sectionPlan (record { version = s .version; layout = l; «name_units» = s .«name_units» })
-
-form-in-line : (s : Start) (p : List ℕ) → run (openingPlan s) p ≡ run (openingLines s) p
-unfolding openingPlan formPlan sectionPlan
-form-in-line s p =
-    line (reach (formRequired (s .layout))) _ sectionPlan _ p λ b.
-    line (given 21 metricsOffsetAt (formIn (s .layout) b)) _ sectionPlan _ p λ l.
-    last _ sectionPlan p
-
-pub by-opening : (p : List ℕ) (x : Answer Opening) → x ≡ run (andThen startPlan openingPlan) p → x ≡ run openPlan p
-unfolding openPlan sectionPlan
-by-opening p x e = e ∙ run-same startPlan openingPlan openingLines p (λ s. form-in-line s p)
 
 -- 5 and 6 on the head `h` that the first H bytes give, as far as the code has come
 module _ (s : Start) (p : List ℕ) (h : Head) (k : headEnd (s .layout) ≤ length p) (e : h ≡ headOf (s .layout) (take (headEnd (s .layout)) p)) where

@@ -42,17 +42,28 @@ startPlan = do
   n ← given 4 programNameAt (units (nameEnd b))
   done (record { version = v; layout = layoutOf v; «name_units» = n })
 
--- CHECKS 1 TO 6, with 21 among them; they give the layout of the head form and the sections too
+-- CHECK 21, where 1 to 4 gave `s`: the layout becomes that of the head form
+unfoldable pub formPlan : Start → Plan Start
+formPlan s = do
+  b ← reach (formRequired (s .layout))
+  l ← given 21 metricsOffsetAt (formIn (s .layout) b)
+  done (record { version = s .version; layout = l; «name_units» = s .«name_units» })
+
+-- CHECKS 5 AND 6, by the layout of the head form; they give the sections too
+unfoldable pub sectionPlan : Start → Plan Opening
+sectionPlan s = do
+  b ← reach (headEnd (s .layout))
+  let h = headOf (s .layout) b
+  check 5 (outsideFault (s .layout) h)
+  check 6 (sharedFault h)
+  done (record { version = s .version; layout = s .layout; «name_units» = s .«name_units»; head = h })
+
+-- CHECKS 1 TO 6, with 21 among them
 unfoldable pub openPlan : Plan Opening
 openPlan = do
   s ← startPlan
-  b ← reach (formRequired (s .layout))
-  l ← given 21 metricsOffsetAt (formIn (s .layout) b)
-  b ← reach (headEnd l)
-  let h = headOf l b
-  check 5 (outsideFault l h)
-  check 6 (sharedFault h)
-  done (record { version = s .version; layout = l; «name_units» = s .«name_units»; head = h })
+  formed ← formPlan s
+  sectionPlan formed
 
 -- what each case of the answers says
 abbrev pub startOf : StartAnswer → Answer Start

@@ -1,3 +1,3 @@
 pub mod Checks
+pub mod Opened
 pub mod Rules
-pub mod Private

@@ -1,8 +1,7 @@
 ghost use mathlib.Core.Path.{_≡_};
 ghost use Rattle.incremental.specs.Decision.{refusal};
 ghost use Rattle.incremental.specs.Plan.{run};
-ghost use Rattle.head.specs.Checks.{startOf, openOf, startPlan, openPlan};
-ghost use Rattle.head.specs.Private.{formPlan, sectionPlan, openingPlan};
+ghost use Rattle.head.specs.Checks.{startOf, openOf, startPlan, formPlan, sectionPlan, openPlan};
 use incremental::Fault;
 use incremental::Refusal;
 use layout::KnownForm;
@@ -127,23 +126,16 @@ fn check_sections(file: &[u8], s: Start) -> OpenAnswer
     })
 }
 
-// Checks 21, 5 and 6.
-fn check_opening(file: &[u8], s: Start) -> OpenAnswer
-    ensures { λ r. ⌜ openOf r ≡ run (openingPlan s) (now (file .entry)) ⌝ }
-{
-    match check_form(file, s) {
-        StartAnswer::Started(formed) => check_sections(file, formed),
-        StartAnswer::Refused(r) => OpenAnswer::Refused(r),
-        StartAnswer::Wanted(required) => OpenAnswer::Wanted(required),
-    }
-}
-
 // Checks 1 to 6, with 21 among them.
 pub fn read_open(file: &[u8]) -> OpenAnswer
     ensures { λ r. ⌜ openOf r ≡ run openPlan (now (file .entry)) ⌝ }
 {
     match read_start(file) {
-        StartAnswer::Started(s) => check_opening(file, s),
+        StartAnswer::Started(s) => match check_form(file, s) {
+            StartAnswer::Started(formed) => check_sections(file, formed),
+            StartAnswer::Refused(r) => OpenAnswer::Refused(r),
+            StartAnswer::Wanted(required) => OpenAnswer::Wanted(required),
+        },
         StartAnswer::Refused(r) => OpenAnswer::Refused(r),
         StartAnswer::Wanted(k) => OpenAnswer::Wanted(k),
     }

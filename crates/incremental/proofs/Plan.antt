@@ -16,7 +16,7 @@ use Rattle.incremental.specs.Decision.{Decision, accept, refuse, refusal
 use Rattle.incremental.specs.declared.Refusal.{Refusal}
 use Rattle.incremental.specs.declared.Fault.{Fault}
 use Rattle.incremental.specs.declared.Fault.the-variants.{At, Nowhere}
-use Rattle.incremental.specs.Plan.{Plan, decide, await, Answer, decided, wants, run, andThen, reach, check, given, done, Stands}
+use Rattle.incremental.specs.Plan.{Plan, decide, await, Answer, decided, wants, run, andThen, reach, check, given, Stands}
 
 -- the same of answers
 abbrev pub onward : {A B : Type 0} → Answer A → (A → Answer B) → Answer B
@@ -106,10 +106,6 @@ pub decided-decide : {A : Type 0} (d : Decision A) (p : List ℕ) → Decided (r
 unfolding run
 decided-decide d p = record { never = λ k e. let z : _≡_ {A = ℕ} 0 1 = cc in omega arith }
 
-pub decided-await : {A : Type 0} (j : ℕ) (next : List ℕ → Plan A) (p : List ℕ) → j ≤ length p → Decided (run (next (take j p)) p)
-    → Decided (run (await j next) p)
-decided-await j next p h d = rw (run-here j next p h) d
-
 pub decided-then : {A B : Type 0} (t : Plan A) (f : A → Plan B) (p : List ℕ) → Decided (run t p)
     → ((a : A) → run t p ≡ decided (accept a) → Decided (run (f a) p)) → Decided (run (andThen t f) p)
 decided-then {A = A} t f p d h = rw (run-then t f p) (go (run t p) d h)
@@ -148,30 +144,9 @@ holds-then {A = A} P t f p h = rw (run-then t f p) (go (run t p) h)
     go (decided (refuse r)) h = record { holds = λ b q. let z : _≡_ {A = ℕ} 0 1 = cc in absurd (omega arith) }
     go (wants j) h = record { holds = λ b q. let z : _≡_ {A = ℕ} 0 1 = cc in absurd (omega arith) }
 
--- plans one after another may be bracketed either way
-pub run-assoc : {A B C : Type 0} (t : Plan A) (f : A → Plan B) (g : B → Plan C) (p : List ℕ)
-    → run (andThen (andThen t f) g) p ≡ run (andThen t (λ a. andThen (f a) g)) p
-unfolding run andThen
-run-assoc (decide (accept a)) f g p = refl
-run-assoc (decide (refuse r)) f g p = refl
-run-assoc (await k next) f g p = ap (λ x. pick (leb k (length p)) x (wants k)) (run-assoc (next (take k p)) f g p)
-
--- later plans that answer alike
-pub run-same : {A B : Type 0} (t : Plan A) (f g : A → Plan B) (p : List ℕ) → ((a : A) → run (f a) p ≡ run (g a) p)
-    → run (andThen t f) p ≡ run (andThen t g) p
-unfolding run andThen
-run-same (decide (accept a)) f g p h = h a
-run-same (decide (refuse r)) f g p h = refl
-run-same (await k next) f g p h = ap (λ x. pick (leb k (length p)) x (wants k)) (run-same (next (take k p)) f g p h)
-
--- a line of a plan whose later lines are themselves bracketed, and the last line
-pub line : {A B C : Type 0} (t : Plan A) (f : A → Plan B) (g : B → Plan C) (h : A → Plan C) (p : List ℕ)
-    → ((a : A) → run (andThen (f a) g) p ≡ run (h a) p) → run (andThen (andThen t f) g) p ≡ run (andThen t h) p
-line t f g h p e = run-assoc t f g p ∙ run-same t _ _ p e
-
-pub last : {A B : Type 0} (a : A) (g : A → Plan B) (p : List ℕ) → run (andThen (done a) g) p ≡ run (g a) p
-unfolding andThen
-last a g p = refl
+-- a plan whose answer is known, and what follows it
+pub answer-then : {A B : Type 0} (t : Plan A) (g : A → Plan B) (p : List ℕ) (x : Answer A) → run t p ≡ x → onward x (λ a. run (g a) p) ≡ run (andThen t g) p
+answer-then t g p x e = sym (run-then t g p ∙ ap (λ y. onward y (λ a. run (g a) p)) e)
 
 -- ---- the lines of a plan: what is reached, and what is checked there
 
@@ -236,13 +211,6 @@ module _ {A B : Type 0} (n at : ℕ) (o : Option A) (g : A → Plan B) (p : List
   pub given-none : o ≡ none → run (andThen (given n at o) g) p ≡ decided (refuse (refusal n 0 at))
   unfolding given andThen run
   given-none e = rw e
-
-  -- for `search` at a function's returns
-  pub given-refused : o ≡ none → decided (refuse (refusal n 0 at)) ≡ run (andThen (given n at o) g) p
-  given-refused e = sym (given-none e)
-
-  pub given-on : (a : A) (v : Answer B) → o ≡ some a → v ≡ run (g a) p → v ≡ run (andThen (given n at o) g) p
-  given-on a v e h = rw (given-some a e) h
 
 pub holds-given : {A B : Type 0} (P : B → Type 0) (n at : ℕ) (o : Option A) (g : A → Plan B) (p : List ℕ)
     → ((a : A) → o ≡ some a → Holds P (run (g a) p)) → Holds P (run (andThen (given n at o) g) p)

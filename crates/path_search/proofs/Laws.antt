@@ -24,7 +24,7 @@ use Rattle.sections.specs.Fields.{storedHash, part}
 use Rattle.head.specs.Checks.{openPlan, openOf}
 use Rattle.head.specs.declared.checks.OpenAnswer.{OpenAnswer}
 use Rattle.head.specs.declared.checks.OpenAnswer.the-variants as openAnswer
-use Rattle.head.specs.Private.{OpenFacts}
+use Rattle.head.specs.Opened.{OpenFacts}
 use Rattle.head.proofs.Facts.{open-sound, open-shapes}
 use Rattle.head.specs.declared.checks.Opening.{Opening}
 use Rattle.names.specs.Names.{nameAt, nameUnits, fits, sound}

@@ -7,7 +7,7 @@ ghost use lib.ListN.{length};
 ghost use Rattle.lists.specs.Answer.{Answers};
 ghost use Rattle.layout.specs.Versions.{sizeLimit};
 ghost use Rattle.layout.specs.Private.{SoundLayout};
-ghost use Rattle.head.specs.Private.{OpenFacts};
+ghost use Rattle.head.specs.Opened.{OpenFacts};
 ghost use Rattle.path_search.specs.Search.{numbersOf, hashOf, matchesBy, leastPair, pathFound, pathSaid, ListsPaths};
 ghost use Rattle.path_search.specs.Private.{numberFor, numberIn, searched, PairsPlaced};
 use head::OpenAnswer;

@@ -35,7 +35,7 @@ use Rattle.sections.proofs.Cases.{entries-met, entries-fit}
 use Rattle.incremental.specs.declared.Fault.{Fault}
 use Rattle.incremental.specs.declared.Fault.the-variants as fault
 use Rattle.head.specs.Checks.{startOf, openOf}
-use Rattle.head.specs.Private.{OpenFacts}
+use Rattle.head.specs.Opened.{OpenFacts}
 use Rattle.head.proofs.Facts.{open-met, open-sound, open-shapes}
 use Rattle.sections.specs.declared.Section.{Section}
 use Rattle.head.specs.declared.checks.Start.{Start}

@@ -1,6 +1,6 @@
 -- Line by line the code is check 21 of the plan.
 use Rattle.head.proofs.Steps.{steps}
-use Rattle.head.specs.Private.{formPlan}
+use Rattle.head.specs.Checks.{formPlan}
 use lib.ListN.{length-take}
 use native.Mathlib.Omega.{arith}
 use borrow.Author.Needs.{needs}

@@ -1,6 +1,6 @@
 -- Line by line the code is checks 5 and 6 of the plan.
 use Rattle.head.proofs.Steps.{steps, outside-refused, shared-refused, sections-pass}
-use Rattle.head.specs.Private.{sectionPlan}
+use Rattle.head.specs.Checks.{sectionPlan}
 use lib.ListN.{length-take}
 use native.Mathlib.Omega.{arith}
 use borrow.Author.Needs.{needs}

@@ -1,17 +1,29 @@
--- Checks 1 to 4, and after them 21, 5 and 6.
-use Rattle.head.proofs.Steps.{steps, by-opening}
+-- Checks 1 to 4, after them 21, and after that 5 and 6.
+use Rattle.head.proofs.Steps.{steps}
+use Rattle.head.specs.Checks.{openPlan}
 use borrow.Author.Needs.{needs}
 use Rattle.head.proofs.checks.read_open.Statement.{statement}
 use Rattle.head.proofs.checks.read_open.Tie as tie
 
 returns : tie.Need-returns
-returns c = by-opening _ _ (search steps depth 12)
+unfolding openPlan
+returns c = search steps depth 12
 
 returns-2 : tie.Need-returns-2
-returns-2 c = by-opening _ _ (search steps depth 12)
+unfolding openPlan
+returns-2 c = search steps depth 12
 
 returns-3 : tie.Need-returns-3
-returns-3 c = by-opening _ _ (search steps depth 12)
+unfolding openPlan
+returns-3 c = search steps depth 12
+
+returns-4 : tie.Need-returns-4
+unfolding openPlan
+returns-4 c = search steps depth 12
+
+returns-5 : tie.Need-returns-5
+unfolding openPlan
+returns-5 c = search steps depth 12
 
 pub read-open-spec : {M : Type 1} → statement M
 read-open-spec =
@@ -21,7 +33,13 @@ read-open-spec =
     (λ c. search needs)
     (λ c κs. search needs)
     (λ c. search needs)
+    (λ c κs. search needs)
+    (λ c. search needs)
+    (λ c. search needs)
+    (λ c. search needs)
     (λ c. search needs)
     returns
     returns-2
-    returns-3)
+    returns-3
+    returns-4
+    returns-5)

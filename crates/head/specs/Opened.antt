@@ -1,4 +1,4 @@
--- What only private contracts need: checks 21, 5 and 6 after the others, and what is known of bytes that checks 1 to 4, and 1 to 6, accept.
+-- What is known of bytes that checks 1 to 4, and 1 to 6, accept.
 use mathlib.Core.Path.{_≡_}
 use mathlib.Core.List.{List}
 use mathlib.Core.Option.{some}
@@ -6,34 +6,12 @@ use Prim.Native.Nat.{ℕ, _≤_}
 use lib.ListN.{length, take}
 use Rattle.lists.specs.declared.Found.the-variants.{At}
 use Rattle.little_endian.specs.Number.{le}
-use Rattle.layout.specs.Head.{metricsOffsetAt}
 use Rattle.layout.specs.Versions.{versionOf, layoutOf, headEnd, formRequired, sizeLimit}
 use Rattle.layout.specs.declared.KnownVersion.the-variants.{Known}
-use Rattle.incremental.specs.Plan.{Plan, reach, check, given, done, _>>=_, _>>_}
 use Rattle.incremental.specs.declared.Fault.the-variants.{Nowhere}
+use Rattle.sections.specs.Fields.{signatureFault, declaredSize, nameEnd, formIn, headOf, outsideFault, sharedFault}
 use Rattle.head.specs.declared.checks.Start.{Start}
 use Rattle.head.specs.declared.checks.Opening.{Opening}
-use Rattle.sections.specs.Fields.{signatureFault, declaredSize, nameEnd, formIn, headOf, outsideFault, sharedFault}
-
--- check 21, where 1 to 4 gave `s`: the layout becomes that of the head form
-unfoldable pub formPlan : Start → Plan Start
-formPlan s = do
-  b ← reach (formRequired (s .layout))
-  l ← given 21 metricsOffsetAt (formIn (s .layout) b)
-  done (record { version = s .version; layout = l; «name_units» = s .«name_units» })
-
--- checks 5 and 6, where the others gave `s`
-unfoldable pub sectionPlan : Start → Plan Opening
-sectionPlan s = do
-  b ← reach (headEnd (s .layout))
-  let h = headOf (s .layout) b
-  check 5 (outsideFault (s .layout) h)
-  check 6 (sharedFault h)
-  done (record { version = s .version; layout = s .layout; «name_units» = s .«name_units»; head = h })
-
--- all three
-unfoldable pub openingPlan : Start → Plan Opening
-openingPlan s = formPlan s >>= sectionPlan
 
 -- what checks 1 to 4 gave, of what 1 to 6 gave
 abbrev pub startIn : Opening → Start
