@@ -13,7 +13,7 @@ use Rattle.layout.proofs.Laws.{layout-sound}
 use Rattle.incremental.specs.Plan.{Answer}
 use Rattle.sections.specs.Fields.{declaredSize, linkCount, headOf, sizeIn}
 use Rattle.head.specs.Rules.{Within}
-use Rattle.head.specs.Private.{OpenFacts}
+use Rattle.head.specs.Opened.{OpenFacts}
 use Rattle.head.proofs.Rules.{signature-law, outside-law, shares-law}
 use Rattle.head.proofs.Facts.{Shapes, head-shapes, open-sound, form-facts}
 use Rattle.sections.specs.declared.Section.{Section}

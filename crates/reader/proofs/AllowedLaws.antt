@@ -24,15 +24,15 @@ use Rattle.layout.specs.Private.{SoundLayout}
 use Rattle.layout.specs.declared.Layout.{Layout}
 use Rattle.incremental.specs.Decision.{Decision, accept, refuse, faultOf}
 use Rattle.incremental.specs.Plan.{decide, Answer, decided, wants, run, andThen}
-use Rattle.incremental.proofs.Plan.{run-then, reach-here, check-passed, Holds, holds-reach, holds-check, holds-then, holds-accept}
+use Rattle.incremental.proofs.Plan.{answer-then, reach-here, check-passed, Holds, holds-reach, holds-check, holds-then, holds-accept}
 use Rattle.incremental.proofs.Decision.{fault-nothing}
 use Rattle.incremental.specs.declared.Fault.{Fault}
 use Rattle.incremental.specs.declared.Fault.the-variants.{Nowhere}
-use Rattle.sections.specs.Fields.{declaredSize, headOf, part, nameEnd, linkCount, placesFault, entriesFault}
+use Rattle.sections.specs.Fields.{declaredSize, headOf, part, nameEnd, linkCount}
 use Rattle.sections.proofs.Name.{ends-at}
-use Rattle.sections.proofs.Cases.{links-low, places-met, entries-met, places-enough, entries-fit}
+use Rattle.sections.proofs.Cases.{links-low, places-enough, entries-fit}
 use Rattle.head.specs.Checks.{openPlan}
-use Rattle.head.specs.Private.{OpenFacts}
+use Rattle.head.specs.Opened.{OpenFacts}
 use Rattle.head.specs.Rules.{NameEnds}
 use Rattle.head.proofs.Rules.{name-law, part-length, part-take}
 use Rattle.head.proofs.Facts.{open-facts, open-complete, open-sound, open-shapes}
@@ -50,10 +50,10 @@ use Rattle.volumes.proofs.SoundVolume.{volumes-sound}
 use Rattle.reader.specs.declared.verdict.Acceptance.{Acceptance}
 use Rattle.reader.specs.Verdict.{Acceptable}
 use Rattle.reader.specs.Checks.{nextsIn, linkAt, timeAt, recordOf, traceRequired, volumesRequired}
-use Rattle.reader.specs.Checks.{namesRequired, readPlan, prefixAnswer, sizeOf, sized, whole}
-use Rattle.reader.specs.Private.{fitsPlan, textsPlan, tracePlan, volumesPlan, EntriesFit, tablesPlan, restPlan}
-use Rattle.reader.proofs.Opens.{read-opens}
-use Rattle.reader.proofs.Stages.{answer-then}
+use Rattle.reader.specs.Checks.{namesRequired, prefixAnswer, sizeOf, sized, whole}
+use Rattle.reader.specs.Checks.{countsPlan, fitsPlan, textsPlan, tracePlan, volumesPlan, restPlan, readPlan}
+use Rattle.reader.specs.Private.{EntriesFit}
+use Rattle.reader.proofs.Stages.{counts-hold}
 use Rattle.reader.proofs.Early.{names-required-low, trace-required-low, volumes-required-low}
 
 -- ---- the head's fields lie before H
@@ -310,30 +310,27 @@ module _ (m : ℕ) (p : List ℕ) (o : Opening) (f : OpenFacts p o) where
       holds-then _ (decide (volumesIn p o f (take k p))) _ p λ t e. holds-accept _ tt p (sym (volumes-take p o f) ∙ decision _ t p e)
 
   pub rest-facts : Holds (RestFacts m p o) (run (restPlan m o) p)
-  unfolding restPlan tablesPlan
+  unfolding restPlan
   rest-facts =
-      holds-reach (headEnd (o .layout)) _ p _ λ _.
-      holds-check _ 7 (placesFault m (linkCount (o .layout) (o .head))) _ p λ e7.
-      holds-check _ 8 (entriesFault (o .head .volumes .count) (volumeEntry (o .layout)) (o .head .volumes .len)) _ p λ e8.
+      holds-then _ (countsPlan m o) _ p λ c e7.
       holds-then _ (fitsPlan o) _ p λ _ _.
       holds-then _ (textsPlan o) _ p λ u e10.
       holds-then _ (tracePlan o) _ p λ t e11.
       holds-then _ (volumesPlan o) _ p λ w e14.
-      holds-accept _ _ p
-      (accepts t (places-met _ _ _ refl e7) (entries-met _ _ _ _ refl e8) (texts-hold .holds u e10) (trace-hold .holds t e11) (volumes-hold .holds w e14))
+      holds-reach (headEnd (o .layout)) _ p _ λ _.
+      holds-accept _ _ p (accepts t (counts-hold m o p .holds c e7) (texts-hold .holds u e10) (trace-hold .holds t e11) (volumes-hold .holds w e14))
     where
       accepts : (t : List ℕ)
-          → linkCount (o .layout) (o .head) ≤ m
-          → EntriesFit o
+          → (linkCount (o .layout) (o .head) ≤ m) × EntriesFit o
           → unsoundIn p o f p ≡ Nowhere
           → (t ≡ nextsIn o p) × (linkChecks (linkAt o) (nextsIn o p) ≡ accept (chains (nextsIn o p)))
           → volumesIn p o f p ≡ accept tt
           → RestFacts m p o (record { fields = recordOf o (take (headEnd (o .layout)) p) (chains t); table = predecessors t m })
-      accepts t places entries names links volumes =
+      accepts t counts names links volumes =
           let s = nextsIn o p in
           record {
-            places = places;
-            entries = entries;
+            places = counts .0;
+            entries = counts .1;
             names = names-found names;
             free = free s _ (length-nexts _ _ _) (links-few p o f) (linkAt o) (chains s) (links .1);
             volumes = volumes-sound _ _ _ _ .0 volumes;
@@ -377,38 +374,43 @@ module _ (m : ℕ) (p : List ℕ) (o : Opening) (f : OpenFacts p o) where
         reach-here (volumesRequired (o .layout) (o .head)) _ p (le-trans (volumes-required-low p o f) d)
         ∙ rw (volumes-take p o f ∙ volumes-sound (part (o .head .volumes) p) (o .layout) (o .head .volumes .at) (o .head .volumes .count) .1 (r .volumes))
 
-    tables-complete : run (tablesPlan m o (take (headEnd (o .layout)) p)) p ≡ decided (accept x)
-    unfolding tablesPlan run
-    tables-complete =
+    counts-complete : run (countsPlan m o) p ≡ decided (accept tt)
+    unfolding countsPlan run
+    counts-complete =
+        reach-here (headEnd (o .layout)) _ p (f .whole)
+        ∙ check-passed 7 _ _ p (sym (places-enough m (linkCount (o .layout) (o .head)) (r .places)))
+        ∙ check-passed 8 _ _ p (sym (entries-fit (o .head .volumes .count) (volumeEntry (o .layout)) (o .head .volumes .len) (r .entries)))
+
+    pub rest-complete : run (restPlan m o) p ≡ decided (accept x)
+    unfolding restPlan run
+    rest-complete =
         let g : recordOf o (take (headEnd (o .layout)) p) (chains (nextsIn o p)) ≡ x .fields = record-take o p _ (open-sound p o f) ∙ sym (r .fields) in
         let t : predecessors (nextsIn o p) m ≡ x .table = sym (r .table) in
         sym
         ((λ i. decided (accept (record { fields = sym g i; table = sym t i })))
+        ∙ sym (reach-here (headEnd (o .layout)) _ p (f .whole))
         ∙ answer-then (volumesPlan o) _ p _ volumes-complete
         ∙ answer-then (tracePlan o) _ p _ trace-complete
         ∙ answer-then (textsPlan o) _ p _ texts-complete
-        ∙ answer-then (fitsPlan o) _ p _ fits-complete)
-
-    pub rest-complete : run (restPlan m o) p ≡ decided (accept x)
-    unfolding restPlan
-    rest-complete =
-        reach-here (headEnd (o .layout)) _ p (f .whole)
-        ∙ check-passed 7 _ _ p (sym (places-enough m (linkCount (o .layout) (o .head)) (r .places)))
-        ∙ check-passed 8 _ _ p (sym (entries-fit (o .head .volumes .count) (volumeEntry (o .layout)) (o .head .volumes .len) (r .entries)))
-        ∙ tables-complete
+        ∙ answer-then (fitsPlan o) _ p _ fits-complete
+        ∙ answer-then (countsPlan m o) _ p _ counts-complete)
 
 -- what all checks accept, in both directions
 pub read-facts : (m : ℕ) (p : List ℕ) → Holds (λ x. (o : Opening) × OpenFacts p o × RestFacts m p o x) (prefixAnswer p m)
+unfolding readPlan
 read-facts m p =
-    rw (← read-opens m p)
-    (holds-then _ openPlan (restPlan m) p λ o e.
+    holds-then _ openPlan (restPlan m) p λ o e.
     let f = open-facts p .holds o e in
-    record { holds = λ x q. (o, f, rest-facts m p o f .holds x q) })
+    record { holds = λ x q. (o, f, rest-facts m p o f .holds x q) }
+
+-- the answer of all checks is that of 7 to 15, where 1 to 6 accept
+pub read-rest : (m : ℕ) (p : List ℕ) (o : Opening) → OpenFacts p o → prefixAnswer p m ≡ run (restPlan m o) p
+unfolding readPlan
+read-rest m p o f = sym (answer-then openPlan (restPlan m) p _ (open-complete p o f))
 
 pub read-complete : (m : ℕ) (p : List ℕ) (o : Opening) (x : Acceptable) → OpenFacts p o → declaredSize p ≤ length p → RestFacts m p o x
     → prefixAnswer p m ≡ decided (accept x)
-read-complete m p o x f d r =
-    sym (read-opens m p) ∙ run-then openPlan (restPlan m) p ∙ rw (open-complete p o f) (rest-complete m p o f d x r)
+read-complete m p o x f d r = read-rest m p o f ∙ rest-complete m p o f d x r
 
 -- ---- the whole-file reader
 

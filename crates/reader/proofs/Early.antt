@@ -19,7 +19,7 @@ use Rattle.incremental.proofs.Plan.{stands, begins-take, Decided, decided-decid
 use Rattle.incremental.specs.declared.Refusal.{Refusal}
 use Rattle.sections.specs.Fields.{declaredSize, part, linkCount, placesFault, entriesFault}
 use Rattle.head.specs.Checks.{openPlan}
-use Rattle.head.specs.Private.{OpenFacts}
+use Rattle.head.specs.Opened.{OpenFacts}
 use Rattle.head.proofs.Facts.{open-facts, decided-open}
 use Rattle.head.specs.declared.checks.Opening.{Opening}
 use Rattle.names.specs.Names.{misfitFault, unsoundFault}
@@ -30,9 +30,8 @@ use Rattle.reader.specs.declared.verdict.Verdict.{Verdict}
 use Rattle.reader.specs.declared.verdict.Verdict.the-variants.{Accepted, Refused, Wanted}
 use Rattle.reader.specs.Verdict.{Acceptable, Reads, valuesOf, answerValues, wantedValues, bufferAfter}
 use Rattle.reader.proofs.Values.{same-values, wanted-answer}
-use Rattle.reader.specs.Checks.{nextsIn, linkAt, traceRequired, volumesRequired, namesRequired, readPlan, prefixAnswer, ReadsPrefix}
-use Rattle.reader.specs.Private.{fitsPlan, textsPlan, tracePlan, volumesPlan, tablesPlan, restPlan}
-use Rattle.reader.proofs.Opens.{read-opens}
+use Rattle.reader.specs.Checks.{nextsIn, linkAt, traceRequired, volumesRequired, namesRequired, prefixAnswer, ReadsPrefix}
+use Rattle.reader.specs.Checks.{countsPlan, fitsPlan, textsPlan, tracePlan, volumesPlan, restPlan, readPlan}
 use Rattle.reader.specs.Early.{EarlyStands}
 
 -- ---- no required length exceeds the greater of sixteen and S
@@ -59,6 +58,14 @@ volumes-required-low p o f = go (ℕ-discrete (o .head .volumes .count) 0)
     go (no z) = rw (ne-eqb _ _ z) (f .volumes)
 
 module _ (p : List ℕ) (o : Opening) (f : OpenFacts p o) (d : declaredSize p ≤ length p) where
+  decided-counts : (m : ℕ) → Decided (run (countsPlan m o) p)
+  unfolding countsPlan
+  decided-counts m =
+      decided-reach (headEnd (o .layout)) _ p (f .whole)
+      (decided-check 7 (placesFault m (linkCount (o .layout) (o .head))) _ p λ _.
+      decided-check 8 (entriesFault (o .head .volumes .count) (volumeEntry (o .layout)) (o .head .volumes .len)) _ p λ _.
+      decided-decide _ p)
+
   decided-fits : Decided (run (fitsPlan o) p)
   unfolding fitsPlan
   decided-fits =
@@ -95,21 +102,18 @@ module _ (p : List ℕ) (o : Opening) (f : OpenFacts p o) (d : declaredSize p �
       (decided-decide _ p) λ _ _. decided-decide _ p)
 
   decided-rest : (m : ℕ) → Decided (run (restPlan m o) p)
-  unfolding restPlan tablesPlan
+  unfolding restPlan
   decided-rest m =
-      decided-reach (headEnd (o .layout)) _ p (f .whole)
-      (decided-check 7 (placesFault m (linkCount (o .layout) (o .head))) _ p λ _.
-      decided-check 8 (entriesFault (o .head .volumes .count) (volumeEntry (o .layout)) (o .head .volumes .len)) _ p λ _.
+      decided-then (countsPlan m o) _ p (decided-counts m) λ _ _.
       decided-then (fitsPlan o) _ p decided-fits λ _ _.
       decided-then (textsPlan o) _ p decided-texts λ _ _.
       decided-then (tracePlan o) _ p decided-trace λ _ _.
       decided-then (volumesPlan o) _ p decided-volumes λ _ _.
-      decided-decide _ p)
+      decided-reach (headEnd (o .layout)) _ p (f .whole) (decided-decide _ p)
 
 pub decided-read : (m : ℕ) (p : List ℕ) → 16 ≤ length p → declaredSize p ≤ length p → Decided (prefixAnswer p m)
-decided-read m p h d =
-    rw (← read-opens m p)
-    (decided-then openPlan (restPlan m) p (decided-open p h d) λ o e. decided-rest p o (open-facts p .holds o e) d m)
+unfolding readPlan
+decided-read m p h d = decided-then openPlan (restPlan m) p (decided-open p h d) λ o e. decided-rest p o (open-facts p .holds o e) d m
 
 -- ---- a verdict that is no request is a decision
 decided-answer : (x : Answer Acceptable) → ((k : ℕ) → answerValues x ≡ wantedValues k → ⊥) → (d : Decision Acceptable) × (x ≡ decided d)

@@ -1,7 +1,5 @@
 pub mod Values
 pub mod Stages
-pub mod Tables
-pub mod Opens
 pub mod Readers
 pub mod Early
 pub mod AllowedLaws

@@ -1,4 +1,4 @@
--- The stages from check 9 on, by what the calls in their code gave: each way out of a stage is a run of its plan.
+-- The stages from check 7 on, by what the calls in their code gave: each way out of a stage is a run of its plan.
 use mathlib.Core.Path.{_≡_, refl, sym, ap, _∙_}
 use mathlib.Core.List.{List}
 use Prim.Native.Nat.{ℕ, _*_, _≤_, _<_}
@@ -11,8 +11,8 @@ use Rattle.layout.specs.Versions.{headEnd, volumeEntry, traceEntry}
 use Rattle.incremental.specs.Decision as decision
 use Rattle.incremental.specs.Decision.{Decision, accept, refuse, refusal, checkedOf}
 use Rattle.incremental.specs.Plan.{Plan, decide, Answer, decided, wants, run, andThen, reach, check, done, outcomeOf, _>>=_, _>>_}
-use Rattle.incremental.proofs.Plan.{onward, run-then, reach-here, reach-short, reach-wants, reach-on}
-use Rattle.incremental.proofs.Plan.{check-refused, check-on, check-fault, check-passed, decide-it, then-case}
+use Rattle.incremental.proofs.Plan.{onward, answer-then, reach-here, reach-short, reach-wants, reach-on, check-refused, check-on, decide-it, then-case, run-steps}
+use Rattle.incremental.proofs.Plan.{Holds, holds-reach, holds-check, holds-accept}
 use Rattle.incremental.specs.declared.Refusal.{Refusal}
 use Rattle.incremental.specs.declared.Fault.{Fault}
 use Rattle.incremental.specs.declared.Fault.the-variants.{At, Nowhere}
@@ -21,8 +21,8 @@ use Rattle.incremental.specs.declared.Checked.the-variants as checked
 use Rattle.incremental.specs.declared.Outcome.{Outcome}
 use Rattle.incremental.specs.declared.Outcome.the-variants as out
 use Rattle.sections.specs.Fields.{part, linkCount, entriesFault, placesFault}
-use Rattle.sections.proofs.Cases.{entries-fit}
-use Rattle.head.specs.Private.{OpenFacts}
+use Rattle.sections.proofs.Cases.{entries-fit, entries-met, places-met}
+use Rattle.head.specs.Opened.{OpenFacts}
 use Rattle.head.proofs.Rules.{part-length}
 use Rattle.head.proofs.Facts.{open-shapes}
 use Rattle.head.specs.declared.checks.Opening.{Opening}
@@ -34,11 +34,34 @@ use Rattle.trace.specs.declared.Links.{Links}
 use Rattle.trace.specs.declared.Links.the-variants as links
 use Rattle.volumes.specs.Volumes.{volumesFrom, volumesChecks}
 use Rattle.volumes.proofs.Laws.{volumes-room}
+use Rattle.reader.specs.declared.checks.TraceOutcome.{TraceOutcome}
 use Rattle.reader.specs.declared.checks.TraceOutcome.the-variants as outcome
 use Rattle.reader.specs.declared.verdict.Acceptance.{Acceptance}
 use Rattle.reader.specs.Verdict.{Acceptable}
 use Rattle.reader.specs.Checks.{traceRequired, namesRequired, volumesRequired, nextsIn, linkAt, recordOf}
-use Rattle.reader.specs.Private.{fitsPlan, textsPlan, tracePlan, TraceAnswer, volumesPlan, EntriesFit, tablesPlan, restPlan}
+use Rattle.reader.specs.Checks.{countsPlan, fitsPlan, textsPlan, tracePlan, volumesPlan, restPlan}
+use Rattle.reader.specs.Private.{TraceAnswer, EntriesFit}
+
+-- ---- 7 and 8
+
+-- the number of next indexes that a call gave
+pub places-at : (m n k : ℕ) (r : Fault) → r ≡ placesFault m n → n ≡ k → r ≡ placesFault m k
+places-at m n k r e q = e ∙ ap (placesFault m) q
+
+pub ruleset counts = (run-steps, places-at)
+
+module _ (m : ℕ) (o : Opening) (p : List ℕ) where
+  -- what they let pass
+  pub counts-hold : Holds (λ _. (linkCount (o .layout) (o .head) ≤ m) × EntriesFit o) (run (countsPlan m o) p)
+  unfolding countsPlan
+  counts-hold =
+      holds-reach (headEnd (o .layout)) _ p _ λ _.
+      holds-check _ 7 (placesFault m (linkCount (o .layout) (o .head))) _ p λ e7.
+      holds-check _ 8 (entriesFault (o .head .volumes .count) (volumeEntry (o .layout)) (o .head .volumes .len)) _ p λ e8.
+      holds-accept _ tt p (places-met _ _ _ refl e7, entries-met _ _ _ _ refl e8)
+
+  pub counts-met : (r : Outcome) → outcomeOf r ≡ run (countsPlan m o) p → r ≡ out.Passed → (linkCount (o .layout) (o .head) ≤ m) × EntriesFit o
+  counts-met r e q = counts-hold .holds tt (sym e ∙ ap outcomeOf q)
 
 -- ---- 9
 module _ (o : Opening) (p : List ℕ) where
@@ -200,17 +223,54 @@ module _ (o : Opening) (p : List ℕ) (k : ℕ) (at : k ≡ volumesRequired (o .
     unfolding run andThen
     volumes-refused g q = volumes-are _ (reach-on k _ p _ h (rw (volumes-decide ∙ ap checkedOf q)))
 
--- ---- one stage after another: `r` is what the call for a stage gave
-module _ {B : Type 0} (t : Plan Unit) (g : Unit → Plan B) (p : List ℕ) (r : Outcome) (e : outcomeOf r ≡ run t p) where
-  pub stage-refused : (f : Refusal) → r ≡ out.Refused f → decided (refuse f) ≡ run (andThen t g) p
-  stage-refused f q = then-case outcomeOf t g p r (out.Refused f) _ e q refl
+-- ---- one stage after another, for `search` at the returns of their code: `r` is what the call for a stage gave, and `x` its case
+pub stage-then : {B : Type 0} (t : Plan Unit) (g : Unit → Plan B) (p : List ℕ) (r x : Outcome) (v : Answer B) → outcomeOf r ≡ run t p → r ≡ x
+    → v ≡ onward (outcomeOf x) (λ a. run (g a) p) → v ≡ run (andThen t g) p
+stage-then = then-case outcomeOf
 
-  pub stage-wanted : (k : ℕ) → r ≡ out.Wanted k → wants k ≡ run (andThen t g) p
-  stage-wanted k q = then-case outcomeOf t g p r (out.Wanted k) _ e q refl
+module _ {B : Type 0} (t : Plan (List ℕ)) (g : List ℕ → Plan B) (p : List ℕ) (m : ℕ) (r : TraceOutcome) (buffer : List ℕ)
+    (a : TraceAnswer (run t p) m r buffer) where
+  pub trace-refuses : (f : Refusal) → r ≡ outcome.Refused f → decided (refuse f) ≡ run (andThen t g) p
+  trace-refuses f q = answer-then t g p _ (a .refused f q)
 
-  pub stage-passed : r ≡ out.Passed → run (g tt) p ≡ run (andThen t g) p
-  stage-passed q = then-case outcomeOf t g p r out.Passed _ e q refl
+  pub trace-wants : (k : ℕ) → r ≡ outcome.Wanted k → wants k ≡ run (andThen t g) p
+  trace-wants k q = answer-then t g p _ (a .wanted k q)
 
--- a plan whose answer is known
-pub answer-then : {A B : Type 0} (t : Plan A) (g : A → Plan B) (p : List ℕ) (x : Answer A) → run t p ≡ x → onward x (λ a. run (g a) p) ≡ run (andThen t g) p
-answer-then t g p x e = sym (run-then t g p ∙ ap (λ y. onward y (λ a. run (g a) p)) e)
+  pub trace-on : (n : ℕ) (v : Answer B) (q : r ≡ outcome.Chains n) → v ≡ run (g (a .passed n q .0)) p → v ≡ run (andThen t g) p
+  trace-on n v q h = h ∙ answer-then t g p _ (a .passed n q .1)
+
+-- 14 and 15, and the record
+abbrev lastPlan : ℕ → Opening → List ℕ → Plan Acceptable
+lastPlan m o s = do
+  volumesPlan o
+  top ← reach (headEnd (o .layout))
+  done (record { fields = recordOf o top (chains s); table = predecessors s m })
+
+-- all before them have passed
+module _ (m : ℕ) (o : Opening) (p : List ℕ) (r : Outcome) (e : outcomeOf r ≡ run (countsPlan m o) p) (q8 : r ≡ out.Passed)
+    (s : Outcome) (g : outcomeOf s ≡ run (fitsPlan o) p) (q9 : s ≡ out.Passed) (t : Outcome) (k : outcomeOf t ≡ run (textsPlan o) p) (q10 : t ≡ out.Passed)
+    (u : TraceOutcome) (buffer : List ℕ) (a : TraceAnswer (run (tracePlan o) p) m u buffer) (n : ℕ) (q13 : u ≡ outcome.Chains n) where
+  pub last-stage : (v : Answer Acceptable) → v ≡ run (lastPlan m o (a .passed n q13 .0)) p → v ≡ run (restPlan m o) p
+  unfolding restPlan
+  last-stage v h =
+      stage-then (countsPlan m o) _ p r _ v e q8
+      (stage-then (fitsPlan o) _ p s _ v g q9 (stage-then (textsPlan o) _ p t _ v k q10 (trace-on (tracePlan o) _ p m u buffer a n v q13 h)))
+
+-- the record that a call gave, with the chain count, and the buffer
+pub given-record : (o : Opening) (top p s : List ℕ) (m n : ℕ) (a : Acceptance) (after : List ℕ) → a ≡ recordOf o top n → n ≡ chains s
+    → after ≡ predecessors s m
+    → _≡_ {A = Answer Acceptable} (decided (accept (record { fields = a; table = after })))
+    (run (done (record { fields = recordOf o top (chains s); table = predecessors s m })) p)
+unfolding run
+given-record o top p s m n a after x y z =
+    let f : a ≡ recordOf o top (chains s) = x ∙ ap (recordOf o top) y in
+    λ i. decided (accept (record { fields = f i; table = z i }))
+
+-- what is known once 7 and 8 have passed
+pub places-room : (m : ℕ) (o : Opening) (p : List ℕ) (r : Outcome) → outcomeOf r ≡ run (countsPlan m o) p → r ≡ out.Passed → linkCount (o .layout) (o .head) ≤ m
+places-room m o p r e q = counts-met m o p r e q .0
+
+pub entries-room : (m : ℕ) (o : Opening) (p : List ℕ) (r : Outcome) → outcomeOf r ≡ run (countsPlan m o) p → r ≡ out.Passed → EntriesFit o
+entries-room m o p r e q = counts-met m o p r e q .1
+
+pub ruleset stages = (stage-then, trace-refuses, trace-wants, places-room, entries-room)

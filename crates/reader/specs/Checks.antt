@@ -1,5 +1,7 @@
--- ALL FIFTEEN CHECKS of document 01's table, from 1 to 15, and 21 of request 107 directly after 4: required length (document 01:
--- reach), number, fault with its index and file offset. Then the whole-file reader's 16 and 17, and the promises of both readers.
+-- ALL FIFTEEN CHECKS of document 01's table: 1 to 6, which crate `head` has, with 21 of request 107 directly after 4, and here 7 to 15:
+-- required length (document 01: reach), number, fault with its index and file offset. Then the whole-file reader's 16 and 17, and the
+-- promises of the readers.
+use mathlib.Core.Path.{_≡_}
 use mathlib.Core.Bool.{Bool, true, false}
 use mathlib.Core.List.{List}
 use Prim.Native.Nat.{ℕ, _+_, _*_, max}
@@ -7,17 +9,15 @@ use lib.Dec.{eqb, ltb}
 use lib.ListN.{length}
 use Rattle.lists.specs.Count.{pick}
 use Rattle.little_endian.specs.Number.{le}
-use Rattle.layout.specs.Head.{versionAt, declaredSizeAt, programNameAt, metricsOffsetAt, entryOffset}
-use Rattle.layout.specs.Versions.{versionOf, versionNumber, layoutOf, headEnd, runTimeAt, timeCount, runCountAt, volumeEntry, traceEntry}
-use Rattle.layout.specs.Versions.{hasNext, formRequired}
+use Rattle.layout.specs.Head.{declaredSizeAt, entryOffset}
+use Rattle.layout.specs.Versions.{versionNumber, headEnd, runTimeAt, timeCount, runCountAt, volumeEntry, traceEntry, hasNext}
 use Rattle.layout.specs.declared.Version.{Version}
 use Rattle.layout.specs.declared.Layout.{Layout}
 use Rattle.incremental.specs.Decision.{Decision, accept, refuse, refusal}
-use Rattle.incremental.specs.Plan.{Plan, decide, Answer, decided, wants, run, reach, check, given, done, _>>=_, _>>_}
-use Rattle.sections.specs.Fields.{declaredSize, storedHash, signatureFault, sizeFault, nameEnd, headOf, part, outsideFault, sharedFault}
-use Rattle.sections.specs.Fields.{formIn, linkCount, placesFault, entriesFault}
+use Rattle.incremental.specs.Plan.{Plan, decide, Answer, decided, wants, run, reach, check, done, _>>=_, _>>_}
+use Rattle.sections.specs.Fields.{declaredSize, storedHash, part, linkCount, placesFault, entriesFault}
 use Rattle.sections.specs.declared.Head.{Head}
-use Rattle.head.specs.Checks.{version, units}
+use Rattle.head.specs.Checks.{openPlan}
 use Rattle.head.specs.declared.checks.Opening.{Opening}
 use Rattle.names.specs.Names.{misfitFault, unsoundFault}
 use Rattle.trace.specs.Links as links
@@ -25,7 +25,9 @@ use Rattle.volumes.specs.Volumes.{volumesFrom}
 use Rattle.reader.specs.declared.verdict.RunTimes.{RunTimes}
 use Rattle.reader.specs.declared.verdict.Acceptance.{Acceptance}
 use Rattle.reader.specs.declared.verdict.Verdict.{Verdict}
-use Rattle.reader.specs.Verdict.{Acceptable, Reads}
+use Rattle.reader.specs.declared.verdict.FileVerdict.{FileVerdict}
+use Rattle.reader.specs.declared.verdict.FileVerdict.the-variants.{Accepted}
+use Rattle.reader.specs.Verdict.{Acceptable, Reads, verdictIn}
 
 -- the reach of 10: the greater of metrics end and strings end; with no metrics entry H
 abbrev pub namesRequired : Layout → Head → ℕ
@@ -86,38 +88,61 @@ recordOf o b chains =
       «chain_count» = chains;
     }
 
--- ALL CHECKS, with a working buffer of m places
-unfoldable pub readPlan : ℕ → Plan Acceptable
-readPlan m = do
-  b ← reach 4
-  v ← given 1 versionAt (version (versionOf (le 4 b versionAt)))
-  b ← reach 8
-  check 2 (signatureFault b)
-  b ← reach 16
-  check 3 (sizeFault (layoutOf v) b)
-  b ← reach 76
-  n ← given 4 programNameAt (units (nameEnd b))
-  b ← reach (formRequired (layoutOf v))
-  l ← given 21 metricsOffsetAt (formIn (layoutOf v) b)
-  top ← reach (headEnd l)
-  let h = headOf l top
-  let o = opening v l n h
-  check 5 (outsideFault l h)
-  check 6 (sharedFault h)
-  check 7 (placesFault m (linkCount l h))
-  check 8 (entriesFault (h .volumes .count) (volumeEntry l) (h .volumes .len))
-  b ← reach (h .metrics .end)
-  check 9 (misfitFault l (h .metrics .at) (part (h .metrics) b) (h .metrics .count) (h .strings .len))
-  b ← reach (namesRequired l h)
-  check 10 (unsoundFault l (h .metrics .at) (part (h .metrics) b) (h .metrics .count) (part (h .strings) b))
-  b ← reach (traceRequired l h)
+-- CHECKS 7 AND 8, with a working buffer of m places
+unfoldable pub countsPlan : ℕ → Opening → Plan Unit
+countsPlan m o = do
+  b ← reach (headEnd (o .layout))
+  check 7 (placesFault m (linkCount (o .layout) (o .head)))
+  check 8 (entriesFault (o .head .volumes .count) (volumeEntry (o .layout)) (o .head .volumes .len))
+  done tt
+
+-- CHECK 9
+unfoldable pub fitsPlan : Opening → Plan Unit
+fitsPlan o = do
+  b ← reach (o .head .metrics .end)
+  check 9 (misfitFault (o .layout) (o .head .metrics .at) (part (o .head .metrics) b) (o .head .metrics .count) (o .head .strings .len))
+  done tt
+
+-- CHECK 10
+unfoldable pub textsPlan : Opening → Plan Unit
+textsPlan o = do
+  b ← reach (namesRequired (o .layout) (o .head))
+  check 10 (unsoundFault (o .layout) (o .head .metrics .at) (part (o .head .metrics) b) (o .head .metrics .count) (part (o .head .strings) b))
+  done tt
+
+-- CHECKS 11 TO 13; they give the next indexes
+unfoldable pub tracePlan : Opening → Plan (List ℕ)
+tracePlan o = do
+  b ← reach (traceRequired (o .layout) (o .head))
   let s = nextsIn o b
   check 11 (links.astrayFault (linkAt o) s)
   check 12 (links.sharedFault (linkAt o) s)
   check 13 (links.cyclicFault (linkAt o) s)
-  b ← reach (volumesRequired l h)
-  decide (volumesFrom (part (h .volumes) b) l (h .volumes .at) (h .volumes .count) 0)
+  done s
+
+-- CHECKS 14 AND 15
+unfoldable pub volumesPlan : Opening → Plan Unit
+volumesPlan o = do
+  b ← reach (volumesRequired (o .layout) (o .head))
+  decide (volumesFrom (part (o .head .volumes) b) (o .layout) (o .head .volumes .at) (o .head .volumes .count) 0)
+  done tt
+
+-- CHECKS 7 TO 15, where 1 to 6 gave `o`; they give the record, by the first H bytes, and the table
+unfoldable pub restPlan : ℕ → Opening → Plan Acceptable
+restPlan m o = do
+  countsPlan m o
+  fitsPlan o
+  textsPlan o
+  s ← tracePlan o
+  volumesPlan o
+  top ← reach (headEnd (o .layout))
   done (record { fields = recordOf o top (links.chains s); table = links.predecessors s m })
+
+-- ALL CHECKS, with a working buffer of m places
+unfoldable pub readPlan : ℕ → Plan Acceptable
+readPlan m = do
+  o ← openPlan
+  restPlan m o
 
 -- what they answer on a prefix
 abbrev pub prefixAnswer : List ℕ → ℕ → Answer Acceptable
@@ -148,3 +173,8 @@ ReadsPrefix p buffer v after = Reads (prefixAnswer p (length buffer)) (length bu
 
 abbrev pub ReadsFile : List ℕ → List ℕ → Verdict → List ℕ → Type 0
 ReadsFile p buffer v after = Reads (fileAnswer p (length buffer)) (length buffer) v after
+
+-- and of the whole-file reader that hands the opening on: an acceptance comes with what checks 1 to 6 give
+pub record ReadsOpened (p buffer : List ℕ) (r : FileVerdict) (after : List ℕ) : Type 0 where
+  pub reads : ReadsFile p buffer (verdictIn r) after
+  pub opens : (a : Acceptance) (o : Opening) → r ≡ Accepted a o → run openPlan p ≡ decided (accept o)

@@ -10,6 +10,8 @@ use Rattle.reader.specs.declared.verdict.RunTimes.{RunTimes}
 use Rattle.reader.specs.declared.verdict.Acceptance.{Acceptance}
 use Rattle.reader.specs.declared.verdict.Verdict.{Verdict}
 use Rattle.reader.specs.declared.verdict.Verdict.the-variants.{Accepted, Refused, Wanted}
+use Rattle.reader.specs.declared.verdict.FileVerdict.{FileVerdict}
+use Rattle.reader.specs.declared.verdict.FileVerdict.the-variants as file
 
 -- what all checks give: the acceptance record, and the table of predecessors
 pub record Acceptable : Type 0 where
@@ -59,6 +61,11 @@ abbrev pub valuesOf : Verdict → Values
 valuesOf (Accepted a) = acceptedValues a
 valuesOf (Refused r) = refusedValues r
 valuesOf (Wanted k) = wantedValues k
+
+-- the verdict that each case of the whole-file reader's says; an acceptance there has what checks 1 to 6 gave beside it
+abbrev pub verdictIn : FileVerdict → Verdict
+verdictIn (file.Accepted a o) = Accepted a
+verdictIn (file.Refused r) = Refused r
 
 -- what the checks say
 abbrev pub answerValues : Answer Acceptable → Values

@@ -1,13 +1,16 @@
 ghost use mathlib.Core.Path.{_≡_};
 ghost use Prim.Native.Nat.{_≤_};
 ghost use lib.ListN.{length};
+ghost use Rattle.layout.specs.Head.{declaredSizeAt};
+ghost use Rattle.incremental.specs.Decision.{refusal};
 ghost use Rattle.incremental.specs.Plan.{run, outcomeOf};
 ghost use Rattle.sections.specs.Fields.{linkCount};
-ghost use Rattle.head.specs.Private.{OpenFacts};
-ghost use Rattle.reader.specs.Verdict.{Reads};
-ghost use Rattle.reader.specs.Checks.{namesRequired, traceRequired, volumesRequired, prefixAnswer, ReadsPrefix, ReadsFile};
-ghost use Rattle.reader.specs.Private.{fitsPlan, textsPlan, tracePlan, TraceAnswer, volumesPlan, EntriesFit, tablesAnswer, restPlan};
-ghost use Rattle.reader.specs.Private.{verdictOf, wrongLength};
+ghost use Rattle.head.specs.Opened.{OpenFacts};
+ghost use Rattle.reader.specs.Checks.{namesRequired, traceRequired, volumesRequired};
+ghost use Rattle.reader.specs.Checks.{countsPlan, fitsPlan, textsPlan, tracePlan, volumesPlan, restPlan};
+ghost use Rattle.reader.specs.Checks.{prefixAnswer, ReadsPrefix, ReadsFile, ReadsOpened};
+ghost use Rattle.reader.specs.Private.{TraceAnswer, EntriesFit, verdictOf, Refuses};
+use crate::verdict::FileVerdict;
 use crate::verdict::Verdict;
 use head::OpenAnswer;
 use head::Opening;
@@ -22,6 +25,26 @@ enum TraceOutcome {
     Chains(usize),
     Refused(Refusal),
     Wanted(usize),
+}
+
+// Checks 7 and 8, with so many places in the working buffer.
+fn check_counts(file: &[u8], o: Opening, places: usize) -> Outcome
+    ensures { λ r. ⌜ outcomeOf r ≡ run (countsPlan places o) (now (file .entry)) ⌝ }
+{
+    let volumes = o.head.volumes;
+    let entry = o.layout.volume_entry;
+    let required = o.layout.head_end as usize;
+    if file.len() < required {
+        return Outcome::Wanted(required);
+    }
+    let links = sections::link_count(o.layout, o.head);
+    if let Fault::At(i, at) = sections::places_fault(places, links) {
+        return Outcome::Refused(incremental::refuse(7, i, at));
+    }
+    if let Fault::At(i, at) = sections::entries_fault(volumes.count, entry, volumes.len) {
+        return Outcome::Refused(incremental::refuse(8, i, at));
+    }
+    Outcome::Passed
 }
 
 // Document 01: the reach of check 10.
@@ -142,12 +165,16 @@ fn check_volumes(file: &[u8], o: Opening) -> Outcome
     }
 }
 
-// Checks 9 to 15 and the record, where 7 and 8 have passed.
-fn check_tables(file: &[u8], o: Opening, predecessors: &mut [u32]) -> Verdict
-    requires { ⌜ OpenFacts (now file) o × EntriesFit o × (linkCount (o .layout) (o .head) ≤ length (now predecessors)) ⌝ }
-    ensures { λ r. ⌜ verdictOf r (now (predecessors .exit)) ≡ tablesAnswer (length (now (predecessors .entry))) o (now (file .entry)) ⌝ }
+// Checks 7 to 15 and the record.
+fn check_rest(file: &[u8], o: Opening, predecessors: &mut [u32]) -> Verdict
+    requires { ⌜ OpenFacts (now file) o ⌝ }
+    ensures { λ r. ⌜ verdictOf r (now (predecessors .exit)) ≡ run (restPlan (length (now (predecessors .entry))) o) (now (file .entry)) ⌝ }
 {
-    let h = o.layout.head_end as usize;
+    match check_counts(file, o, predecessors.len()) {
+        Outcome::Passed => {}
+        Outcome::Refused(r) => return Verdict::Refused(r),
+        Outcome::Wanted(k) => return Verdict::Wanted(k),
+    }
     match check_fits(file, o) {
         Outcome::Passed => {}
         Outcome::Refused(r) => return Verdict::Refused(r),
@@ -164,27 +191,13 @@ fn check_tables(file: &[u8], o: Opening, predecessors: &mut [u32]) -> Verdict
         TraceOutcome::Wanted(k) => return Verdict::Wanted(k),
     };
     match check_volumes(file, o) {
-        Outcome::Passed => Verdict::Accepted(crate::verdict::record_of(o, &file[..h], chains)),
+        Outcome::Passed => {
+            let h = o.layout.head_end as usize;
+            Verdict::Accepted(crate::verdict::record_of(o, &file[..h], chains))
+        }
         Outcome::Refused(r) => Verdict::Refused(r),
         Outcome::Wanted(k) => Verdict::Wanted(k),
     }
-}
-
-// Checks 7 to 15.
-fn check_rest(file: &[u8], o: Opening, predecessors: &mut [u32]) -> Verdict
-    requires { ⌜ OpenFacts (now file) o ⌝ }
-    ensures { λ r. ⌜ verdictOf r (now (predecessors .exit)) ≡ run (restPlan (length (now (predecessors .entry))) o) (now (file .entry)) ⌝ }
-{
-    let volumes = o.head.volumes;
-    let links = sections::link_count(o.layout, o.head);
-    let entry = o.layout.volume_entry;
-    if let Fault::At(i, at) = sections::places_fault(predecessors.len(), links) {
-        return Verdict::Refused(incremental::refuse(7, i, at));
-    }
-    if let Fault::At(i, at) = sections::entries_fault(volumes.count, entry, volumes.len) {
-        return Verdict::Refused(incremental::refuse(8, i, at));
-    }
-    check_tables(file, o, predecessors)
 }
 
 // All checks. Where they accept, the buffer is the table.
@@ -215,30 +228,54 @@ pub fn read_prefix(file: &[u8], predecessors: &mut [u32]) -> Verdict
     }
 }
 
-// Refusal 16 or 17 of a file that is not as long as it says.
-fn wrong_length(number: u32, predecessors: &mut [u32]) -> Verdict
-    ensures { λ r. ⌜ Reads (wrongLength number) (length (now (predecessors .entry))) r (now (predecessors .exit)) ⌝ }
+// A file that is refused; the buffer is filled.
+fn refused(r: Refusal, predecessors: &mut [u32]) -> FileVerdict
+    ensures { λ v. ⌜ Refuses r (length (now (predecessors .entry))) v (now (predecessors .exit)) ⌝ }
 {
     lists::fill(predecessors);
-    Verdict::Refused(incremental::refuse(number, 0, layout::DECLARED_SIZE_AT))
+    FileVerdict::Refused(r)
+}
+
+// Refusal 16 or 17 of a file that is not as long as it says.
+fn wrong_length(number: u32, predecessors: &mut [u32]) -> FileVerdict
+    ensures { λ r. ⌜ Refuses (refusal number 0 declaredSizeAt) (length (now (predecessors .entry))) r (now (predecessors .exit)) ⌝ }
+{
+    refused(
+        incremental::refuse(number, 0, layout::DECLARED_SIZE_AT),
+        predecessors,
+    )
+}
+
+// The verdict on a whole file, with what checks 1 to 6 give, for those who go on from there.
+pub fn read_opened(file: &[u8], predecessors: &mut [u32]) -> FileVerdict
+    ensures { λ r. ⌜ ReadsOpened (now (file .entry)) (now (predecessors .entry)) r (now (predecessors .exit)) ⌝ }
+{
+    match head::read_open(file) {
+        OpenAnswer::Opened(o) => match check_rest(file, o, predecessors) {
+            Verdict::Accepted(a) => {
+                let size = a.declared_size as usize;
+                if file.len() < size {
+                    return wrong_length(16, predecessors);
+                }
+                if size < file.len() {
+                    return wrong_length(17, predecessors);
+                }
+                FileVerdict::Accepted(a, o)
+            }
+            Verdict::Refused(r) => refused(r, predecessors),
+            Verdict::Wanted(_) => wrong_length(16, predecessors),
+        },
+        OpenAnswer::Refused(r) => refused(r, predecessors),
+        OpenAnswer::Wanted(_) => wrong_length(16, predecessors),
+    }
 }
 
 // The verdict on a whole file.
 pub fn read_file(file: &[u8], predecessors: &mut [u32]) -> Verdict
     ensures { λ r. ⌜ ReadsFile (now (file .entry)) (now (predecessors .entry)) r (now (predecessors .exit)) ⌝ }
 {
-    match read_prefix(file, predecessors) {
-        Verdict::Accepted(a) => {
-            let size = a.declared_size as usize;
-            if file.len() < size {
-                return wrong_length(16, predecessors);
-            }
-            if size < file.len() {
-                return wrong_length(17, predecessors);
-            }
-            Verdict::Accepted(a)
-        }
-        Verdict::Refused(r) => Verdict::Refused(r),
-        Verdict::Wanted(_) => wrong_length(16, predecessors),
+    match read_opened(file, predecessors) {
+        FileVerdict::Accepted(a, _) => Verdict::Accepted(a),
+        FileVerdict::Refused(r) => Verdict::Refused(r),
     }
 }

@@ -37,6 +37,12 @@ pub enum Verdict {
     Wanted(usize),
 }
 
+// The verdict on a whole file: what it says, with what checks 1 to 6 give, or the refusal.
+pub enum FileVerdict {
+    Accepted(Acceptance, Opening),
+    Refused(Refusal),
+}
+
 // Run time j of a version, from the first bytes of a file.
 fn time_at(l: Layout, b: &[u8], j: u16) -> u64
     ensures { λ r. ⌜ r ≡ timeAt l (now (b .entry)) j ⌝ }

@@ -1,10 +1,16 @@
-use Rattle.reader.proofs.Readers.{reads-wrong}
+use Rattle.reader.proofs.Readers.{refuses-as}
 use borrow.Author.Needs.{needs}
 use Rattle.reader.proofs.checks.wrong_length.Statement.{statement}
 use Rattle.reader.proofs.checks.wrong_length.Tie as tie
 
 returns : tie.Need-returns
-returns c = reads-wrong _ _ _ _ (c .refuse .ensures) (c .before .before .before .fill .ensures)
+returns c = search refuses-as
 
 pub wrong-length-spec : {M : Type 1} → statement M
-wrong-length-spec = tie.close (tie.spec (λ c κs. search needs) (λ c κs. search needs) (λ c. search needs) returns)
+wrong-length-spec =
+    tie.close
+    (tie.spec
+    (λ c κs. search needs)
+    (λ c κs. search needs)
+    (λ c. search needs)
+    returns)
