@@ -4,7 +4,9 @@ use mathlib.Core.List.{List, [], _∷_}
 use Prim.Native.Nat.{ℕ, suc, _+_, _*_, _≤_, _<_, _^_}
 use lib.ListN.{length, set}
 use Rattle.incremental.specs.Decision.{accept}
-use Rattle.incremental.specs.Plan.{decided}
+use Rattle.incremental.specs.Plan.{decided, run}
+use Rattle.head.specs.Checks.{openPlan}
+use Rattle.head.specs.declared.checks.Opening.{Opening}
 use Rattle.trace.specs.Links.{end, follow, predecessors, linkChecks}
 use Rattle.trace.specs.Private.{InRange}
 use Rattle.reader.specs.Verdict.{Acceptable}
@@ -48,11 +50,12 @@ pub record WalkFits (s table : List ℕ) (room : ℕ) : Type 0 where
   pub holds : table ≡ predecessors s (length table)
   pub fits : length s ≤ room
 
--- the whole-file reader accepts, and the buffer is the table that it left
-pub record Accepts (p buffer : List ℕ) : Type 0 where
+-- the whole-file reader accepts, the buffer is the table that it left, and checks 1 to 6 give the opening
+pub record Accepts (p buffer : List ℕ) (o : Opening) : Type 0 where
   pub given : Acceptable
   pub answer : fileAnswer p (length buffer) ≡ decided (accept given)
   pub table : buffer ≡ given .table
+  pub opens : run openPlan p ≡ decided (accept o)
 
 -- nothing visited
 abbrev pub noVisits : Visits

@@ -6,13 +6,9 @@ ghost use Rattle.little_endian.specs.Number.{le};
 ghost use Rattle.trace.specs.Links.{nexts};
 ghost use Rattle.walk.specs.Walk.{blocks, chainOf, walk, Walks};
 ghost use Rattle.walk.specs.Private.{ChainFits, WalkFits, After, noVisits, Accepts};
-ghost use Rattle.incremental.specs.Decision.{accept};
-ghost use Rattle.incremental.specs.Plan.{decided, run};
-ghost use Rattle.head.specs.Checks.{openPlan};
-use head::OpenAnswer;
 use head::Opening;
 use incremental::Refusal;
-use reader::Verdict;
+use reader::FileVerdict;
 
 // The steps taken and the sum of the block counts, or the refusal.
 pub enum WalkAnswer {
@@ -86,9 +82,9 @@ fn walk_chains(section: &[u8], entries: u32, predecessors: &[u32], order: &mut [
     visits
 }
 
-// The walk of a file that is accepted and opens: 23, or all chains.
+// The walk of a file that is accepted: 23, or all chains.
 fn walk_opened(file: &[u8], o: Opening, predecessors: &mut [u32], order: &mut [u32]) -> WalkAnswer
-    requires { ⌜ Accepts (now file) (now predecessors) × (run openPlan (now file) ≡ decided (accept o)) ⌝ }
+    requires { ⌜ Accepts (now file) (now predecessors) o ⌝ }
     ensures { λ r.
         ⌜ Walks (now (file .entry)) (now (predecessors .entry)) (now (order .entry)) r (now (predecessors .exit)) (now (order .exit)) ⌝ }
 {
@@ -107,35 +103,13 @@ fn walk_opened(file: &[u8], o: Opening, predecessors: &mut [u32], order: &mut [u
     }
 }
 
-// The walk of a file that is accepted: its sections are looked for again, since a verdict does not hand them on.
-fn walk_accepted(file: &[u8], predecessors: &mut [u32], order: &mut [u32]) -> WalkAnswer
-    requires { ⌜ Accepts (now file) (now predecessors) ⌝ }
-    ensures { λ r.
-        ⌜ Walks (now (file .entry)) (now (predecessors .entry)) (now (order .entry)) r (now (predecessors .exit)) (now (order .exit)) ⌝ }
-{
-    match head::read_open(file) {
-        OpenAnswer::Opened(o) => walk_opened(file, o, predecessors, order),
-        OpenAnswer::Refused(r) => WalkAnswer::Refused(r),
-        OpenAnswer::Wanted(_) => WalkAnswer::Refused(incremental::refuse(
-            16,
-            0,
-            layout::DECLARED_SIZE_AT,
-        )),
-    }
-}
-
 // All chains of a file from each head in index order, and the sum of the block counts along them.
 pub fn walk(file: &[u8], predecessors: &mut [u32], order: &mut [u32]) -> WalkAnswer
     ensures { λ r.
         ⌜ Walks (now (file .entry)) (now (predecessors .entry)) (now (order .entry)) r (now (predecessors .exit)) (now (order .exit)) ⌝ }
 {
-    match reader::read_file(file, predecessors) {
-        Verdict::Accepted(_) => walk_accepted(file, predecessors, order),
-        Verdict::Refused(r) => WalkAnswer::Refused(r),
-        Verdict::Wanted(_) => WalkAnswer::Refused(incremental::refuse(
-            16,
-            0,
-            layout::DECLARED_SIZE_AT,
-        )),
+    match reader::read_opened(file, predecessors) {
+        FileVerdict::Accepted(_, o) => walk_opened(file, o, predecessors, order),
+        FileVerdict::Refused(r) => WalkAnswer::Refused(r),
     }
 }

@@ -11,7 +11,7 @@ returns c =
     let test = filled .before .before in
     let count = test .before in
     let start = count .before .before .before .before .before .before in
-    walks-short _ _ (start .pre .0) _ (start .pre .1) _ _ _ (omega (arith, count .link-count .ensures)) (c .refuse .ensures) (filled .fill .ensures)
+    walks-short _ _ _ (start .pre) _ _ _ (omega (arith, count .link-count .ensures)) (c .refuse .ensures) (filled .fill .ensures)
 
 walk-chains-requires : tie.Need-walk-chains-requires
 walk-chains-requires c κs =
@@ -20,7 +20,7 @@ walk-chains-requires c κs =
     let start = count .before .before .before .before .before .before in
     let links = count .link-count .ensures in
     let bytes = part .part-of .ensures .contents in
-    (walk-fits-at _ _ (start .pre .0) _ (start .pre .1) _ _ _ bytes links (omega arith), section-whole _ _ (start .pre .0) _ (start .pre .1) _ _ bytes links)
+    (walk-fits-at _ _ _ (start .pre) _ _ _ bytes links (omega arith), section-whole _ _ _ (start .pre) _ _ bytes links)
 
 returns-2 : tie.Need-returns-2
 returns-2 c =
@@ -28,7 +28,7 @@ returns-2 c =
     let part = walked .before .before .before in
     let count = part .before .before in
     let start = count .before .before .before .before .before .before in
-    walks-all-at _ _ (start .pre .0) _ (start .pre .1) _ _ _ _ _ (part .part-of .ensures .contents) (count .link-count .ensures) (omega arith)
+    walks-all-at _ _ _ (start .pre) _ _ _ _ _ (part .part-of .ensures .contents) (count .link-count .ensures) (omega arith)
     (walked .walk-chains .ensures)
 
 pub walk-opened-spec : {M : Type 1} → statement M
