@@ -13,30 +13,30 @@ use Rattle.lists.specs.declared.Found.the-variants.{Nothing}
 use Rattle.little_endian.specs.Number.{le}
 use Rattle.little_endian.proofs.Number.{le-take}
 use Rattle.layout.specs.Head.{versionAt, declaredSizeAt, programNameAt}
-use Rattle.layout.specs.Versions.{versionNumber, versionOf, layoutOf, headEnd, runTimeAt, sizeLimit}
+use Rattle.layout.specs.Versions.{versionNumber, versionOf, layoutOf, headEnd, runTimeAt, volumeEntry, sizeLimit}
 use Rattle.layout.specs.declared.Version.{Version}
 use Rattle.layout.specs.declared.Layout.{Layout}
 use Rattle.layout.specs.declared.KnownVersion.the-variants.{Known}
 use Rattle.incremental.specs.Decision.{Decision, accept, refuse, refusal, faultOf, check as checkNow, _>>=_, _>>_}
 use Rattle.incremental.specs.Plan.{Plan, decide, decided, run, andThen, reach, check, given, done}
+use Rattle.incremental.specs.declared.Refusal.{Refusal}
 use Rattle.incremental.specs.declared.Fault.{Fault}
 use Rattle.incremental.specs.declared.Fault.the-variants.{At, Nowhere}
-use Rattle.incremental.proofs.Plan.{onward, run-then, run-decide, reach-here, check-passed, check-fault, given-some, given-none}
-use Rattle.sections.specs.Fields.{declaredSize, signatureFault, part, linkCount, placesFault}
+use Rattle.incremental.proofs.Plan.{onward, run-then, answer-then, run-decide, reach-here, check-passed, check-fault, given-some, given-none}
+use Rattle.sections.specs.Fields.{declaredSize, signatureFault, part, linkCount, placesFault, entriesFault}
 use Rattle.sections.proofs.Cases.{signature-right, size-high, size-right, links-all}
-use Rattle.head.specs.Checks.{version, units, openPlan}
-use Rattle.head.specs.Private.{OpenFacts}
+use Rattle.head.specs.Checks.{version, units, startPlan, openPlan}
+use Rattle.head.specs.Opened.{OpenFacts}
 use Rattle.head.specs.declared.checks.Opening.{Opening}
-use Rattle.head.proofs.Facts.{open-complete, open-sound}
+use Rattle.head.proofs.Facts.{open-sound}
 use Rattle.names.specs.Names.{nameFieldAt, misfitFault, misfitPair, unsoundFault, unsoundPair}
 use Rattle.trace.specs.Links.{astrayFault, sharedFault, cyclicFault, linkChecks, chains, predecessors}
 use Rattle.volumes.specs.Volumes.{volumesFrom}
 use Rattle.reader.specs.Verdict.{Acceptable}
-use Rattle.reader.specs.Checks.{namesRequired, traceRequired, volumesRequired, nextsIn, linkAt, opening, recordOf, readPlan, prefixAnswer, whole, fileAnswer}
-use Rattle.reader.specs.Private.{fitsPlan, textsPlan, tracePlan, volumesPlan, tablesPlan, restPlan}
-use Rattle.reader.proofs.Opens.{read-opens}
+use Rattle.reader.specs.Checks.{namesRequired, traceRequired, volumesRequired, nextsIn, linkAt, opening, recordOf, prefixAnswer, whole, fileAnswer}
+use Rattle.reader.specs.Checks.{countsPlan, fitsPlan, textsPlan, tracePlan, volumesPlan, restPlan, readPlan}
 use Rattle.reader.proofs.Early.{names-required-low, trace-required-low, volumes-required-low}
-use Rattle.reader.proofs.AllowedLaws.{misfit-take, unsound-take, nexts-take, volumes-take, record-take}
+use Rattle.reader.proofs.AllowedLaws.{misfit-take, unsound-take, nexts-take, volumes-take, record-take, read-rest}
 use Rattle.writer.specs.LaidOut.{Description, carried, pairs, metricsAt, volumesAt, laidSize}
 use Rattle.writer.specs.Private.{Writable, headFor, linksIn, sectionChecks, recordFor, acceptableFor, described}
 use Rattle.writer.proofs.Facts.{StartFacts, LaidFacts}
@@ -53,15 +53,28 @@ then-decides {A = A} t g p c f k e h = run-then t g p ∙ ap (λ x. onward x (λ
     go (accept a) = h a
     go (refuse r) = refl
 
--- a check alone, and with nothing after it
-check-decides : (n : ℕ) (f g : Fault) (p : List ℕ) → f ≡ g → run (check n f) p ≡ decided (checkNow n g)
-unfolding check run
-check-decides n f g p e = ap (λ (x : Fault). decided (checkNow n x)) e
-
+-- a decision with nothing after it
 last-decides : (d : Decision Unit) (p : List ℕ) → run (andThen (decide d) (λ _. done tt)) p ≡ decided d
 unfolding run andThen
 last-decides (accept tt) p = refl
 last-decides (refuse r) p = refl
+
+-- checks 7 and 8
+counted-lines : (a b : Fault) (p : List ℕ) → run (andThen (check 7 a) λ _. andThen (check 8 b) λ _. done tt) p ≡ decided (checkNow 7 a >> checkNow 8 b)
+unfolding run andThen check
+counted-lines (At i at) b p = refl
+counted-lines Nowhere (At i at) p = refl
+counted-lines Nowhere Nowhere p = refl
+
+counts-then : {C : Type 0} (t : Plan Unit) (g : Unit → Plan C) (p : List ℕ) (a b : Fault) (later : Decision ℕ) (k : ℕ → Decision C)
+    → run t p ≡ decided (checkNow 7 a >> checkNow 8 b) → run (g tt) p ≡ decided (later >>= k)
+    → run (andThen t g) p ≡ decided ((checkNow 7 a >> (checkNow 8 b >> later)) >>= k)
+counts-then t g p a b later k e h = run-then t g p ∙ ap (λ x. onward x (λ u. run (g u) p)) e ∙ go a b
+  where
+    go : (a b : Fault) → onward (decided (checkNow 7 a >> checkNow 8 b)) (λ u. run (g u) p) ≡ decided ((checkNow 7 a >> (checkNow 8 b >> later)) >>= k)
+    go (At i at) b = refl
+    go Nowhere (At i at) = refl
+    go Nowhere Nowhere = h
 
 -- checks 11 to 13, and what they hand on: the next indexes in the plan, the chain count in the decision
 abbrev linked : {A : Type 0} → Fault → Fault → Fault → A → Decision A
@@ -119,20 +132,25 @@ module _ (v : Version) (l : Layout) (d : Description) (p : List ℕ) (m : ℕ) (
     size-reads : min (laidSize l d) 4_294_967_295 ≡ le 4 (take 16 p) 12
     size-reads = sym (le-take 4 16 p 12 (omega arith) ∙ s .size)
 
+    -- what checks 1 to 4 refuse is refused
+    start-refuses : (r : Refusal) → run startPlan p ≡ decided (refuse r) → fileAnswer p m ≡ decided (refuse r)
+    unfolding openPlan readPlan
+    start-refuses r e = ap (whole (length p)) (sym (answer-then openPlan _ p _ (sym (answer-then startPlan _ p _ e))))
+
     pub too-large : sizeLimit < laidSize l d → fileAnswer p m ≡ decided (refuse (refusal 3 0 declaredSizeAt))
-    unfolding readPlan
+    unfolding startPlan
     too-large h =
         let n = long-head in
-        ap (whole (length p))
+        start-refuses _
         (begins _
         ∙ reach-here 16 _ p (omega arith)
         ∙ check-fault 3 _ _ p 0 12 (sym (size-high (layoutOf v) _ _ size-reads (rw (← laid) (omega arith)) (omega arith))))
 
     pub name-endless : laidSize l d ≤ sizeLimit → length (carried d) ≡ 30 → fileAnswer p m ≡ decided (refuse (refusal 4 0 programNameAt))
-    unfolding readPlan
+    unfolding startPlan
     name-endless h e =
         let n = long-head in
-        ap (whole (length p))
+        start-refuses _
         (begins _
         ∙ reach-here 16 _ p (omega arith)
         ∙ check-passed 3 _ _ p (sym (size-right (layoutOf v) _ _ size-reads (rw (← laid) (omega arith)) (omega arith)))
@@ -173,6 +191,13 @@ module _ (v : Version) (l : Layout) (d : Description) (p : List ℕ) (m : ℕ) (
     links-same = rw (← links-all l (headFor l d) (w .linked)) (f .links)
 
     -- the stages
+    counts-decide : run (countsPlan m o) p
+        ≡ decided (checkNow 7 (placesFault m (pairs (d .trace))) >> checkNow 8 (entriesFault (d .volumeCount) (volumeEntry l) (length (d .volumes))))
+    unfolding countsPlan
+    counts-decide =
+        let fit = entriesFault (d .volumeCount) (volumeEntry l) (length (d .volumes)) in
+        reach-here (headEnd l) _ p (open-facts .whole) ∙ counted-lines _ fit p ∙ ap (λ (x : Fault). decided (checkNow 7 x >> checkNow 8 fit)) places-same
+
     fits-decides : run (fitsPlan o) p ≡ decided (checkNow 9 (misfitPair l (metricsAt l) (d .metrics) (pairs (d .metrics)) (length (d .strings))))
     unfolding fitsPlan check
     fits-decides =
@@ -214,19 +239,20 @@ module _ (v : Version) (l : Layout) (d : Description) (p : List ℕ) (m : ℕ) (
         run-decide _ p ∙ (λ i. decided (accept (record { fields = q i; table = predecessors (linksIn d) m })))
 
     rest-decides : run (restPlan m o) p ≡ decided (described v l d m)
-    unfolding restPlan tablesPlan sectionChecks
+    unfolding restPlan sectionChecks
     rest-decides =
         let k : ℕ → Decision Acceptable = λ n. accept (acceptableFor v l d m n) in
-        reach-here (headEnd l) _ p (open-facts .whole)
-        ∙ then-decides (check 7 _) _ p _ _ k (check-decides 7 _ _ p places-same) λ _.
-        then-decides (check 8 _) _ p _ _ k (check-decides 8 _ _ p refl) λ _.
-        then-decides (fitsPlan o) _ p _ _ k fits-decides λ _.
+        let room = placesFault m (pairs (d .trace)) in
+        let fit = entriesFault (d .volumeCount) (volumeEntry l) (length (d .volumes)) in
+        counts-then (countsPlan m o) _ p room fit _ k counts-decide
+        (then-decides (fitsPlan o) _ p _ _ k fits-decides λ _.
         then-decides (textsPlan o) _ p _ _ k texts-decide λ _.
         links-decide (tracePlan o) _ p (linkAt o) (linksIn d) _ k trace-decides
-        (then-decides (volumesPlan o) _ p _ (λ _. accept (chains (linksIn d))) k volumes-decide λ _. done-same)
+        (then-decides (volumesPlan o) _ p _ (λ _. accept (chains (linksIn d))) k volumes-decide λ _.
+        reach-here (headEnd l) _ p (open-facts .whole) ∙ done-same))
 
     checks-decide : prefixAnswer p m ≡ decided (described v l d m)
-    checks-decide = sym (read-opens m p) ∙ run-then openPlan (restPlan m) p ∙ rw (open-complete p o open-facts) rest-decides
+    checks-decide = read-rest m p o open-facts ∙ rest-decides
 
     pub laid-answer : fileAnswer p m ≡ decided (described v l d m)
     laid-answer = ap (whole (length p)) checks-decide ∙ go (sectionChecks l d m)

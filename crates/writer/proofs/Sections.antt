@@ -17,7 +17,7 @@ use Rattle.incremental.specs.declared.Fault.the-variants.{Nowhere}
 use Rattle.sections.specs.Fields.{declaredSize, sectionOf, outsideFault, sharedFault}
 use Rattle.sections.proofs.Cases.{signature-right, form-one}
 use Rattle.head.specs.Rules.{Inside, Apart}
-use Rattle.head.specs.Private.{OpenFacts}
+use Rattle.head.specs.Opened.{OpenFacts}
 use Rattle.head.proofs.Rules.{outside-law, shares-law}
 use Rattle.reader.specs.Checks.{opening}
 use Rattle.writer.specs.LaidOut.{Description, carried, pairs, metricsAt, traceAt, stringsAt, volumesAt, laidSize}
