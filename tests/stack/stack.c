@@ -10,8 +10,8 @@
 
 #include "hivesaddle.h"
 
-/* The year's table is handed back by value: 72 KiB for each copy of it. */
-#define STACK_BYTES 1048576
+/* The deepest call keeps the sums of the year's 1,024 hashes there. */
+#define STACK_BYTES 262144
 #define PATTERN 0xA5
 
 static _Alignas(64) unsigned char stack[STACK_BYTES];

@@ -6,8 +6,8 @@ pub mod Entries
 pub mod Faults
 pub mod Taking
 pub mod Starts
+pub mod Signed
 pub mod Means
-pub mod Columns
 pub mod Shown
 pub mod Whole
 pub mod Order
