@@ -15,15 +15,8 @@ use walk::WalkAnswer;
 use writer::Given;
 
 // The values of a verdict: a refusal's number, index and offset, or the bytes wanted, or a record; zeros for what it has not.
-fn record_reply(
-    kind: u32,
-    number: u32,
-    index: usize,
-    offset: usize,
-    wanted: usize,
-    a: Acceptance,
-) -> Reply
-    ensures { λ r. ⌜ saidBy r ≡ verdictSaid (valuesWith kind number index offset wanted a) ⌝ }
+fn reply_of(kind: u32, number: u32, index: usize, at: usize, wanted: usize, a: Acceptance) -> Reply
+    ensures { λ r. ⌜ saidBy r ≡ verdictSaid (valuesWith kind number index at wanted a) ⌝ }
 {
     let t = a.times;
     let values = [
@@ -40,7 +33,7 @@ fn record_reply(
         a.trace_count as u64,
         a.volume_count as u64,
         a.chain_count as u64,
-        offset as u64,
+        at as u64,
         t.count as u64,
         t.second,
         t.third,
@@ -90,9 +83,9 @@ fn verdict_reply(v: Verdict) -> Reply
     ensures { λ r. ⌜ saidBy r ≡ verdictSaid (valuesOf v) ⌝ }
 {
     match v {
-        Verdict::Accepted(a) => record_reply(0, 0, 0, 0, 0, a),
-        Verdict::Refused(r) => record_reply(1, r.number, r.index, r.offset, 0, no_record()),
-        Verdict::Wanted(k) => record_reply(2, 0, 0, 0, k, no_record()),
+        Verdict::Accepted(a) => reply_of(0, 0, 0, 0, 0, a),
+        Verdict::Refused(r) => reply_of(1, r.number, r.index, r.offset, 0, no_record()),
+        Verdict::Wanted(k) => reply_of(2, 0, 0, 0, k, no_record()),
     }
 }
 

@@ -19,13 +19,13 @@ use Rattle.layout.specs.declared.Version.the-variants.{V17, V23}
 use Rattle.layout.specs.declared.KnownVersion.the-variants.{Known}
 use Rattle.layout.specs.declared.Layout.{Layout}
 use Rattle.incremental.specs.Decision.{Decision, accept, refuse, refusal, _>>=_}
-use Rattle.incremental.specs.Plan.{Answer, decided}
+use Rattle.incremental.specs.Plan.{decided}
 use Rattle.incremental.specs.declared.Refusal.{Refusal}
 use Rattle.lists.specs.Filled.{filled}
 use Rattle.trace.specs.Links.{firsts, predecessors, linksOf}
 use Rattle.trace.specs.declared.Links.{Links}
 use Rattle.trace.specs.declared.Links.the-variants as links
-use Rattle.reader.specs.Verdict.{Acceptable, Reads, refusedValues, acceptedValues}
+use Rattle.reader.specs.Verdict.{Reads, refusedValues, acceptedValues}
 use Rattle.reader.specs.Checks.{fileAnswer}
 use Rattle.reader.specs.declared.verdict.Verdict.{Verdict}
 use Rattle.reader.specs.declared.verdict.Verdict.the-variants as verdict
@@ -56,11 +56,6 @@ lays-refused file buffer output after f r a k h = record { reads = rw a h; place
 
 pub read-refused : (file : List ℕ) (m n : ℕ) (f : Refusal) → fileAnswer file m ≡ decided (refuse f) → placedAnswer file m n ≡ decided (refuse f)
 read-refused file m n f e = ap (roomed (ltb n (length file))) e
-
--- the buffer's length counts alone
-pub lays-long : (a : ℕ → Answer Acceptable) (file buffer before output : List ℕ) (r : Verdict) (after output′ : List ℕ) → length before ≡ length buffer
-    → Lays (a (length before)) file before output r after output′ → Lays (a (length buffer)) file buffer output r after output′
-lays-long a file buffer before output r after output′ e h = record { reads = rw (← e) (h .reads); placed = rw (← e) (h .placed) }
 
 -- ---- a plan within the limit
 module _ (w : Draft) (name metrics trace strings volumes : List ℕ) (r : Ready w (descriptionOf name (w .given) metrics trace strings volumes))

@@ -2,8 +2,8 @@
 use mathlib.Core.Path.{refl}
 use native.Mathlib.Omega.{arith}
 use borrow.Author.Needs.{needs}
-use Rattle.hivesaddle.proofs.files.record_reply.Statement.{statement}
-use Rattle.hivesaddle.proofs.files.record_reply.Tie as tie
+use Rattle.hivesaddle.proofs.files.reply_of.Statement.{statement}
+use Rattle.hivesaddle.proofs.files.reply_of.Tie as tie
 
 cast-t19 : tie.Need-cast-t19
 cast-t19 c = omega (arith, c .struct-known7 .given)
@@ -11,8 +11,8 @@ cast-t19 c = omega (arith, c .struct-known7 .given)
 returns : tie.Need-returns
 returns c = refl
 
-pub record-reply-spec : {M : Type 1} → statement M
-record-reply-spec =
+pub reply-of-spec : {M : Type 1} → statement M
+reply-of-spec =
     tie.close
     (tie.spec
     (λ c. search needs)
