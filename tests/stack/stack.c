@@ -101,7 +101,7 @@ static void hash_xp_bytes(void) { answer = hs_hash_xp_bytes(file, length); }
 static void hash_vista_bytes(void) { answer = hs_hash_vista_bytes(file, length); }
 static void hash_2008_bytes(void) { answer = hs_hash_2008_bytes(file, length); }
 static void hash_powers(void) { answer = hs_hash_powers(numbers, 1000); }
-static void hash_powers_bytes(void) { answer = hs_hash_powers_bytes(file, length); }
+static void hash_powers_bytes(void) { answer = hs_hash_powers_bytes(file, length < 1000 ? length : 1000); }
 static void hash_swap(void) { answer = hs_hash_swap(1, numbers, 1000, 46, numbers, 48, out, HS_READER_OUT); }
 static void hash_swap_bytes(void) { answer = hs_hash_swap_bytes(1, file, length, 46, file, 48, out, HS_READER_OUT); }
 static void replay(void)

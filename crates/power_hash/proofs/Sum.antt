@@ -2,39 +2,50 @@
 use mathlib.Core.Path.{_≡_, refl, sym, ap, _∙_}
 use mathlib.Core.Bool.{Bool, true, false}
 use mathlib.Core.List.{List, [], _∷_}
-use Prim.Native.Nat.{ℕ, suc, _+_, _-_, _*_, _/_, _%_, _^_, _≤_, _<_}
-use native.Mathlib.Nat.{div-add-mod, pow-suc, mod-lt, mod-add-mod, add-mod-mod}
+use Prim.Native.Nat.{ℕ, suc, _+_, _-_, _*_, _%_, _^_, _≤_, _<_}
+use native.Mathlib.Nat.{pow-suc, mod-lt, mod-add-mod, add-mod-mod}
 use native.Mathlib.Numerals.{add-one}
 use native.Mathlib.Omega.{arith}
-use borrow.Author.Tests.{le-leb}
 use lib.Dec.{leb, lit<}
 use lib.ListN.{length, getD, drop, length-drop, drop-of-length-le}
 use lib.Seq.{drop-cons}
 use Rattle.lists.specs.Count.{pick}
 use Rattle.path_hash.specs.Hash.{step, plain, vista}
-use Rattle.path_hash.proofs.Laws.{same-mod}
 use Rattle.power_hash.specs.Powers.{powerSum, hashPowers}
-use Rattle.power_hash.proofs.Products.{mod-times}
+use Rattle.power_hash.proofs.Products.{mod-times, mod-left, mod-right}
 
 -- one number more of the list is taken
-pub sum-more : (s : List ℕ) (k : ℕ) → k < length s → powerSum (drop k s) ≡ getD s k 0 * 37 ^ (length s - 1 - k) + powerSum (drop (k + 1) s)
+sum-more : (s : List ℕ) (k : ℕ) → k < length s → powerSum (drop k s) ≡ getD s k 0 * 37 ^ (length s - 1 - k) + powerSum (drop (k + 1) s)
 unfolding powerSum
 sum-more s k l =
     let e : length s - 1 - k ≡ length (drop (suc k) s) = omega (arith, length-drop (suc k) s) in
     rw (add-one, drop-cons s k 0, e)
 
--- none is left
-pub sum-done : (s : List ℕ) (k : ℕ) → length s ≤ k → powerSum (drop k s) ≡ 0
-unfolding powerSum
-sum-done s k l = rw (drop-of-length-le s l)
+-- what is left to add from k on: the start times its power there, and each number times its own
+unfoldable pub left : List ℕ → ℕ → ℕ
+left s k = 314159 * 37 ^ (length s - k) + powerSum (drop k s)
 
--- a product is added, its power and itself reduced
-pub sum-step : (S R c A : ℕ) → ((S + c * (A % 2 ^ 32) % 2 ^ 32) % 2 ^ 32 + R) % 2 ^ 32 ≡ (S + (c * A + R)) % 2 ^ 32
-sum-step S R c A =
-    let x = c * (A % 2 ^ 32) in
-    let y = S + x % 2 ^ 32 in
-    same-mod (y % 2 ^ 32 + R) (S + (c * A + R)) (y / 2 ^ 32 + x / 2 ^ 32 + c * (A / 2 ^ 32)) 0
-    (omega (arith, ap (λ (k : ℕ). c * k) (div-add-mod A (2 ^ 32)), div-add-mod x (2 ^ 32), div-add-mod y (2 ^ 32)))
+-- one number more of the list is taken: 36 times the start is added to it, and the start stays
+pub left-more : (s : List ℕ) (k : ℕ) → k < length s → left s k ≡ (getD s k 0 + 11309724) * 37 ^ (length s - 1 - k) + left s (k + 1)
+unfolding left
+left-more s k l =
+    let j = length s - 1 - k in
+    let e : length s - k ≡ suc j = omega arith in
+    let d : length s - (k + 1) ≡ j = omega arith in
+    rw (e, d, sum-more s k l) (omega (arith, pow-suc 37 j))
+
+-- none is left
+pub left-done : (s : List ℕ) (k : ℕ) → length s ≤ k → left s k ≡ 314159
+unfolding left powerSum
+left-done s k l =
+    let e : length s - k ≡ 0 = omega arith in
+    rw (e, drop-of-length-le s l)
+
+-- a product is added, its factors and itself reduced
+pub sum-step : (S R x A : ℕ) → ((S + x % 2 ^ 32 * (A % 2 ^ 32) % 2 ^ 32) % 2 ^ 32 + R) % 2 ^ 32 ≡ (S + (x * A + R)) % 2 ^ 32
+sum-step S R x A =
+    rw (mod-left x (A % 2 ^ 32), mod-right x A, add-mod-mod S (x * A) (2 ^ 32))
+    (mod-add-mod (S + x * A) (2 ^ 32) R ∙ ap (λ (k : ℕ). k % 2 ^ 32) (omega arith))
 
 -- what was hashed before weighs 37 to the count of numbers after it, and each number its own power
 pub plain-sum : (s : List ℕ) (h : ℕ) → h < 2 ^ 32 → plain h s ≡ (h * 37 ^ length s + powerSum s) % 2 ^ 32
@@ -59,14 +70,12 @@ powers-vista cs = go (leb (length cs) 1024)
     go true = sym (plain-sum cs 314159 (lit< tt))
     go false = refl
 
--- what the engine gives: the start times its power, and the sum, each reduced
-pub sum-hash : (s : List ℕ) (x y r : ℕ) → length s ≤ 1024 → x ≡ 314159 * 37 ^ length s % 2 ^ 32 → y ≡ powerSum s % 2 ^ 32 → r ≡ (x + y) % 2 ^ 32
-    → r ≡ hashPowers s
-unfolding hashPowers
-sum-hash s x y r l e d f =
-    let a = 314159 * 37 ^ length s in
-    f ∙ rw (e, d, le-leb (length s) 1024 l) (mod-add-mod a (2 ^ 32) (powerSum s % 2 ^ 32) ∙ add-mod-mod a (powerSum s) (2 ^ 32))
-
--- past 1,024 numbers it is the plain hash
 pub plain-hash : (s : List ℕ) (r : ℕ) → r ≡ vista s → r ≡ hashPowers s
 plain-hash s r e = e ∙ sym (powers-vista s)
+
+-- at first all is left
+pub left-start : (s : List ℕ) → (0 + left s 0) % 2 ^ 32 ≡ vista s
+unfolding left
+left-start s =
+    let e : length s - 0 ≡ length s = omega arith in
+    rw (e, plain-sum s 314159 (lit< tt)) (ap (λ (k : ℕ). k % 2 ^ 32) (omega arith))

@@ -7,12 +7,12 @@ use native.Mathlib.Nat.{pow-suc, not-suc-le-zero, le-of-suc-le-suc}
 use native.Mathlib.Numerals.{add-one}
 use native.Mathlib.Omega.{arith}
 use lib.Dec.{T, eqb, eqb→eq}
-use lib.ListN.{length, getD, take, drop}
+use lib.ListN.{length, getD, take}
 use lib.Seq.{length-take-le, getD-take}
-use Rattle.power_hash.specs.Powers.{PowerTable, powerSum}
+use Rattle.power_hash.specs.Powers.{PowerTable}
 use Rattle.power_hash.specs.Private.{Entries}
 use Rattle.power_hash.proofs.Products.{mod-right}
-use Rattle.power_hash.proofs.Sum.{sum-more, sum-step}
+use Rattle.power_hash.proofs.Sum.{left, left-more, sum-step}
 use Rattle.power_hash.proofs.Powers.{rest, powers}
 
 and-left : (a b : Bool) → T (a && b) → T a
@@ -58,10 +58,9 @@ first-entries k l =
     let h : k < 256 = omega (arith, length-take-le 256 powers (omega (arith, powers-table .size))) in
     getD-take 256 powers k 0 h ∙ table-power powers powers-table k (omega arith)
 
--- one turn of the sum: a number times its entry is added
-pub sum-turn : (s t : List ℕ) (sum i p r g : ℕ) → Entries t → length s ≤ length t → i < length s
-    → p ≡ getD s i 0 * getD t (length s - 1 - i) 0 % 2 ^ 32 → r ≡ (sum + p) % 2 ^ 32 → (sum + powerSum (drop i s)) % 2 ^ 32 ≡ g
-    → (r + powerSum (drop (i + 1) s)) % 2 ^ 32 ≡ g
-sum-turn s t sum i p r g w m l e d h =
+-- one turn of the sum: a number and 36 times the start, times their entry, are added
+pub sum-turn : (s t : List ℕ) (sum i c p r g : ℕ) → Entries t → length s ≤ length t → i < length s → c ≡ (getD s i 0 + 11309724) % 2 ^ 32
+    → p ≡ c * getD t (length s - 1 - i) 0 % 2 ^ 32 → r ≡ (sum + p) % 2 ^ 32 → (sum + left s i) % 2 ^ 32 ≡ g → (r + left s (i + 1)) % 2 ^ 32 ≡ g
+sum-turn s t sum i c p r g w m l b e d h =
     let k = length s - 1 - i in
-    rw (d, e, w k (omega arith)) (sum-step sum (powerSum (drop (i + 1) s)) (getD s i 0) (37 ^ k) ∙ rw (sum-more s i l) at h)
+    rw (d, e, b, w k (omega arith)) (sum-step sum (left s (i + 1)) (getD s i 0 + 11309724) (37 ^ k) ∙ rw (left-more s i l) at h)

@@ -3,9 +3,9 @@ ghost use mathlib.Core.Path.{_≡_};
 ghost use Prim.Native.Nat.{_+_, _*_, _%_, _^_, _≤_};
 ghost use lib.ListN.{length};
 ghost use Rattle.lists.specs.Answer.{Answers};
-ghost use Rattle.path_hash.specs.Hash.{wrapSub};
+ghost use Rattle.path_hash.specs.Hash.{vista, wrapSub};
 ghost use Rattle.power_hash.specs.Private.{Entries};
-ghost use Rattle.power_hash.specs.Powers.{powerSum, hashPowers, swapAnswer, swapSaid};
+ghost use Rattle.power_hash.specs.Powers.{hashPowers, swapAnswer, swapSaid};
 
 mod entries;
 
@@ -19,6 +19,10 @@ pub enum Swap {
 
 // Where Vista starts.
 const START: u32 = 314159;
+
+// 36 times the start, added to each number: 314159 times 37^n is 314159 and 36 times 314159 times each of the n powers below it. So
+// the start needs no power of its own.
+const MORE: u32 = 11309724;
 
 // The most numbers that the table serves, and its first entries alone.
 const MOST: usize = 1024;
@@ -48,60 +52,62 @@ fn raised(from: u32, k: usize) -> u32
     r
 }
 
-// Each number times its power, added up. The products don't wait for each other.
+// Each number times its power, and the start, added up. The products don't wait for each other, and the compiler takes eight at once.
 fn sum_numbers(cs: &[u32], t: &[u32]) -> u32
     requires { ⌜ (length (now cs) ≤ length (now t)) × Entries (now t) ⌝ }
-    ensures { λ r. ⌜ r ≡ powerSum (now (cs .entry)) % 2 ^ 32 ⌝ }
+    ensures { λ r. ⌜ r ≡ vista (now (cs .entry)) ⌝ }
 {
     let n = cs.len();
     let mut sum = 0;
     let mut i = 0;
     while i < n {
-        sum = std::num::wrapping_add_u32(sum, times(cs[i], t[n - 1 - i]));
+        let c = std::num::wrapping_add_u32(cs[i], MORE);
+        sum = std::num::wrapping_add_u32(sum, times(c, t[n - 1 - i]));
         i += 1;
     }
-    sum
+    std::num::wrapping_add_u32(sum, START)
 }
 
 fn sum_bytes(text: &[u8], t: &[u32]) -> u32
     requires { ⌜ (length (now text) ≤ length (now t)) × Entries (now t) ⌝ }
-    ensures { λ r. ⌜ r ≡ powerSum (now (text .entry)) % 2 ^ 32 ⌝ }
+    ensures { λ r. ⌜ r ≡ vista (now (text .entry)) ⌝ }
 {
     let n = text.len();
     let mut sum = 0;
     let mut i = 0;
     while i < n {
-        sum = std::num::wrapping_add_u32(sum, times(text[i] as u32, t[n - 1 - i]));
+        let b = std::num::wrapping_add_u32(text[i] as u32, MORE);
+        sum = std::num::wrapping_add_u32(sum, times(b, t[n - 1 - i]));
         i += 1;
     }
-    sum
+    std::num::wrapping_add_u32(sum, START)
 }
 
-// A table is laid out anew in each call of the function that lends it. So the first entries have a function of their own.
+// A table is laid out anew in each call of the function that lends it, so each has its own.
 fn numbers_by_first(cs: &[u32]) -> u32
     requires { ⌜ length (now cs) ≤ 256 ⌝ }
-    ensures { λ r. ⌜ r ≡ powerSum (now (cs .entry)) % 2 ^ 32 ⌝ }
+    ensures { λ r. ⌜ r ≡ vista (now (cs .entry)) ⌝ }
 {
     sum_numbers(cs, &FIRST)
 }
 
 fn numbers_by_all(cs: &[u32]) -> u32
     requires { ⌜ length (now cs) ≤ 1024 ⌝ }
-    ensures { λ r. ⌜ r ≡ powerSum (now (cs .entry)) % 2 ^ 32 ⌝ }
+    ensures { λ r. ⌜ r ≡ vista (now (cs .entry)) ⌝ }
 {
     sum_numbers(cs, &POWERS)
 }
 
 fn bytes_by_first(text: &[u8]) -> u32
     requires { ⌜ length (now text) ≤ 256 ⌝ }
-    ensures { λ r. ⌜ r ≡ powerSum (now (text .entry)) % 2 ^ 32 ⌝ }
+    ensures { λ r. ⌜ r ≡ vista (now (text .entry)) ⌝ }
 {
     sum_bytes(text, &FIRST)
 }
 
 fn bytes_by_all(text: &[u8]) -> u32
     requires { ⌜ length (now text) ≤ 1024 ⌝ }
-    ensures { λ r. ⌜ r ≡ powerSum (now (text .entry)) % 2 ^ 32 ⌝ }
+    ensures { λ r. ⌜ r ≡ vista (now (text .entry)) ⌝ }
 {
     sum_bytes(text, &POWERS)
 }
@@ -113,11 +119,10 @@ pub fn hash_powers(cs: &[u32]) -> u32
     if MOST < cs.len() {
         return path_hash::hash_vista(cs);
     }
-    let start = raised(START, cs.len());
     if FEW < cs.len() {
-        return std::num::wrapping_add_u32(start, numbers_by_all(cs));
+        return numbers_by_all(cs);
     }
-    std::num::wrapping_add_u32(start, numbers_by_first(cs))
+    numbers_by_first(cs)
 }
 
 // The same of a text, each byte of which is a number.
@@ -127,11 +132,10 @@ pub fn hash_powers_bytes(text: &[u8]) -> u32
     if MOST < text.len() {
         return path_hash::hash_vista_bytes(text);
     }
-    let start = raised(START, text.len());
     if FEW < text.len() {
-        return std::num::wrapping_add_u32(start, bytes_by_all(text));
+        return bytes_by_all(text);
     }
-    std::num::wrapping_add_u32(start, bytes_by_first(text))
+    bytes_by_first(text)
 }
 
 // The old hash plus the difference of the starts' hashes times the power of what is kept.
