@@ -2,7 +2,6 @@
 use mathlib.Core.Path.{_≡_, refl, sym, ap, _∙_}
 use mathlib.Core.Bool.{Bool, true, false, not, _||_}
 use mathlib.Core.List.{List}
-use mathlib.Core.Option.{some}
 use Prim.Native.Nat.{ℕ, _+_, _*_, _^_, _≤_, _<_}
 use native.Mathlib.Omega.{arith}
 use lib.Dec.{ltb, eqb}
@@ -17,29 +16,32 @@ use Rattle.lists.specs.declared.Found.the-variants as found
 use Rattle.little_endian.proofs.Number.{le-lt}
 use Rattle.little_endian.specs.Number.{le}
 use Rattle.layout.specs.Head.{signatureAt}
-use Rattle.layout.specs.Versions.{layoutOf, headEnd, sizeLimit, versionNumber}
+use Rattle.layout.specs.Versions.{headEnd, sizeLimit, versionNumber}
 use Rattle.layout.specs.declared.Version.{Version}
 use Rattle.layout.specs.declared.Version.the-variants.{V17, V23, V26, V30}
 use Rattle.layout.specs.declared.Layout.{Layout}
 use Rattle.incremental.specs.Decision.{accept, refuse, refusal, faultAt, faultOf}
-use Rattle.incremental.specs.Plan.{Plan, andThen, reach, check, Answer, decided, wants, run}
+use Rattle.incremental.specs.Plan.{Plan, andThen, reach, check, done, Answer, decided, wants, run}
 use Rattle.incremental.specs.declared.Refusal.{Refusal}
 use Rattle.incremental.specs.declared.Fault.{Fault}
 use Rattle.incremental.specs.declared.Fault.the-variants.{At}
-use Rattle.incremental.proofs.Each.{Each, each-refuse, each-accept, each-done, each-reach, each-check, each-given, each-decide}
+use Rattle.incremental.proofs.Each.{Each, each-refuse, each-accept, each-done, each-reach, each-check, each-given, each-decide, each-then}
 use Rattle.volumes.proofs.Fair.{fair-volumes}
 use Rattle.sections.proofs.Name.{ends-at}
 use Rattle.sections.proofs.Cases.{links-low}
-use Rattle.sections.specs.Fields.{declaredSize, signatureFault, sizeFault, nameEnd, linkCount, headOf, outsideFault, sharedFault, placesFault, entriesFault}
+use Rattle.sections.specs.Fields.{declaredSize, signatureFault, sizeFault, linkCount, headOf, outsideFault, sharedFault, placesFault, entriesFault}
 use Rattle.sections.specs.declared.Head.{Head}
-use Rattle.head.specs.Checks.{units}
-use Rattle.head.specs.Private.{OpenFacts}
+use Rattle.head.specs.Checks.{startPlan, formPlan, sectionPlan, openPlan}
+use Rattle.head.specs.Opened.{OpenFacts}
+use Rattle.head.proofs.Facts.{open-facts}
+use Rattle.head.specs.declared.checks.Start.{Start}
 use Rattle.head.specs.declared.checks.Opening.{Opening}
 use Rattle.names.specs.Names.{misfitFault, unsoundFault}
 use Rattle.trace.specs.Links as links
 use Rattle.trace.proofs.Steps.{length-nexts}
 use Rattle.reader.specs.Verdict.{Acceptable, Values, Reads, valuesOf, answerValues, acceptedValues}
-use Rattle.reader.specs.Checks.{opening, traceRequired, nextsIn, recordOf, readPlan, prefixAnswer, sized, sizeOf, whole, fileAnswer}
+use Rattle.reader.specs.Checks.{traceRequired, nextsIn, recordOf, prefixAnswer, sized, sizeOf, whole, fileAnswer}
+use Rattle.reader.specs.Checks.{countsPlan, fitsPlan, textsPlan, tracePlan, volumesPlan, restPlan, readPlan}
 use Rattle.reader.specs.declared.verdict.Acceptance.{Acceptance}
 use Rattle.reader.specs.declared.verdict.Verdict.{Verdict}
 use Rattle.reader.specs.declared.verdict.Verdict.the-variants.{Accepted}
@@ -144,12 +146,8 @@ version-low V23 = omega arith
 version-low V26 = omega arith
 version-low V30 = omega arith
 
-name-low : (b : List ℕ) (n : ℕ) → units (nameEnd b) ≡ some n → n < 30
-name-low b n e = go (nameEnd b) refl e
-  where
-    go : (f : Found) → nameEnd b ≡ f → units f ≡ some n → n < 30
-    go (found.At k) q z = let i : k ≡ n = cc in omega (arith, ends-at b k .0 q .short)
-    go found.Nothing q z = let y : _≡_ {A = ℕ} 0 1 = cc in absurd (omega arith)
+name-low : (p : List ℕ) (o : Opening) → OpenFacts p o → o .«name_units» < 30
+name-low p o f = omega (arith, ends-at (take 76 p) (o .«name_units») .0 (f .start .ended) .short)
 
 -- no more chains than entries
 chains-low : (s : List ℕ) (n : ℕ) → length s ≡ n → n < 2 ^ 32 → links.chains s < 2 ^ 32
@@ -172,49 +170,101 @@ module _ (p : List ℕ) (m : ℕ) (h : Bytes p) where
         volumes = c .volumes;
       }
 
+  abbrev Any : {A : Type 0} → A → Type 0
+  Any a = Unit
+
   -- a check by its number and its fault
   small-check : (n : ℕ) (f : Fault) → n < 100 → LowFault f → (i at : ℕ) → f ≡ At i at → SmallRefusal (refusal n i at)
   small-check n f l h i at e = small-at n i at l (h i at e)
 
-  abbrev line : (n : ℕ) (f : Fault) (g : Unit → Plan Acceptable) → n < 100 → LowFault f → Each SmallRecord SmallRefusal (run (g tt) p)
-      → Each SmallRecord SmallRefusal (run (andThen (check n f) g) p)
-  line n f g l h k = each-check SmallRecord SmallRefusal n f g p (small-check n f l h) (λ _. k)
+  abbrev line : {B : Type 0} (n : ℕ) (f : Fault) (g : Unit → Plan B) → n < 100 → LowFault f → Each Any SmallRefusal (run (g tt) p)
+      → Each Any SmallRefusal (run (andThen (check n f) g) p)
+  line n f g l h k = each-check Any SmallRefusal n f g p (small-check n f l h) (λ _. k)
 
-  abbrev wait : (k : ℕ) (f : List ℕ → Plan Acceptable) → Each SmallRecord SmallRefusal (run (f (take k p)) p)
-      → Each SmallRecord SmallRefusal (run (andThen (reach k) f) p)
-  wait k f h = each-reach SmallRecord SmallRefusal k f p (λ _. h)
+  abbrev wait : {B : Type 0} (k : ℕ) (f : List ℕ → Plan B) → Each Any SmallRefusal (run (f (take k p)) p) → Each Any SmallRefusal (run (andThen (reach k) f) p)
+  wait k f h = each-reach Any SmallRefusal k f p (λ _. h)
 
-  -- all rows
+  abbrev ends : {B : Type 0} (b : B) → Each Any SmallRefusal (run (done b) p)
+  ends b = each-done Any SmallRefusal b p tt
+
+  -- the rows of checks 1 to 6
+  start-small : Each Any SmallRefusal (run startPlan p)
+  unfolding startPlan
+  start-small =
+      wait 4 _ (each-given Any SmallRefusal 1 _ _ _ p (small-at 1 0 _ (omega arith) (omega arith)) λ v _.
+      wait 8 _ (line 2 _ _ (omega arith) (low-signature _)
+      (wait 16 _ (line 3 _ _ (omega arith) (low-size _ _)
+      (wait 76 _ (each-given Any SmallRefusal 4 _ _ _ p (small-at 4 0 _ (omega arith) (omega arith)) λ n _. ends _))))))
+
+  form-small : (s : Start) → Each Any SmallRefusal (run (formPlan s) p)
+  unfolding formPlan
+  form-small s = wait _ _ (each-given Any SmallRefusal 21 _ _ _ p (small-at 21 0 _ (omega arith) (omega arith)) λ l _. ends _)
+
+  sections-small : (s : Start) → Each Any SmallRefusal (run (sectionPlan s) p)
+  unfolding sectionPlan
+  sections-small s = wait _ _ (line 5 _ _ (omega arith) (low-outside _ _) (line 6 _ _ (omega arith) (low-shared _) (ends _)))
+
+  open-small : Each Any SmallRefusal (run openPlan p)
+  unfolding openPlan
+  open-small =
+      each-then Any SmallRefusal startPlan _ p start-small λ s _. each-then Any SmallRefusal (formPlan s) _ p (form-small s) λ t _. sections-small t
+
+  -- and of the others, with the head that those give
+  module _ (o : Opening) (c : LowCounts (o .head)) where
+    few : linkCount (o .layout) (o .head) < 2 ^ 32
+    few = omega (arith, c .trace, links-low (o .layout) (o .head))
+
+    counts-small : Each Any SmallRefusal (run (countsPlan m o) p)
+    unfolding countsPlan
+    counts-small = wait _ _ (line 7 _ _ (omega arith) (low-places _ _) (line 8 _ _ (omega arith) (low-entries _ _ _) (ends tt)))
+
+    fits-small : Each Any SmallRefusal (run (fitsPlan o) p)
+    unfolding fitsPlan
+    fits-small = wait _ _ (line 9 _ _ (omega arith) (low-misfit _ _ _ _ _ (c .metrics)) (ends tt))
+
+    texts-small : Each Any SmallRefusal (run (textsPlan o) p)
+    unfolding textsPlan
+    texts-small = wait _ _ (line 10 _ _ (omega arith) (low-unsound _ _ _ _ _ (c .metrics)) (ends tt))
+
+    -- the next indexes are as many as the entries that have one
+    trace-small : Each (λ s. length s ≡ linkCount (o .layout) (o .head)) SmallRefusal (run (tracePlan o) p)
+    unfolding tracePlan
+    trace-small =
+        let P : List ℕ → Type 0 = λ s. length s ≡ linkCount (o .layout) (o .head) in
+        let s = nextsIn o (take (traceRequired (o .layout) (o .head)) p) in
+        let k : length s ≡ linkCount (o .layout) (o .head) = length-nexts _ _ _ in
+        let low : 0 + length s < 2 ^ 32 = omega (arith, few) in
+        each-reach P SmallRefusal _ _ p λ _.
+        each-check P SmallRefusal 11 _ _ p (small-check 11 _ (omega arith) (low-from _ _ (length s) 0 low)) λ _.
+        each-check P SmallRefusal 12 _ _ p (small-check 12 _ (omega arith) (low-from _ _ (length s) 0 low)) λ _.
+        each-check P SmallRefusal 13 _ _ p (small-check 13 _ (omega arith) (low-from _ _ (length s) 0 low)) λ _.
+        each-done P SmallRefusal s p k
+
+    volumes-small : Each Any SmallRefusal (run (volumesPlan o) p)
+    unfolding volumesPlan
+    volumes-small =
+        wait _ _ (each-decide Any SmallRefusal _ _ p
+        (fair-volumes SmallRefusal _ (o .layout) _ _ 0
+        (λ j _ b. (small-at 14 j _ (omega arith) (omega (arith, c .volumes)), small-at 15 j _ (omega arith) (omega (arith, c .volumes)))))
+        (ends tt))
+
+    rest-small : o .«name_units» < 30 → Each SmallRecord SmallRefusal (run (restPlan m o) p)
+    unfolding restPlan
+    rest-small u =
+        each-then SmallRecord SmallRefusal (countsPlan m o) _ p counts-small λ _ _.
+        each-then SmallRecord SmallRefusal (fitsPlan o) _ p fits-small λ _ _.
+        each-then SmallRecord SmallRefusal (textsPlan o) _ p texts-small λ _ _.
+        each-then SmallRecord SmallRefusal (tracePlan o) _ p (record { accepts = λ _ _. tt; refuses = trace-small .refuses }) λ s e.
+        each-then SmallRecord SmallRefusal (volumesPlan o) _ p volumes-small λ _ _.
+        each-reach SmallRecord SmallRefusal _ _ p λ _.
+        each-done SmallRecord SmallRefusal _ p (record-small o (headEnd (o .layout)) (links.chains s) c u (chains-low s _ (trace-small .accepts s e) few))
+
   each-read : Each SmallRecord SmallRefusal (prefixAnswer p m)
   unfolding readPlan
   each-read =
-      wait 4 _ (each-given SmallRecord SmallRefusal 1 _ _ _ p (small-at 1 0 _ (omega arith) (omega arith)) λ v _.
-      wait 8 _ (line 2 _ _ (omega arith) (low-signature _)
-      (wait 16 _ (line 3 _ _ (omega arith) (low-size _ _)
-      (wait 76 _ (each-given SmallRecord SmallRefusal 4 _ _ _ p (small-at 4 0 _ (omega arith) (omega arith)) λ n e.
-      wait _ _ (each-given SmallRecord SmallRefusal 21 _ _ _ p (small-at 21 0 _ (omega arith) (omega arith)) λ l _.
-      let o = opening v l n (headOf l (take (headEnd l) p)) in
-      let c = low-head p l (headEnd l) h in
-      wait (headEnd l) _ (line 5 _ _ (omega arith) (low-outside _ _)
-      (line 6 _ _ (omega arith) (low-shared _)
-      (line 7 _ _ (omega arith) (low-places _ _)
-      (line 8 _ _ (omega arith) (low-entries _ _ _)
-      (wait _ _ (line 9 _ _ (omega arith) (low-misfit _ _ _ _ _ (c .metrics))
-      (wait _ _ (line 10 _ _ (omega arith) (low-unsound _ _ _ _ _ (c .metrics))
-      (wait _ _
-      (let s = nextsIn o (take (traceRequired l (o .head)) p) in
-      let k : length s ≡ linkCount l (o .head) = length-nexts _ _ _ in
-      let few : linkCount l (o .head) < 2 ^ 32 = omega (arith, c .trace, links-low l (o .head)) in
-      let low : 0 + length s < 2 ^ 32 = omega arith in
-      line 11 _ _ (omega arith) (low-from _ _ (length s) 0 low)
-      (line 12 _ _ (omega arith) (low-from _ _ (length s) 0 low)
-      (line 13 _ _ (omega arith) (low-from _ _ (length s) 0 low)
-      (wait _ _
-      (each-decide SmallRecord SmallRefusal _ _ p
-      (fair-volumes SmallRefusal _ l _ _ 0
-      (λ j _ b. (small-at 14 j _ (omega arith) (omega (arith, c .volumes)), small-at 15 j _ (omega arith) (omega (arith, c .volumes)))))
-      (each-done SmallRecord SmallRefusal _ p
-      (record-small o (headEnd l) (links.chains s) c (name-low _ n e) (chains-low s _ k few))))))))))))))))))))))))
+      each-then SmallRecord SmallRefusal openPlan _ p open-small λ o e.
+      let f = open-facts p .holds o e in
+      rest-small o (low-counts p o h f) (name-low p o f)
 
   -- the whole-file reader
   each-sized : (shorter longer : Bool) (x : Acceptable) → SmallFields (x .fields) → Each SmallRecord SmallRefusal (decided (sized shorter longer x))
