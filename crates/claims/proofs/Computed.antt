@@ -12,7 +12,7 @@ use Rattle.incremental.specs.Decision.{Decision}
 use Rattle.incremental.specs.Plan.{Answer, run, andThen, reach, check, given}
 use Rattle.sections.specs.Fields.{signatureFault, sizeFault, nameUnitsIn, nameEnd, formIn, linkCount, headOf, outside, outsideFault}
 use Rattle.sections.specs.Fields.{shares, sharedFault, placesFault, entriesFault}
-use Rattle.head.specs.Checks.{startPlan, openPlan}
+use Rattle.head.specs.Checks.{startPlan, formPlan, sectionPlan, openPlan}
 use Rattle.head.specs.declared.checks.Start.{Start}
 use Rattle.head.specs.declared.checks.Opening.{Opening}
 use Rattle.names.specs.Names.{fits, sound, misfitFault, unsoundFault}
@@ -20,7 +20,7 @@ use Rattle.trace.specs.Links.{nexts, follow, namers, cyclic, chains, predecesso
 use Rattle.volumes.specs.Volumes.{pathFits, referenceCount, referencesFit, stepAt, directoryChecks, entryChecks, volumesFrom}
 use Rattle.volumes.specs.Volumes.{pathUnits, volumeOf, referenceOf}
 use Rattle.reader.specs.Verdict.{Acceptable}
-use Rattle.reader.specs.Checks.{recordOf, readPlan, fileAnswer}
+use Rattle.reader.specs.Checks.{recordOf, countsPlan, fitsPlan, textsPlan, tracePlan, volumesPlan, restPlan, readPlan, fileAnswer}
 use Rattle.query.specs.Queries.{entryShown, volumeShown, volumeFacts, referenceShown}
 
 -- checks 1 to 4, and 1 to 6
@@ -29,7 +29,7 @@ unfolding run andThen reach check given le startPlan signatureFault sizeFault na
 started p = run startPlan p
 
 unfoldable opened : List ℕ → Answer Opening
-unfolding started openPlan formIn headOf outside outsideFault shares sharedFault some
+unfolding started openPlan formPlan sectionPlan formIn headOf outside outsideFault shares sharedFault some
 opened p = run openPlan p
 
 -- 11 to 13; 14 and 15
@@ -43,7 +43,7 @@ inVolumes s l start n i = volumesFrom s l start n i
 
 -- all checks
 unfoldable pub answered : List ℕ → ℕ → Answer Acceptable
-unfolding opened linked inVolumes readPlan recordOf placesFault entriesFault misfitFault unsoundFault fits sound
+unfolding opened linked inVolumes countsPlan fitsPlan textsPlan tracePlan volumesPlan restPlan readPlan recordOf placesFault entriesFault misfitFault unsoundFault fits sound
 answered p m = fileAnswer p m
 
 -- and the queries

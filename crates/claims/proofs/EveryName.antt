@@ -14,7 +14,7 @@ use Rattle.incremental.specs.Decision.{accept}
 use Rattle.incremental.specs.Plan.{decided, run}
 use Rattle.sections.specs.Fields.{part}
 use Rattle.head.specs.Checks.{startPlan, openPlan}
-use Rattle.head.specs.Private.{OpenFacts, startIn}
+use Rattle.head.specs.Opened.{OpenFacts, startIn}
 use Rattle.head.proofs.Facts.{start-complete, open-complete, open-sound, open-shapes}
 use Rattle.head.proofs.Rules.{part-length}
 use Rattle.head.specs.declared.checks.Opening.{Opening}

@@ -3,7 +3,6 @@ pub mod Claims
 pub mod Computed
 pub mod EmptyPrograms
 pub mod Offsets
-pub mod Placeless
 pub mod Numbers
 pub mod OneHash
 pub mod Times

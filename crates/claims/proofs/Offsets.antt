@@ -1,4 +1,4 @@
--- The file offsets: one walk down the fifteen rows says of each refusal that its offset is the table's and that the field is there.
+-- The file offsets: one walk down the rows says of each refusal that its offset is the table's and that the field is there.
 use mathlib.Core.Path.{_≡_, refl, sym, ap, _∙_}
 use mathlib.Core.Bool.{Bool, true, false, not, _||_}
 use mathlib.Core.List.{List}
@@ -17,29 +17,27 @@ use Rattle.lists.proofs.First.{first-at}
 use Rattle.lists.specs.declared.Found.{Found}
 use Rattle.lists.specs.declared.Found.the-variants as found
 use Rattle.little_endian.specs.Number.{le}
-use Rattle.little_endian.proofs.Number.{le-take}
 use Rattle.layout.specs.Head.{signatureAt, entryOffset}
-use Rattle.layout.specs.Versions.{versionOf, layoutOf, headEnd, sizeLimit, traceEntry, volumeEntry, metricsEntry, nameOffsetAt, hasNext, formRequired}
+use Rattle.layout.specs.Versions.{layoutOf, headEnd, sizeLimit, traceEntry, volumeEntry, metricsEntry, nameOffsetAt, hasNext, formRequired}
 use Rattle.layout.specs.Private.{SoundLayout}
 use Rattle.layout.proofs.Laws.{layout-sound, form-required}
-use Rattle.layout.specs.declared.Version.{Version}
-use Rattle.layout.specs.declared.KnownVersion.{KnownVersion}
-use Rattle.layout.specs.declared.KnownVersion.the-variants.{Known, Unknown}
 use Rattle.layout.specs.declared.Layout.{Layout}
 use Rattle.incremental.specs.declared.Refusal.{Refusal}
 use Rattle.incremental.specs.declared.Fault.{Fault}
-use Rattle.incremental.specs.declared.Fault.the-variants.{At, Nowhere}
+use Rattle.incremental.specs.declared.Fault.the-variants.{At}
 use Rattle.incremental.specs.Decision.{accept, refuse, refusal, faultAt, faultOf}
-use Rattle.incremental.specs.Plan.{Plan, Answer, decided, wants, run, andThen, reach, check}
-use Rattle.incremental.proofs.Each.{Each, each-refuse, each-accept, each-done, each-reach, each-check, each-given, each-found, each-decide}
+use Rattle.incremental.specs.Plan.{Plan, Answer, decided, wants, run, andThen, reach, check, done}
+use Rattle.incremental.proofs.Plan.{Holds, holds-reach, holds-given, holds-accept}
+use Rattle.incremental.proofs.Each.{Each, each-refuse, each-accept, each-done, each-reach, each-check, each-given, each-found, each-decide, each-then}
 use Rattle.sections.specs.declared.Section.{Section}
 use Rattle.sections.specs.declared.Head.{Head}
 use Rattle.sections.specs.Fields.{declaredSize, formIn, linkCount, sizeIn, numbered, outside, sharesLower}
 use Rattle.sections.specs.Fields.{signatureFault, sizeFault, headOf, part, offsetFieldAt, outsideFault, sharedFault, placesFault, entriesFault}
-use Rattle.sections.proofs.Cases.{entries-met}
-use Rattle.head.specs.Checks.{version}
-use Rattle.head.proofs.Rules.{size-law}
-use Rattle.head.proofs.Facts.{Shapes, head-shapes, size-take, form-take, form-facts}
+use Rattle.head.specs.Checks.{startPlan, formPlan, sectionPlan, openPlan}
+use Rattle.head.specs.Opened.{StartFacts, OpenFacts}
+use Rattle.head.specs.declared.checks.Start.{Start}
+use Rattle.head.specs.declared.checks.Opening.{Opening}
+use Rattle.head.proofs.Facts.{Shapes, form-take, form-facts, start-facts, open-facts, open-sound, open-shapes}
 use Rattle.names.specs.Names.{nameAt, nameUnits, nameFieldAt, fits, sound as soundText, misfitFault, unsoundFault}
 use Rattle.trace.specs.Links.{astray, shared, cyclic}
 use Rattle.trace.proofs.Steps.{length-nexts}
@@ -47,11 +45,13 @@ use Rattle.volumes.proofs.Fair.{fair-volumes}
 use Rattle.reader.specs.declared.verdict.Verdict.{Verdict}
 use Rattle.reader.specs.declared.verdict.Verdict.the-variants.{Refused}
 use Rattle.reader.specs.Verdict.{Acceptable, Reads, valuesOf}
-use Rattle.reader.specs.Checks.{nextsIn, traceRequired, volumesRequired, opening, readPlan, prefixAnswer, whole, sized, sizeOf}
+use Rattle.reader.specs.Checks.{nextsIn, traceRequired, volumesRequired, prefixAnswer, whole, sized, sizeOf}
+use Rattle.reader.specs.Checks.{countsPlan, fitsPlan, textsPlan, tracePlan, volumesPlan, restPlan, readPlan}
+use Rattle.reader.specs.Private.{EntriesFit}
+use Rattle.reader.proofs.Stages.{counts-hold}
 use Rattle.reader.proofs.Values.{refused-answer}
 use Rattle.reader.proofs.AllowedLaws.{head-take}
 use Rattle.claims.specs.Offsets.{offsetOf, constants, orElse, layoutIn, offsetIn, Offsets}
-use Rattle.claims.proofs.Placeless.{without-offset}
 
 abbrev Any : {A : Type 0} → A → Type 0
 Any a = Unit
@@ -94,10 +94,6 @@ entry-inside s h size w i e l a b c =
     let q : s .end ≡ s .at + s .len = rw (ne-eqb (s .len) 0 n) at e in
     omega arith
 
-version-some : (k : KnownVersion) (v : Version) → version k ≡ some v → k ≡ Known v
-version-some (Known u) v e = let q : u ≡ v = cc in ap (λ x. Known x) q
-version-some Unknown v e = let z : _≡_ {A = ℕ} 0 1 = cc in absurd (omega arith)
-
 -- an entry that has a next index is one of the trace section, which is then waited for
 links-there : (l : Layout) (h : Head) (i n : ℕ) → i < linkCount l h → traceRequired l h ≤ n → (i < h .trace .count) × (h .trace .end ≤ n)
 unfolding linkCount
@@ -108,31 +104,31 @@ links-there l h i n = go (hasNext l)
     go false a c = absurd (omega arith)
 
 -- 21 is refused only where the form has to be told, and then the 88 bytes are there
-form-told : (v : Version) (p b : List ℕ) → formRequired (layoutOf v) ≤ length p → formIn (layoutOf v) b ≡ none → 88 ≤ length p
+form-told : (l : Layout) (p b : List ℕ) → (formRequired l ≡ 0) ⊎ (formRequired l ≡ 88) → formRequired l ≤ length p → formIn l b ≡ none → 88 ≤ length p
 unfolding formIn
-form-told v p b h = go (form-required v)
-  where
-    go : (formRequired (layoutOf v) ≡ 0) ⊎ (formRequired (layoutOf v) ≡ 88) → formIn (layoutOf v) b ≡ none → 88 ≤ length p
-    go (inl z) e =
-        let s : formIn (layoutOf v) b ≡ some (layoutOf v) = rw (eq-eqb _ _ z) in
-        let y : _≡_ {A = ℕ} 0 1 = cc in
-        absurd (omega arith)
-    go (inr z) e = omega arith
+form-told l p b (inl z) h e =
+    let s : formIn l b ≡ some l = rw (eq-eqb _ _ z) in
+    let y : _≡_ {A = ℕ} 0 1 = cc in
+    absurd (omega arith)
+form-told l p b (inr z) h e = omega arith
 
 module _ (p : List ℕ) (m : ℕ) where
-  -- the row of a number, with the constants and the sections that the file has
-  row : (l : Layout) (h : Head) (n i x : ℕ) → layoutIn p ≡ l → headOf l p ≡ h → x ≡ offsetOf l h n i → x + 4 ≤ length p → Placed p (refusal n i x)
-  row l h n i x laid same e k =
-      (e ∙ ap (λ (g : Head). offsetOf l g n i) (sym same) ∙ ap (λ (k : Layout). offsetOf k (headOf k p) n i) (sym laid), k)
-
-  abbrev wait : (k : ℕ) (f : List ℕ → Plan Acceptable) → (k ≤ length p → Each Any (Placed p) (run (f (take k p)) p))
+  abbrev wait : {B : Type 0} (k : ℕ) (f : List ℕ → Plan B) → (k ≤ length p → Each Any (Placed p) (run (f (take k p)) p))
       → Each Any (Placed p) (run (andThen (reach k) f) p)
   wait k f h = each-reach Any (Placed p) k f p h
 
-  abbrev line : (n : ℕ) (f : Fault) (g : Unit → Plan Acceptable) → ((i at : ℕ) → f ≡ At i at → Placed p (refusal n i at))
-      → (f ≡ Nowhere → Each Any (Placed p) (run (g tt) p)) → Each Any (Placed p) (run (andThen (check n f) g) p)
-  line n f g h k = each-check Any (Placed p) n f g p h k
+  abbrev line : {B : Type 0} (n : ℕ) (f : Fault) (g : Unit → Plan B) → ((i at : ℕ) → f ≡ At i at → Placed p (refusal n i at))
+      → Each Any (Placed p) (run (g tt) p) → Each Any (Placed p) (run (andThen (check n f) g) p)
+  line n f g h k = each-check Any (Placed p) n f g p h (λ _. k)
 
+  abbrev ends : {B : Type 0} (b : B) → Each Any (Placed p) (run (done b) p)
+  ends b = each-done Any (Placed p) b p tt
+
+  abbrev next : {A B : Type 0} (t : Plan A) (f : A → Plan B) → Each Any (Placed p) (run t p)
+      → ((a : A) → run t p ≡ decided (accept a) → Each Any (Placed p) (run (f a) p)) → Each Any (Placed p) (run (andThen t f) p)
+  next t f h k = each-then Any (Placed p) t f p h k
+
+  -- ---- rows whose offset is the same in every file
   fixed : (n x : ℕ) (b : Bool) → x ≡ offsetIn p n 0 → x + 4 ≤ length p → (i at : ℕ) → faultAt 0 x b ≡ At i at → Placed p (refusal n i at)
   fixed n x b e h i at q =
       let a = at-index 0 x b i at q in
@@ -146,29 +142,96 @@ module _ (p : List ℕ) (m : ℕ) where
   unfolding sizeFault
   size-row l b k = fixed 3 12 (ltb (declaredSize b) (headEnd l) || ltb sizeLimit (declaredSize b)) refl (omega arith)
 
-  module _ (l : Layout) (h : Head) (laid : layoutIn p ≡ l) (same : headOf l p ≡ h) (shape : Shapes l h) (sound : SoundLayout l)
-      (whole : headEnd l ≤ length p) where
-    section-row : (n : ℕ) (test : ℕ → Bool) → ((i : ℕ) → offsetFieldAt i ≡ offsetOf l h n i) → (i at : ℕ)
-        → faultOf offsetFieldAt (firstFrom test 4 1) ≡ At i at → Placed p (refusal n i at)
-    section-row n test e i at q =
-        let a = found-index offsetFieldAt test 4 1 i at q .0 in
-        row l h n i at laid same (a ∙ e i) (omega (arith, a, field-low i, sound .fixed))
+  section-row : (n : ℕ) (test : ℕ → Bool) → ((i : ℕ) → offsetFieldAt i ≡ offsetIn p n i) → 112 ≤ length p → (i at : ℕ)
+      → faultOf offsetFieldAt (firstFrom test 4 1) ≡ At i at → Placed p (refusal n i at)
+  section-row n test e k i at q =
+      let a = found-index offsetFieldAt test 4 1 i at q .0 in
+      (a ∙ e i, omega (arith, a, field-low i))
 
-    outside-row : (i at : ℕ) → outsideFault l h ≡ At i at → Placed p (refusal 5 i at)
-    unfolding outsideFault
-    outside-row = section-row 5 (λ n. outside (headEnd l) (sizeIn h) (numbered h n)) (λ i. refl)
+  outside-row : (l : Layout) (h : Head) → 112 ≤ length p → (i at : ℕ) → outsideFault l h ≡ At i at → Placed p (refusal 5 i at)
+  unfolding outsideFault
+  outside-row l h = section-row 5 (λ n. outside (headEnd l) (sizeIn h) (numbered h n)) (λ i. refl)
 
-    shared-row : (i at : ℕ) → sharedFault h ≡ At i at → Placed p (refusal 6 i at)
-    unfolding sharedFault
-    shared-row = section-row 6 (sharesLower h) (λ i. refl)
+  shared-row : (h : Head) → 112 ≤ length p → (i at : ℕ) → sharedFault h ≡ At i at → Placed p (refusal 6 i at)
+  unfolding sharedFault
+  shared-row h = section-row 6 (sharesLower h) (λ i. refl)
+
+  -- ---- checks 1 to 6
+  start-placed : Each Any (Placed p) (run startPlan p)
+  unfolding startPlan
+  start-placed =
+      wait 4 _ λ h4.
+      each-given Any (Placed p) 1 _ _ _ p (refl, omega arith) λ v _.
+      wait 8 _ λ h8.
+      line 2 _ _ (signature-row _ h8)
+      (wait 16 _ λ h16.
+      line 3 _ _ (size-row (layoutOf v) _ h16)
+      (wait 76 _ λ h76.
+      each-given Any (Placed p) 4 _ _ _ p (refl, omega arith) λ n _. ends _))
+
+  form-placed : (s : Start) → StartFacts p s → Each Any (Placed p) (run (formPlan s) p)
+  unfolding formPlan
+  form-placed s f =
+      wait _ _ λ told.
+      each-found Any (Placed p) 21 _ _ _ p (λ e. (refl, omega (arith, form-told (s .layout) p _ (rw (f .laid) (form-required (s .version))) told e))) λ l _. ends _
+
+  -- the layout of a head form that passed is sound
+  form-sound : (s : Start) → StartFacts p s → Holds (λ t. SoundLayout (t .layout)) (run (formPlan s) p)
+  unfolding formPlan
+  form-sound s f =
+      holds-reach (formRequired (s .layout)) _ p _ λ _.
+      holds-given _ 21 84 (formIn (s .layout) (take (formRequired (s .layout)) p)) _ p λ l e.
+      let q : formIn (s .layout) p ≡ some l = sym (form-take (s .layout) p (rw (f .laid) (form-required (s .version)))) ∙ e in
+      holds-accept _ _ p (form-facts (s .layout) l p q (rw (f .laid) (layout-sound (s .version))) (f .least) .0)
+
+  sections-placed : (s : Start) → SoundLayout (s .layout) → Each Any (Placed p) (run (sectionPlan s) p)
+  unfolding sectionPlan
+  sections-placed s sound =
+      wait (headEnd (s .layout)) _ λ top.
+      line 5 _ _ (outside-row (s .layout) _ (omega (arith, sound .fixed))) (line 6 _ _ (shared-row _ (omega (arith, sound .fixed))) (ends _))
+
+  open-placed : Each Any (Placed p) (run openPlan p)
+  unfolding openPlan
+  open-placed =
+      next startPlan _ start-placed λ s e.
+      let f = start-facts p .holds s e in
+      next (formPlan s) _ (form-placed s f) λ t q. sections-placed t (form-sound s f .holds t q)
+
+  -- ---- the others, where those gave `o`
+  module _ (o : Opening) (f : OpenFacts p o) where
+    abbrev l : Layout
+    l = o .layout
+
+    abbrev h : Head
+    h = o .head
+
+    sound : SoundLayout l
+    sound = open-sound p o f
+
+    shape : Shapes l h
+    shape = open-shapes p o f
+
+    laid : layoutIn p ≡ l
+    laid = ap (λ (k : Layout). orElse k (formIn k p)) (ap constants (f .start .known)) ∙ ap (orElse (layoutOf (o .version))) (f .formed)
+
+    same : headOf l p ≡ h
+    same = sym (f .fields ∙ head-take l p sound)
+
+    -- the row of a number, with the constants and the sections that the file has
+    row : (n i x : ℕ) → x ≡ offsetOf l h n i → x + 4 ≤ length p → Placed p (refusal n i x)
+    row n i x e k = (e ∙ ap (λ (g : Head). offsetOf l g n i) (sym same) ∙ ap (λ (k : Layout). offsetOf k (headOf k p) n i) (sym laid), k)
 
     places-row : (n : ℕ) (i at : ℕ) → placesFault m n ≡ At i at → Placed p (refusal 7 i at)
     unfolding placesFault
-    places-row n = fixed 7 96 (ltb m n) refl (omega (arith, sound .fixed))
+    places-row n = fixed 7 96 (ltb m n) refl (omega (arith, sound .fixed, f .whole))
 
     entries-row : (n entry size : ℕ) (i at : ℕ) → entriesFault n entry size ≡ At i at → Placed p (refusal 8 i at)
     unfolding entriesFault
-    entries-row n entry size = fixed 8 112 (ltb size (n * entry)) refl (omega (arith, sound .fixed))
+    entries-row n entry size = fixed 8 112 (ltb size (n * entry)) refl (omega (arith, sound .fixed, f .whole))
+
+    counts-placed : Each Any (Placed p) (run (countsPlan m o) p)
+    unfolding countsPlan
+    counts-placed = wait _ _ λ _. line 7 _ _ (places-row _) (line 8 _ _ (entries-row _ _ _) (ends tt))
 
     name-row : (n : ℕ) (test : ℕ → Bool) → ((i : ℕ) → nameFieldAt l (h .metrics .at) i ≡ offsetOf l h n i) → h .metrics .end ≤ length p → (i at : ℕ)
         → faultOf (nameFieldAt l (h .metrics .at)) (firstFrom test (h .metrics .count) 0) ≡ At i at → Placed p (refusal n i at)
@@ -177,7 +240,7 @@ module _ (p : List ℕ) (m : ℕ) where
         let c : entryOffset (h .metrics .at) (metricsEntry l) i + (nameOffsetAt l + 4) ≤ h .metrics .end =
         entry-inside (h .metrics) (headEnd l) (metricsEntry l) (nameOffsetAt l + 4) i (shape .metrics-end) (omega (arith, shape .metrics-len))
         (sound .name-offset) (omega arith) (omega (arith, a .1)) in
-        row l h n i at laid same (a .0 ∙ e i) (omega (arith, a .0, c))
+        row n i at (a .0 ∙ e i) (omega (arith, a .0, c))
 
     misfit-row : (e : List ℕ) (size : ℕ) → h .metrics .end ≤ length p → (i at : ℕ) → misfitFault l (h .metrics .at) e (h .metrics .count) size ≡ At i at
         → Placed p (refusal 9 i at)
@@ -188,6 +251,16 @@ module _ (p : List ℕ) (m : ℕ) where
         → Placed p (refusal 10 i at)
     unfolding unsoundFault
     unsound-row e s k = name-row 10 (λ i. not (soundText s (nameAt l e i) (nameUnits l e i))) (λ i. refl) k
+
+    fits-placed : Each (λ _. h .metrics .end ≤ length p) (Placed p) (run (fitsPlan o) p)
+    unfolding fitsPlan
+    fits-placed =
+        let P : Unit → Type 0 = λ _. h .metrics .end ≤ length p in
+        each-reach P (Placed p) _ _ p λ h9. each-check P (Placed p) 9 _ _ p (misfit-row _ _ h9) λ _. each-done P (Placed p) tt p h9
+
+    texts-placed : h .metrics .end ≤ length p → Each Any (Placed p) (run (textsPlan o) p)
+    unfolding textsPlan
+    texts-placed h9 = wait _ _ λ _. line 10 _ _ (unsound-row _ _ h9) (ends tt)
 
     -- an entry that has a next index is there, and so is the trace section
     link-row : (n count : ℕ) (test : ℕ → Bool) → count ≡ linkCount l h → ((i : ℕ) → entryOffset (h .trace .at) (traceEntry l) i ≡ offsetOf l h n i)
@@ -200,60 +273,46 @@ module _ (p : List ℕ) (m : ℕ) where
         let c : entryOffset (h .trace .at) (traceEntry l) i + 4 ≤ h .trace .end =
         entry-inside (h .trace) (headEnd l) (traceEntry l) 4 i (shape .trace-end) (omega (arith, shape .trace-len)) (sound .next) (omega arith)
         (r .0) in
-        row l h n i at laid same (a .0 ∙ e i) (omega (arith, a .0, c, r .1))
+        row n i at (a .0 ∙ e i) (omega (arith, a .0, c, r .1))
 
-    volume-row : (n : ℕ) → ((i : ℕ) → entryOffset (h .volumes .at) (volumeEntry l) i ≡ offsetOf l h n i) → h .volumes .count * volumeEntry l ≤ h .volumes .len
+    trace-placed : Each Any (Placed p) (run (tracePlan o) p)
+    unfolding tracePlan
+    trace-placed =
+        wait _ _ λ h11.
+        let s = nextsIn o (take (traceRequired l h) p) in
+        let count = length-nexts (part (h .trace) (take (traceRequired l h) p)) (traceEntry l) (linkCount l h) in
+        line 11 _ _ (link-row 11 (length s) (astray s) count (λ i. refl) h11)
+        (line 12 _ _ (link-row 12 (length s) (shared s) count (λ i. refl) h11) (line 13 _ _ (link-row 13 (length s) (cyclic s) count (λ i. refl) h11) (ends s)))
+
+    volume-row : (n : ℕ) → ((i : ℕ) → entryOffset (h .volumes .at) (volumeEntry l) i ≡ offsetOf l h n i) → EntriesFit o
         → volumesRequired l h ≤ length p → (i : ℕ) → i < h .volumes .count → Placed p (refusal n i (entryOffset (h .volumes .at) (volumeEntry l) i))
     volume-row n e fits k i b =
         let z : h .volumes .count ≡ 0 → ⊥ = λ z. omega arith in
         let r : h .volumes .end ≤ length p = rw (ne-eqb (h .volumes .count) 0 z) at k in
         let c = entry-inside (h .volumes) (headEnd l) (volumeEntry l) 4 i (shape .volumes-end) fits (omega (arith, sound .volume-fields)) (omega arith) b in
-        row l h n i _ laid same (e i) (omega (arith, c))
+        row n i _ (e i) (omega (arith, c))
+
+    volumes-placed : EntriesFit o → Each Any (Placed p) (run (volumesPlan o) p)
+    unfolding volumesPlan
+    volumes-placed fits =
+        wait _ _ λ h14.
+        let at14 = volume-row 14 (λ i. refl) fits h14 in
+        let at15 = volume-row 15 (λ i. refl) fits h14 in
+        each-decide Any (Placed p) _ _ p
+        (fair-volumes (Placed p) _ l (h .volumes .at) (h .volumes .count) 0 (λ i _ b. (at14 i (omega (arith, b)), at15 i (omega (arith, b))))) (ends tt)
+
+    rest-placed : Each Any (Placed p) (run (restPlan m o) p)
+    unfolding restPlan
+    rest-placed =
+        next (countsPlan m o) _ counts-placed λ c e8.
+        next (fitsPlan o) _ (record { accepts = λ _ _. tt; refuses = fits-placed .refuses }) λ u e9.
+        next (textsPlan o) _ (texts-placed (fits-placed .accepts u e9)) λ _ _.
+        next (tracePlan o) _ trace-placed λ _ _.
+        next (volumesPlan o) _ (volumes-placed (counts-hold m o p .holds c e8 .1)) λ _ _. wait _ _ λ _. ends _
 
   each-placed : Each Any (Placed p) (prefixAnswer p m)
   unfolding readPlan
-  each-placed =
-      wait 4 _ λ h4.
-      each-given Any (Placed p) 1 _ _ _ p (refl, omega arith) λ v known.
-      wait 8 _ λ h8.
-      line 2 _ _ (signature-row _ h8) λ _.
-      wait 16 _ λ h16.
-      line 3 _ _ (size-row (layoutOf v) _ h16) λ e3.
-      let least = size-law (layoutOf v) p .0 (sym (size-take (layoutOf v) p) ∙ e3) .0 in
-      wait 76 _ λ h76.
-      each-given Any (Placed p) 4 _ _ _ p (refl, omega arith) λ n _.
-      let first : constants (versionOf (le 4 p 0)) ≡ layoutOf v = ap constants (ap versionOf (sym (le-take 4 4 p 0 (omega arith))) ∙ version-some _ v known) in
-      wait _ _ λ told.
-      each-found Any (Placed p) 21 _ _ _ p (λ e. (refl, omega (arith, form-told v p _ told e))) λ l found.
-      let formed : formIn (layoutOf v) p ≡ some l = sym (form-take (layoutOf v) p (form-required v)) ∙ found in
-      let sound : SoundLayout l = form-facts (layoutOf v) l p formed (layout-sound v) least .0 in
-      let laid : layoutIn p ≡ l = ap (λ (k : Layout). orElse k (formIn k p)) first ∙ ap (orElse (layoutOf v)) formed in
-      wait (headEnd l) _ λ top.
-      let h = headOf l (take (headEnd l) p) in
-      let same : headOf l p ≡ h = sym (head-take l p sound) in
-      let shape : Shapes l h = head-shapes l (take (headEnd l) p) in
-      let o = opening v l n h in
-      line 5 _ _ (outside-row l h laid same shape sound top) λ _.
-      line 6 _ _ (shared-row l h laid same shape sound top) λ _.
-      line 7 _ _ (places-row l h laid same shape sound top _) λ _.
-      line 8 _ _ (entries-row l h laid same shape sound top _ _ _) λ e8.
-      wait _ _ λ h9.
-      line 9 _ _ (misfit-row l h laid same shape sound top _ _ h9) λ _.
-      wait _ _ λ h10.
-      line 10 _ _ (unsound-row l h laid same shape sound top _ _ h9) λ _.
-      wait _ _ λ h11.
-      let s = nextsIn o (take (traceRequired l h) p) in
-      let count = length-nexts (part (h .trace) (take (traceRequired l h) p)) (traceEntry l) (linkCount l h) in
-      line 11 _ _ (link-row l h laid same shape sound top 11 (length s) (astray s) count (λ i. refl) h11) λ _.
-      line 12 _ _ (link-row l h laid same shape sound top 12 (length s) (shared s) count (λ i. refl) h11) λ _.
-      line 13 _ _ (link-row l h laid same shape sound top 13 (length s) (cyclic s) count (λ i. refl) h11) λ _.
-      wait _ _ λ h14.
-      let fits = entries-met (h .volumes .count) (volumeEntry l) (h .volumes .len) _ refl e8 in
-      let at14 = volume-row l h laid same shape sound top 14 (λ i. refl) fits h14 in
-      let at15 = volume-row l h laid same shape sound top 15 (λ i. refl) fits h14 in
-      each-decide Any (Placed p) _ _ p
-      (fair-volumes (Placed p) _ l (h .volumes .at) (h .volumes .count) 0 (λ i _ b. (at14 i (omega (arith, b)), at15 i (omega (arith, b)))))
-      (each-done Any (Placed p) _ p tt)
+  each-placed = next openPlan _ open-placed λ o e. rest-placed o (open-facts p .holds o e)
 
   -- what a reader's verdict of refusal is
   abbrev Right : Refusal → Type 0
@@ -279,5 +338,4 @@ offsets =
       table-file = λ p buffer v after r h q.
           each-whole p (length buffer) (length p) _ (each-placed p (length buffer)) .refuses r (refused-by _ _ v after r h q);
       inside = λ p buffer v after r h q. each-placed p (length buffer) .refuses r (refused-by _ _ v after r h q) .1;
-      without = without-offset;
     }

@@ -9,13 +9,14 @@ use Rattle.layout.specs.Head.{traceCountAt}
 use Rattle.layout.specs.Versions.{headEnd}
 use Rattle.incremental.specs.Decision.{accept, refuse, refusal}
 use Rattle.incremental.specs.Plan.{Plan, decide, andThen, reach, check, given, Answer, decided, wants, run}
-use Rattle.incremental.proofs.Plan.{onward, run-then, reach-here, check-fault, check-passed}
+use Rattle.incremental.proofs.Plan.{onward, run-then, answer-then, reach-here, check-fault, check-passed}
 use Rattle.incremental.proofs.Each.{Each, each-refuse, each-wants, each-done, each-reach, each-check, each-given, each-decide, each-then}
 use Rattle.incremental.specs.declared.Refusal.{Refusal}
 use Rattle.incremental.specs.declared.Fault.{Fault}
 use Rattle.sections.specs.Fields.{linkCount}
 use Rattle.sections.proofs.Cases.{places-few, places-enough}
-use Rattle.head.specs.Checks.{startPlan, openPlan}
+use Rattle.head.specs.Checks.{startPlan, formPlan, sectionPlan, openPlan}
+use Rattle.head.specs.declared.checks.Start.{Start}
 use Rattle.head.proofs.Facts.{open-facts}
 use Rattle.head.specs.declared.checks.Opening.{Opening}
 use Rattle.volumes.proofs.Fair.{fair-volumes}
@@ -24,9 +25,7 @@ use Rattle.query.specs.declared.PlacesAnswer.the-variants as placesAnswer
 use Rattle.reader.specs.declared.verdict.Verdict.the-variants.{Refused}
 use Rattle.reader.specs.Verdict.{Acceptable, valuesOf, answerValues}
 use Rattle.reader.proofs.Values.{refused-answer, same-values}
-use Rattle.reader.proofs.Opens.{read-opens}
-use Rattle.reader.specs.Checks.{prefixAnswer}
-use Rattle.reader.specs.Private.{fitsPlan, textsPlan, tracePlan, volumesPlan, tablesPlan, restPlan}
+use Rattle.reader.specs.Checks.{prefixAnswer, countsPlan, fitsPlan, textsPlan, tracePlan, volumesPlan, restPlan, readPlan}
 use Rattle.claims.specs.Places.{PlacesSettled, PlacesSay}
 
 -- ---- answers that do not refuse with 7
@@ -69,14 +68,17 @@ start-checks p =
     gives p 4 _ _ _ (λ z. omega arith) λ n.
     ends p _))
 
+form-checks : (p : List ℕ) (s : Start) → Refuses (run (formPlan s) p)
+unfolding formPlan
+form-checks p s = wait p _ _ λ b. gives p 21 _ _ _ (λ z. omega arith) λ l. ends p _
+
+section-checks : (p : List ℕ) (s : Start) → Refuses (run (sectionPlan s) p)
+unfolding sectionPlan
+section-checks p s = wait p _ _ λ b. line p 5 _ _ (λ z. omega arith) (line p 6 _ _ (λ z. omega arith) (ends p _))
+
 open-checks : (p : List ℕ) → Refuses (run openPlan p)
 unfolding openPlan
-open-checks p =
-    next p startPlan _ (start-checks p) λ s.
-    wait p _ _ λ b.
-    gives p 21 _ _ _ (λ z. omega arith) λ l.
-    wait p _ _ λ b.
-    line p 5 _ _ (λ z. omega arith) (line p 6 _ _ (λ z. omega arith) (ends p _))
+open-checks p = next p startPlan _ (start-checks p) λ s. next p (formPlan s) _ (form-checks p s) λ t. section-checks p t
 
 -- ---- checks 9 to 15
 module _ (o : Opening) (p : List ℕ) where
@@ -100,38 +102,41 @@ module _ (o : Opening) (p : List ℕ) where
       wait p _ _ λ b.
       each-decide Any NotSeven _ _ p (fair-volumes NotSeven _ (o .layout) _ _ 0 (λ k _ _. (λ z. omega arith, λ z. omega arith))) (ends p tt)
 
-  tables-checks : (m : ℕ) (top : List ℕ) → Refuses (run (tablesPlan m o top) p)
-  unfolding tablesPlan
-  tables-checks m top =
-      next p (fitsPlan o) _ fits-checks λ _.
-      next p (textsPlan o) _ texts-checks λ _.
-      next p (tracePlan o) _ trace-checks λ s.
-      next p (volumesPlan o) _ volumes-checks λ _.
-      ends p _
-
 -- no check refuses with 7 where there is a place for each entry
+counts-checks : (m : ℕ) (o : Opening) (p : List ℕ) → linkCount (o .layout) (o .head) ≤ m → Refuses (run (countsPlan m o) p)
+unfolding countsPlan
+counts-checks m o p h =
+    wait p _ _ λ _.
+    rw (check-passed 7 _ _ p (sym (places-enough m (linkCount (o .layout) (o .head)) h))) (line p 8 _ _ (λ z. omega arith) (ends p tt))
+
 room-enough : (m : ℕ) (o : Opening) (p : List ℕ) → linkCount (o .layout) (o .head) ≤ m → Refuses (run (restPlan m o) p)
 unfolding restPlan
 room-enough m o p h =
-    wait p _ _ λ top.
-    rw (check-passed 7 _ _ p (sym (places-enough m (linkCount (o .layout) (o .head)) h)))
-    (line p 8 _ _ (λ z. omega arith) (tables-checks o p m top))
+    next p (countsPlan m o) _ (counts-checks m o p h) λ _.
+    next p (fitsPlan o) _ (fits-checks o p) λ _.
+    next p (textsPlan o) _ (texts-checks o p) λ _.
+    next p (tracePlan o) _ (trace-checks o p) λ s.
+    next p (volumesPlan o) _ (volumes-checks o p) λ _.
+    wait p _ _ λ _. ends p _
 
 -- and check 7 does, where there are fewer
 room-short : (m : ℕ) (o : Opening) (p : List ℕ) → headEnd (o .layout) ≤ length p → m < linkCount (o .layout) (o .head)
     → run (restPlan m o) p ≡ decided (refuse (refusal 7 0 traceCountAt))
-unfolding restPlan
+unfolding restPlan countsPlan
 room-short m o p w h =
-    reach-here (headEnd (o .layout)) _ p w ∙ check-fault 7 _ _ p 0 _ (sym (places-few m (linkCount (o .layout) (o .head)) h))
+    sym
+    (answer-then (countsPlan m o) _ p _
+    (reach-here (headEnd (o .layout)) _ p w ∙ check-fault 7 _ _ p 0 _ (sym (places-few m (linkCount (o .layout) (o .head)) h))))
+
+reads : (p : List ℕ) (m : ℕ) → prefixAnswer p m ≡ onward (run openPlan p) (λ o. run (restPlan m o) p)
+unfolding readPlan
+reads p m = run-then openPlan (restPlan m) p
 
 pub places-say : PlacesSay
 places-say p buffer n v after q r = go (run openPlan p) refl
   where
     m : ℕ
     m = length buffer
-
-    reads : prefixAnswer p m ≡ onward (run openPlan p) (λ o. run (restPlan m o) p)
-    reads = sym (read-opens m p) ∙ run-then openPlan (restPlan m) p
 
     -- the verdict that the checks' answer `x` gives
     refused : (x : Answer Acceptable) (i at : ℕ) → prefixAnswer p m ≡ x → Refuses x → v ≡ Refused (refusal 7 i at) → ⊥
@@ -154,7 +159,7 @@ places-say p buffer n v after q r = go (run openPlan p) refl
 
     go : (x : Answer Opening) → run openPlan p ≡ x → PlacesSettled p buffer n v
     go (decided (accept o)) e =
-        let s : prefixAnswer p m ≡ run (restPlan m o) p = reads ∙ rw e in
+        let s : prefixAnswer p m ≡ run (restPlan m o) p = reads p m ∙ rw e in
         record {
           enough = λ k a l i at z.
               let j : linkCount (o .layout) (o .head) ≡ k = same (sym (needed e) ∙ a) in
@@ -166,14 +171,14 @@ places-say p buffer n v after q r = go (run openPlan p) refl
           unknown = λ a i at z. let y : _≡_ {A = ℕ} 0 1 = cc (needed e) in omega arith;
         }
     go (decided (refuse f)) e =
-        let s : prefixAnswer p m ≡ decided (refuse f) = reads ∙ rw e in
+        let s : prefixAnswer p m ≡ decided (refuse f) = reads p m ∙ rw e in
         record {
           enough = λ k a l i at z. refused _ i at s (before-seven f e) z;
           short = λ k a l. absurd (no-number k a (rw e));
           unknown = λ a i at z. refused _ i at s (before-seven f e) z;
         }
     go (wants j) e =
-        let s : prefixAnswer p m ≡ wants j = reads ∙ rw e in
+        let s : prefixAnswer p m ≡ wants j = reads p m ∙ rw e in
         record {
           enough = λ k a l i at z. absurd (no-number k a (rw e));
           short = λ k a l. absurd (no-number k a (rw e));

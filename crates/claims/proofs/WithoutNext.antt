@@ -17,7 +17,7 @@ use Rattle.lists.specs.Table.{tabulate}
 use Rattle.lists.proofs.Table.{tabulate-same, tabulate-replicate}
 use Rattle.little_endian.specs.Number.{le}
 use Rattle.little_endian.proofs.Number.{le-take}
-use Rattle.layout.specs.Versions.{layoutOf, headEnd, hasNext, formRequired, traceEntry, versionOf, volumeEntry}
+use Rattle.layout.specs.Versions.{layoutOf, headEnd, hasNext, formRequired, traceEntry, versionOf}
 use Rattle.layout.specs.declared.Layout.{Layout}
 use Rattle.layout.proofs.Laws.{layout-sound}
 use Rattle.incremental.specs.Decision.{Decision, accept, refuse}
@@ -25,25 +25,23 @@ use Rattle.incremental.specs.Plan.{Plan, decide, Answer, decided, wants, run, a
 use Rattle.incremental.specs.declared.Fault.{Fault}
 use Rattle.incremental.specs.declared.Fault.the-variants.{At, Nowhere}
 use Rattle.incremental.proofs.Plan.{onward, run-then, reach-here, reach-short, check-passed}
-use Rattle.sections.specs.Fields.{declaredSize, signatureFault, formIn, linkCount, headOf, part, placesFault, entriesFault}
+use Rattle.sections.specs.Fields.{declaredSize, signatureFault, formIn, linkCount, headOf, part, placesFault}
 use Rattle.sections.proofs.Cases.{places-enough}
 use Rattle.sections.specs.declared.Section.{Section}
-use Rattle.head.specs.Checks.{openPlan}
-use Rattle.head.specs.Private.{OpenFacts}
+use Rattle.head.specs.Opened.{OpenFacts}
 use Rattle.head.specs.Rules.{Within, Separate}
 use Rattle.head.specs.declared.checks.Opening.{Opening}
 use Rattle.head.proofs.Rules.{outside-law, shares-law}
-use Rattle.head.proofs.Facts.{Shapes, open-facts, open-complete, open-sound, open-shapes}
+use Rattle.head.proofs.Facts.{Shapes, open-facts, open-sound, open-shapes}
 use Rattle.names.specs.Names.{misfitFault, unsoundFault}
 use Rattle.lists.specs.Filled.{filled}
 use Rattle.trace.specs.Links.{end, nexts, namers, chains, predecessor, predecessors, astrayFault, sharedFault, cyclicFault}
 use Rattle.volumes.specs.Volumes.{volumesFrom}
 use Rattle.reader.specs.declared.verdict.Verdict.{Verdict}
 use Rattle.reader.specs.Verdict.{Acceptable, acceptedValues, answerValues}
-use Rattle.reader.specs.Checks.{traceRequired, namesRequired, volumesRequired, nextsIn, recordOf, linkAt, readPlan, prefixAnswer}
-use Rattle.reader.specs.Private.{fitsPlan, textsPlan, tracePlan, volumesPlan, tablesPlan, restPlan}
-use Rattle.reader.proofs.Opens.{read-opens}
-use Rattle.reader.proofs.AllowedLaws.{misfit-take, unsound-take, volumes-take}
+use Rattle.reader.specs.Checks.{traceRequired, namesRequired, volumesRequired, nextsIn, recordOf, linkAt}
+use Rattle.reader.specs.Checks.{countsPlan, fitsPlan, textsPlan, tracePlan, volumesPlan, restPlan}
+use Rattle.reader.proofs.AllowedLaws.{misfit-take, unsound-take, volumes-take, read-rest}
 use Rattle.reader.proofs.Values.{same-values}
 use Rattle.claims.specs.WithoutNext.{SameOutside, WithoutNext}
 
@@ -241,42 +239,37 @@ module _ (p q : List ℕ) (o : Opening) (f : OpenFacts p o) (h : SameOutside (o 
         reach-same k _ (rw (no-nexts o (take k p) none, no-nexts o (take k q) none))
 
     -- one stage after another: what is not accepted is said alike
-    next : {A : Type 0} (t : Plan A) (g k : A → Plan Acceptable) → run t p ≡ run t q
+    next : {A : Type 0} (t u : Plan A) (g k : A → Plan Acceptable) → run t p ≡ run u q
         → ((a : A) → answerValues (run (g a) p) ≡ answerValues (run (k a) q))
-        → answerValues (run (andThen t g) p) ≡ answerValues (run (andThen t k) q)
-    next {A = A} t g k e w = rw (run-then t g p, run-then t k q, ← e) (go (run t p))
+        → answerValues (run (andThen t g) p) ≡ answerValues (run (andThen u k) q)
+    next {A = A} t u g k e w = rw (run-then t g p, run-then u k q, ← e) (go (run t p))
       where
         go : (x : Answer A) → answerValues (onward x (λ a. run (g a) p)) ≡ answerValues (onward x (λ a. run (k a) q))
         go (decided (accept a)) = w a
         go (decided (refuse r)) = refl
         go (wants j) = refl
 
-    tables-same : (m n : ℕ) → answerValues (run (tablesPlan m o (take (headEnd (o .layout)) p)) p)
-        ≡ answerValues (run (tablesPlan n o (take (headEnd (o .layout)) q)) q)
-    unfolding tablesPlan run
-    tables-same m n =
-        next (fitsPlan o) _ _ fits-same λ _.
-        next (textsPlan o) _ _ texts-same λ _.
-        next (tracePlan o) _ _ trace-same λ s.
-        next (volumesPlan o) _ _ volumes-stage λ _.
-        ap (λ (b : List ℕ). acceptedValues (recordOf o b (chains s))) top
-
-    volume-line : (a : Fault) (g k : Unit → Plan Acceptable) → answerValues (run (g tt) p) ≡ answerValues (run (k tt) q)
-        → answerValues (run (andThen (check 8 a) g) p) ≡ answerValues (run (andThen (check 8 a) k) q)
-    unfolding check andThen run
-    volume-line (At i at) g k w = refl
-    volume-line Nowhere g k w = w
+    counts-same : (m n : ℕ) → run (countsPlan m o) p ≡ run (countsPlan n o) q
+    unfolding countsPlan
+    counts-same m n =
+        let room : (k : ℕ) → placesFault k (linkCount (o .layout) (o .head)) ≡ Nowhere = λ k. sym (places-enough k _ (rw (no-links o none) (omega arith))) in
+        reach-here (headEnd (o .layout)) _ p (f .whole)
+        ∙ check-passed 7 _ _ p (room m)
+        ∙ check-same 8 _ _ refl
+        ∙ sym (check-passed 7 _ _ q (room n))
+        ∙ sym (reach-here (headEnd (o .layout)) _ q (opens-too .whole))
 
     rest-same : (m n : ℕ) → answerValues (run (restPlan m o) p) ≡ answerValues (run (restPlan n o) q)
-    unfolding restPlan
+    unfolding restPlan run
     rest-same m n =
-        let room : (k : ℕ) → placesFault k (linkCount (o .layout) (o .head)) ≡ Nowhere = λ k. sym (places-enough k _ (rw (no-links o none) (omega arith))) in
-        rw (reach-here (headEnd (o .layout)) _ p (f .whole), reach-here (headEnd (o .layout)) _ q (opens-too .whole))
-        (rw (check-passed 7 _ _ p (room m), check-passed 7 _ _ q (room n))
-        (volume-line (entriesFault (o .head .volumes .count) (volumeEntry (o .layout)) (o .head .volumes .len)) _ _ (tables-same m n)))
-
-read-as : (p : List ℕ) (m : ℕ) (o : Opening) → OpenFacts p o → prefixAnswer p m ≡ run (restPlan m o) p
-read-as p m o f = sym (read-opens m p) ∙ run-then openPlan (restPlan m) p ∙ rw (open-complete p o f)
+        next (countsPlan m o) (countsPlan n o) _ _ (counts-same m n) λ _.
+        next (fitsPlan o) (fitsPlan o) _ _ fits-same λ _.
+        next (textsPlan o) (textsPlan o) _ _ texts-same λ _.
+        next (tracePlan o) (tracePlan o) _ _ trace-same λ s.
+        next (volumesPlan o) (volumesPlan o) _ _ volumes-stage λ _.
+        ap answerValues (reach-here (headEnd (o .layout)) _ p (f .whole))
+        ∙ ap (λ (b : List ℕ). acceptedValues (recordOf o b (chains s))) top
+        ∙ sym (ap answerValues (reach-here (headEnd (o .layout)) _ q (opens-too .whole)))
 
 pub without-next : WithoutNext
 unfolding chains count
@@ -290,8 +283,8 @@ without-next =
           let f = open-facts p .holds o opened in
           same-values v w
           (r .verdict
-          ∙ ap answerValues (read-as p (length buffer) o f)
+          ∙ ap answerValues (read-rest (length buffer) p o f)
           ∙ rest-same p q o f h none (length buffer) (length buffer′)
-          ∙ sym (ap answerValues (read-as q (length buffer′) o (opens-too p q o f h)))
+          ∙ sym (ap answerValues (read-rest (length buffer′) q o (opens-too p q o f h)))
           ∙ sym (s .verdict));
     }

@@ -1,36 +1,27 @@
--- Request 103: the file offset that goes with a refusal, as one function of its number, its index and the head; that the field lies in
--- the prefix; and that it changes nothing else.
+-- Request 103: the file offset that goes with a refusal, as one function of its number, its index and the head; and that the field lies in
+-- the prefix. So the offset says nothing that number, index and head do not.
 use mathlib.Core.Path.{_≡_}
-use mathlib.Core.Bool.{Bool, not, _||_}
+use mathlib.Core.Bool.{_||_}
 use mathlib.Core.List.{List}
 use mathlib.Core.Option.{Option, some, none}
-use Prim.Native.Nat.{ℕ, _+_, _*_, _≤_}
-use lib.Dec.{eqb, ltb}
+use Prim.Native.Nat.{ℕ, _+_, _≤_}
+use lib.Dec.{eqb}
 use lib.ListN.{length}
 use Rattle.lists.specs.Count.{pick}
-use Rattle.lists.specs.First.{first, firstFrom}
-use Rattle.lists.specs.declared.Found.{Found}
 use Rattle.little_endian.specs.Number.{le}
 use Rattle.layout.specs.Head.{versionAt, signatureAt, declaredSizeAt, programNameAt, metricsOffsetAt, traceCountAt, volumesCountAt, entryOffset}
-use Rattle.layout.specs.Versions.{versionOf, layoutOf, headEnd, sizeLimit, traceEntry, volumeEntry, formRequired}
+use Rattle.layout.specs.Versions.{versionOf, layoutOf, traceEntry, volumeEntry}
 use Rattle.layout.specs.declared.Version.the-variants.{V17}
 use Rattle.layout.specs.declared.KnownVersion.{KnownVersion}
 use Rattle.layout.specs.declared.KnownVersion.the-variants.{Known, Unknown}
 use Rattle.layout.specs.declared.Layout.{Layout}
 use Rattle.incremental.specs.declared.Refusal.{Refusal}
-use Rattle.incremental.specs.declared.Fault.{Fault}
-use Rattle.incremental.specs.Decision.{Decision, accept, refuse, refusal, faultAt, faultOf}
-use Rattle.incremental.specs.Plan.{Plan, decide, Answer, decided, wants, run, reach, check, given, done, _>>=_, _>>_}
-use Rattle.sections.specs.Fields.{declaredSize, nameEnd, formIn, linkCount, headOf, sizeIn, part, numbered, offsetFieldAt, outside, sharesLower}
+use Rattle.sections.specs.Fields.{formIn, headOf, offsetFieldAt}
 use Rattle.sections.specs.declared.Head.{Head}
-use Rattle.head.specs.Checks.{version, units}
-use Rattle.names.specs.Names.{nameAt, nameUnits, nameFieldAt, fits, sound}
-use Rattle.trace.specs.Links.{astray, shared, cyclic, chains, predecessors}
-use Rattle.volumes.specs.Volumes.{volumesFrom}
+use Rattle.names.specs.Names.{nameFieldAt}
 use Rattle.reader.specs.declared.verdict.Verdict.{Verdict}
 use Rattle.reader.specs.declared.verdict.Verdict.the-variants.{Refused}
-use Rattle.reader.specs.Verdict.{Acceptable}
-use Rattle.reader.specs.Checks.{namesRequired, traceRequired, volumesRequired, nextsIn, opening, recordOf, prefixAnswer, ReadsPrefix, ReadsFile}
+use Rattle.reader.specs.Checks.{ReadsPrefix, ReadsFile}
 
 -- THE TABLE: 0 for 1, 4 for 2, 12 for 3, 16 for 4; for 5 and 6 the section's offset field; 96 for 7; for 8 the volume count; for 9 and
 -- 10 the entry's name offset; for 11 the next index, for 12 and 13 the named entry; for 14 and 15 the volume entry; 12 for 16 and 17;
@@ -67,60 +58,6 @@ layoutIn p = let l = constants (versionOf (le 4 p versionAt)) in orElse l (formI
 abbrev pub offsetIn : List ℕ → ℕ → ℕ → ℕ
 offsetIn p number index = offsetOf (layoutIn p) (headOf (layoutIn p) p) number index
 
--- ---- without the offset
-abbrev pub withoutOffset : Refusal → Refusal
-withoutOffset r = refusal (r .number) (r .index) 0
-
-abbrev pub decisionWithout : {A : Type 0} → Decision A → Decision A
-decisionWithout (accept a) = accept a
-decisionWithout (refuse r) = refuse (withoutOffset r)
-
-abbrev pub answerWithout : {A : Type 0} → Answer A → Answer A
-answerWithout (decided d) = decided (decisionWithout d)
-answerWithout (wants k) = wants k
-
--- a fault at index 0, and one that a search found, by the index alone
-abbrev pub atZero : Bool → Fault
-atZero test = faultAt 0 0 test
-
-abbrev pub atIndex : Found → Fault
-atIndex f = faultOf (λ _. 0) f
-
--- all checks as they were: number and index
-unfoldable pub indexPlan : ℕ → Plan Acceptable
-indexPlan m = do
-  b ← reach 4
-  v ← given 1 0 (version (versionOf (le 4 b versionAt)))
-  b ← reach 8
-  check 2 (atZero (not (eqb (le 4 b signatureAt) 0x41434353)))
-  b ← reach 16
-  check 3 (atZero (ltb (declaredSize b) (headEnd (layoutOf v)) || ltb sizeLimit (declaredSize b)))
-  b ← reach 76
-  n ← given 4 0 (units (nameEnd b))
-  b ← reach (formRequired (layoutOf v))
-  l ← given 21 0 (formIn (layoutOf v) b)
-  top ← reach (headEnd l)
-  let h = headOf l top
-  let o = opening v l n h
-  check 5 (atIndex (firstFrom (λ k. outside (headEnd l) (sizeIn h) (numbered h k)) 4 1))
-  check 6 (atIndex (firstFrom (sharesLower h) 4 1))
-  check 7 (atZero (ltb m (linkCount l h)))
-  check 8 (atZero (ltb (h .volumes .len) (h .volumes .count * volumeEntry l)))
-  b ← reach (h .metrics .end)
-  let e = part (h .metrics) b
-  check 9 (atIndex (first (λ i. not (fits (h .strings .len) (nameAt l e i) (nameUnits l e i))) (h .metrics .count)))
-  b ← reach (namesRequired l h)
-  let e = part (h .metrics) b
-  check 10 (atIndex (first (λ i. not (sound (part (h .strings) b) (nameAt l e i) (nameUnits l e i))) (h .metrics .count)))
-  b ← reach (traceRequired l h)
-  let s = nextsIn o b
-  check 11 (atIndex (first (astray s) (length s)))
-  check 12 (atIndex (first (shared s) (length s)))
-  check 13 (atIndex (first (cyclic s) (length s)))
-  b ← reach (volumesRequired l h)
-  decide (decisionWithout (volumesFrom (part (h .volumes) b) l 0 (h .volumes .count) 0))
-  done (record { fields = recordOf o top (chains s); table = predecessors s m })
-
 pub record Offsets : Type 0 where
   -- the offset is the one that the table gives
   pub table-prefix : (p buffer : List ℕ) (v : Verdict) (after : List ℕ) (r : Refusal) → ReadsPrefix p buffer v after → v ≡ Refused r
@@ -130,5 +67,3 @@ pub record Offsets : Type 0 where
   -- the field at fault, of four bytes at least, lies in the prefix
   pub inside : (p buffer : List ℕ) (v : Verdict) (after : List ℕ) (r : Refusal) → ReadsPrefix p buffer v after → v ≡ Refused r
       → r .offset + 4 ≤ length p
-  -- without the offset the answer is the one before the request
-  pub without : (p : List ℕ) (m : ℕ) → answerWithout (prefixAnswer p m) ≡ run (indexPlan m) p
