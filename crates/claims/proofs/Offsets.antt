@@ -19,7 +19,7 @@ use Rattle.lists.specs.declared.Found.the-variants as found
 use Rattle.little_endian.specs.Number.{le}
 use Rattle.layout.specs.Head.{signatureAt, entryOffset}
 use Rattle.layout.specs.Versions.{layoutOf, headEnd, sizeLimit, traceEntry, volumeEntry, metricsEntry, nameOffsetAt, hasNext, formRequired}
-use Rattle.layout.specs.Private.{SoundLayout}
+use Rattle.layout.specs.Sound.{SoundLayout}
 use Rattle.layout.proofs.Laws.{layout-sound, form-required}
 use Rattle.layout.specs.declared.Layout.{Layout}
 use Rattle.incremental.specs.declared.Refusal.{Refusal}

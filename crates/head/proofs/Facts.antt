@@ -16,7 +16,7 @@ use Rattle.lists.specs.declared.Found.the-variants as found
 use Rattle.little_endian.specs.Number.{le}
 use Rattle.little_endian.proofs.Number.{le-take}
 use Rattle.layout.specs.Versions.{versionOf, layoutOf, headEnd, metricsEntry, traceEntry, formRequired, forms, formAt}
-use Rattle.layout.specs.Private.{SoundLayout}
+use Rattle.layout.specs.Sound.{SoundLayout}
 use Rattle.layout.proofs.Laws.{layout-sound, form-sound, form-required}
 use Rattle.layout.specs.declared.Version.{Version}
 use Rattle.layout.specs.declared.Layout.{Layout}

@@ -12,7 +12,7 @@ use lib.Dec.{eqb}
 use Rattle.lists.specs.Count.{pick}
 use Rattle.layout.specs.declared.Layout.{Layout}
 use Rattle.layout.specs.Versions.{layoutOf, formRequired, forms, formAt}
-use Rattle.layout.specs.Private.{SoundLayout}
+use Rattle.layout.specs.Sound.{SoundLayout}
 
 pub layout-sound : (v : Version) → SoundLayout (layoutOf v)
 layout-sound V17 = omega arith

@@ -1,3 +1,3 @@
 pub mod Head
 pub mod Versions
-pub mod Private
+pub mod Sound

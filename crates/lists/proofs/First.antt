@@ -11,7 +11,7 @@ use borrow.Author.Tests.{ltb-true, ltb-false}
 use Rattle.lists.specs.Count.{pick}
 use Rattle.lists.specs.declared.Found.the-variants.{At, Nothing}
 use Rattle.lists.specs.First.{firstFrom, first}
-use Rattle.lists.specs.Private.{foundBelow}
+use Rattle.lists.specs.First.{foundBelow}
 
 pub at-nothing : (i : ℕ) → At i ≡ Nothing → ⊥
 at-nothing i e = let z : _≡_ {A = ℕ} 0 1 = cc in omega arith

@@ -6,4 +6,3 @@ pub mod Those
 pub mod Count
 pub mod Filled
 pub mod Table
-pub mod Private

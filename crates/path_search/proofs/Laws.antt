@@ -12,7 +12,7 @@ use lib.Seq.{take-nil}
 use borrow.Author.Tests.{ne-eqb, lt-ltb, le-ltb, le-leb, lt-leb}
 use Rattle.lists.specs.Count.{pick}
 use Rattle.layout.specs.Versions.{metricsEntry, sizeLimit}
-use Rattle.layout.specs.Private.{SoundLayout}
+use Rattle.layout.specs.Sound.{SoundLayout}
 use Rattle.layout.specs.declared.Version.{Version}
 use Rattle.layout.specs.declared.Version.the-variants.{V17, V23, V26, V30}
 use Rattle.layout.specs.declared.Layout.{Layout}
@@ -32,7 +32,7 @@ use Rattle.names.proofs.Laws.{name-past}
 use Rattle.query.specs.Queries.{asked, bytesAt, entryShown, namePlace}
 use Rattle.path_search.specs.Search.{numbersOf, hashOf, matches, entryNumbers, matchesBy, leastPair, allPairs, pathFound, PathFound}
 use Rattle.path_search.specs.Search.{pathPairs, pairsIn, ListsPaths}
-use Rattle.query.specs.Private.{nameSound, nameIn}
+use Rattle.query.specs.Queries.{nameSound, nameIn}
 use Rattle.path_search.specs.Private.{numbersIn, testIn, numberFor, numberIn, numberedIn, entriesIn, searched, PairsPlaced}
 use Rattle.query.proofs.Laws.{name-inside, part-there, part-low, part-bytes}
 use Rattle.path_search.specs.declared.PathAnswer.{PathAnswer}

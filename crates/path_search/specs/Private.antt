@@ -12,7 +12,7 @@ use Rattle.layout.specs.Versions.{metricsEntry}
 use Rattle.layout.specs.declared.Layout.{Layout}
 use Rattle.layout.specs.declared.Version.{Version}
 use Rattle.query.specs.Queries.{bytesAt}
-use Rattle.query.specs.Private.{nameSound, nameIn}
+use Rattle.query.specs.Queries.{nameSound, nameIn}
 use Rattle.path_search.specs.Search.{numbersOf, hashOf, numberCount, matches, leastPair, allPairs, pairsIn}
 use Rattle.path_search.specs.declared.PathAnswer.{PathAnswer}
 

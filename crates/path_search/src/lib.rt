@@ -6,7 +6,7 @@ ghost use Prim.Native.Nat.{_≤_};
 ghost use lib.ListN.{length};
 ghost use Rattle.lists.specs.Answer.{Answers};
 ghost use Rattle.layout.specs.Versions.{sizeLimit};
-ghost use Rattle.layout.specs.Private.{SoundLayout};
+ghost use Rattle.layout.specs.Sound.{SoundLayout};
 ghost use Rattle.head.specs.Opened.{OpenFacts};
 ghost use Rattle.path_search.specs.Search.{numbersOf, hashOf, matchesBy, leastPair, pathFound, pathSaid, ListsPaths};
 ghost use Rattle.path_search.specs.Private.{numberFor, numberIn, searched, PairsPlaced};

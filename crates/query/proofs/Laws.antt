@@ -23,7 +23,7 @@ use Rattle.lists.specs.declared.Found.the-variants.{At, Nothing}
 use Rattle.little_endian.specs.Number.{le, zeroUnit}
 use Rattle.little_endian.proofs.Number.{le-take, le-drop}
 use Rattle.layout.specs.Versions.{metricsEntry, volumeEntry, sizeLimit}
-use Rattle.layout.specs.Private.{SoundLayout}
+use Rattle.layout.specs.Sound.{SoundLayout}
 use Rattle.layout.specs.declared.Layout.{Layout}
 use Rattle.incremental.specs.Decision.{Decision, accept, refuse, checkedOf}
 use Rattle.incremental.specs.Plan.{Plan, Answer, run}
@@ -52,7 +52,8 @@ use Rattle.volumes.specs.declared.Volume.{Volume}
 use Rattle.volumes.specs.declared.Reference.{Reference}
 use Rattle.query.specs.Queries.{asked, placeOf, placeSaid, volumeSaid, ShownAt, entryShown}
 use Rattle.query.specs.Queries.{clear, accepts, volumeShown, volumeFacts, volumeValues, referenceShown}
-use Rattle.query.specs.Private.{entryIn, nameSound, nameIn, nameShown, sectionShown, volumeIn, referenceIn}
+use Rattle.query.specs.Private.{entryIn, nameShown, sectionShown, volumeIn, referenceIn}
+use Rattle.query.specs.Queries.{nameSound, nameIn}
 use Rattle.query.specs.declared.Place.{Place}
 use Rattle.query.specs.declared.PlaceAnswer.{PlaceAnswer}
 use Rattle.query.specs.declared.PlaceAnswer.the-variants as placeAnswer

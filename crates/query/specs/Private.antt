@@ -34,13 +34,7 @@ referenceIn o p i k =
     (referenceAnswer.Shown (referenceOf (part (o .head .volumes) p) (entryAt (o .layout) i) k))
     referenceAnswer.NotShown
 
--- ---- the name of an entry that lies in the metrics, as a place of the strings
-unfoldable pub nameSound : Layout → List ℕ → List ℕ → ℕ → Bool
-nameSound v metrics strings i = sound strings (nameAt v metrics i) (nameUnits v metrics i)
-
-abbrev pub nameIn : Layout → List ℕ → ℕ → Place
-nameIn v metrics i = record { at = nameAt v metrics i; len = 2 * nameUnits v metrics i }
-
+-- ---- the name of an entry that lies in the metrics
 abbrev pub nameShown : Layout → List ℕ → List ℕ → ℕ → PlaceAnswer
 nameShown v metrics strings i = pick (nameSound v metrics strings i) (placeAnswer.Shown (nameIn v metrics i)) placeAnswer.NotShown
 

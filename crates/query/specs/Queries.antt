@@ -10,6 +10,7 @@ use Rattle.lists.specs.Part.{IsPart}
 use Rattle.lists.specs.Count.{pick}
 use Rattle.layout.specs.Head.{programNameAt}
 use Rattle.layout.specs.Versions.{metricsEntry, volumeEntry}
+use Rattle.layout.specs.declared.Layout.{Layout}
 use Rattle.incremental.specs.declared.Fault.{Fault}
 use Rattle.incremental.specs.declared.Fault.the-variants.{At, Nowhere}
 use Rattle.incremental.specs.Decision.{Decision, accept, refuse}
@@ -159,3 +160,10 @@ referenceAsked p i k =
 abbrev pub referenceSaid : ReferenceAnswer → Said
 referenceSaid (referenceAnswer.Shown r) = record { number = 1; values = r .index ∷ r .sequence ∷ [] }
 referenceSaid referenceAnswer.NotShown = record { number = 0; values = 0 ∷ 0 ∷ [] }
+
+-- ---- the name of an entry that lies in the metrics, as a place of the strings
+unfoldable pub nameSound : Layout → List ℕ → List ℕ → ℕ → Bool
+nameSound v metrics strings i = sound strings (nameAt v metrics i) (nameUnits v metrics i)
+
+abbrev pub nameIn : Layout → List ℕ → ℕ → Place
+nameIn v metrics i = record { at = nameAt v metrics i; len = 2 * nameUnits v metrics i }

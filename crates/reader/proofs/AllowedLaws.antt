@@ -20,7 +20,7 @@ use Rattle.lists.specs.declared.Found.the-variants as found
 use Rattle.little_endian.specs.Number.{le}
 use Rattle.little_endian.proofs.Number.{le-take}
 use Rattle.layout.specs.Versions.{headEnd, runTimeAt, timeCount, runCountAt, volumeEntry, traceEntry, hasNext}
-use Rattle.layout.specs.Private.{SoundLayout}
+use Rattle.layout.specs.Sound.{SoundLayout}
 use Rattle.layout.specs.declared.Layout.{Layout}
 use Rattle.incremental.specs.Decision.{Decision, accept, refuse, faultOf}
 use Rattle.incremental.specs.Plan.{decide, Answer, decided, wants, run, andThen}

@@ -16,7 +16,8 @@ use Rattle.lists.proofs.Count.{count-le, count-less}
 use Rattle.trace.specs.Links.{end, after, follow, cyclic}
 use Rattle.trace.proofs.Steps.{Reach, follow-one, follow-add, follow-suc}
 use Rattle.trace.proofs.Cycles.{cyclic-yes, cyclic-no}
-use Rattle.trace.specs.Private.{InRange, Distinct}
+use Rattle.trace.specs.Private.{Distinct}
+use Rattle.trace.specs.Links.{InRange}
 
 -- how many entries have no mark
 abbrev pub unmarked : List ℕ → List ℕ → ℕ

@@ -2,7 +2,8 @@
 use mathlib.Core.Path.{_≡_}
 use mathlib.Core.Bool.{Bool, true, false, not, _&&_}
 use mathlib.Core.List.{List}
-use Prim.Native.Nat.{ℕ, zero, suc, _*_}
+use mathlib.Core.Logic.{_⊎_}
+use Prim.Native.Nat.{ℕ, zero, suc, _*_, _<_}
 use lib.Dec.{ltb, eqb}
 use lib.ListN.{length, getD}
 use Rattle.lists.specs.Filled.{filled}
@@ -42,6 +43,10 @@ follow s (suc k) i = follow s k (after s i)
 -- 11: entry i's next index is neither 4,294,967,295 nor below the trace count
 abbrev pub astray : List ℕ → ℕ → Bool
 astray s i = not (eqb (after s i) end) && not (ltb (after s i) (length s))
+
+-- 11 passes: every next index is 4,294,967,295 or below the trace count
+abbrev pub InRange : List ℕ → Type 0
+InRange s = (i : ℕ) → i < length s → (after s i ≡ end) ⊎ (after s i < length s)
 
 -- how many of the first i entries name j as next
 unfoldable pub namers : List ℕ → ℕ → ℕ → ℕ

@@ -18,10 +18,6 @@ use Rattle.trace.specs.declared.Links.{Links}
 use Rattle.trace.specs.declared.Pass.{Pass}
 use Rattle.trace.specs.declared.Pass.the-variants.{Astray, Shared, Clear}
 
--- check 11 passed
-abbrev pub InRange : List ℕ → Type 0
-InRange s = (i : ℕ) → i < length s → (after s i ≡ end) ⊎ (after s i < length s)
-
 -- check 12 passed: no two entries name one entry
 abbrev pub Distinct : List ℕ → Type 0
 Distinct s = (i j : ℕ) → i < length s → j < length s → after s i ≡ after s j → (after s i ≡ end → ⊥) → i ≡ j

@@ -4,7 +4,7 @@ ghost use mathlib.Core.Bool.{true};
 ghost use mathlib.Core.Logic.{_⊎_};
 ghost use Prim.Native.Nat.{_*_, _<_};
 ghost use lib.ListN.{length};
-ghost use Rattle.lists.specs.Private.{foundBelow};
+ghost use Rattle.lists.specs.First.{foundBelow};
 ghost use Rattle.little_endian.specs.Number.{le};
 ghost use Rattle.layout.specs.Head.{entryOffset};
 ghost use Rattle.incremental.specs.Decision.{refusal};

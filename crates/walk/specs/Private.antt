@@ -8,7 +8,7 @@ use Rattle.incremental.specs.Plan.{decided, run}
 use Rattle.head.specs.Checks.{openPlan}
 use Rattle.head.specs.declared.checks.Opening.{Opening}
 use Rattle.trace.specs.Links.{end, follow, predecessors, linkChecks}
-use Rattle.trace.specs.Private.{InRange}
+use Rattle.trace.specs.Links.{InRange}
 use Rattle.reader.specs.Verdict.{Acceptable}
 use Rattle.reader.specs.Checks.{fileAnswer}
 use Rattle.walk.specs.declared.Visits.{Visits}

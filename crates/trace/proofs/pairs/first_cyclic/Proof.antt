@@ -7,7 +7,7 @@ use native.Mathlib.Omega.{arith}
 use lib.ListN.{length, length-set}
 use borrow.Author.Needs.{needs}
 use Rattle.lists.proofs.First.{Least, least-first}
-use Rattle.lists.specs.Private.{foundBelow}
+use Rattle.lists.specs.First.{foundBelow}
 use Rattle.trace.specs.Links.{end, firsts, after, cyclic}
 use Rattle.trace.proofs.Steps.{length-firsts, after-firsts}
 use Rattle.trace.proofs.Marks.{unmarked, Seen, Walk, seen-none, seen-all, walk-start, walk-step, walk-found, walk-end, fewer}

@@ -1,4 +1,4 @@
--- What only private contracts need: facts that hold of every version's constants.
+-- What holds of the constants of every version and head form, so that no proof goes by version.
 use mathlib.Core.Path.{_≡_}
 use Prim.Native.Nat.{_+_, _*_, _≤_}
 use Rattle.lists.specs.Count.{pick}
