@@ -1,7 +1,7 @@
 -- Document 01's point marked P on the catalogue line, and its new form.
 use mathlib.Core.Path.{_≡_, refl, sym}
 use lib.ListN.{length}
-use Rattle.lists.specs.Count.{some}
+use Rattle.lists.specs.Count.{anyBelow}
 use Rattle.hex.specs.Hex.{isDigit, digitValue, hexAt, areDigits}
 use Rattle.layout.specs.Versions.{versionOf}
 use Rattle.lines.specs.Lines.{isLine}
@@ -10,7 +10,7 @@ use Rattle.catalogue.specs.Points.{example, newExample, exampleFields, L
 use Rattle.catalogue.proofs.RoundTrip.{round-trip}
 
 new-read : reading newExample ≡ record { number = 0; fields = exampleFields }
-unfolding newExample reading isGood isLine canForm fieldsIn areDigits isDigit digitValue hexAt some versionOf
+unfolding newExample reading isGood isLine canForm fieldsIn areDigits isDigit digitValue hexAt anyBelow versionOf
 new-read = refl
 
 new-length : length newExample ≡ 27
@@ -18,7 +18,7 @@ unfolding newExample
 new-length = refl
 
 pub line-points : LinePoints
-unfolding example reading isGood isLine canForm fieldsIn areDigits isDigit digitValue hexAt some versionOf
+unfolding example reading isGood isLine canForm fieldsIn areDigits isDigit digitValue hexAt anyBelow versionOf
 line-points =
     record {
       line-read = refl;

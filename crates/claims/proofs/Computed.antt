@@ -4,14 +4,14 @@ use mathlib.Core.List.{List}
 use Prim.Native.Nat.{ℕ}
 use Rattle.lists.specs.First.{firstFrom}
 use Rattle.lists.specs.Table.{tabulate}
-use Rattle.lists.specs.Count.{some, count}
+use Rattle.lists.specs.Count.{anyBelow, count}
 use Rattle.little_endian.specs.Number.{le}
 use Rattle.layout.specs.Versions.{versionOf}
 use Rattle.layout.specs.declared.Layout.{Layout}
 use Rattle.incremental.specs.Decision.{Decision}
 use Rattle.incremental.specs.Plan.{Answer, run, andThen, reach, check, given}
 use Rattle.sections.specs.Fields.{signatureFault, sizeFault, nameUnitsIn, nameEnd, formIn, linkCount, headOf, outside, outsideFault}
-use Rattle.sections.specs.Fields.{shares, sharedFault, placesFault, entriesFault}
+use Rattle.sections.specs.Fields.{shares, overlapFault, placesFault, entriesFault}
 use Rattle.head.specs.Checks.{startPlan, formPlan, sectionPlan, openPlan}
 use Rattle.head.specs.declared.checks.Start.{Start}
 use Rattle.head.specs.declared.checks.Opening.{Opening}
@@ -29,12 +29,12 @@ unfolding run andThen reach check given le startPlan signatureFault sizeFault na
 started p = run startPlan p
 
 unfoldable opened : List ℕ → Answer Opening
-unfolding started openPlan formPlan sectionPlan formIn headOf outside outsideFault shares sharedFault some
+unfolding started openPlan formPlan sectionPlan formIn headOf outside outsideFault shares overlapFault anyBelow
 opened p = run openPlan p
 
 -- 11 to 13; 14 and 15
 unfoldable linked : List ℕ → ℕ
-unfolding linkCount nexts tabulate some count cyclic namers follow chains predecessors predecessor
+unfolding linkCount nexts tabulate anyBelow count cyclic namers follow chains predecessors predecessor
 linked s = chains s
 
 unfoldable inVolumes : List ℕ → Layout → ℕ → ℕ → ℕ → Decision Unit

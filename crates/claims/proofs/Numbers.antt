@@ -8,7 +8,7 @@ use native.Mathlib.Nat.{le-refl}
 use native.Mathlib.Omega.{arith}
 use borrow.Author.Tests.{eqb-true}
 use lib.Dec.{eqb}
-use lib.ListN.{length, getD}
+use lib.ListN.{length}
 use Rattle.lists.specs.Count.{pick, count}
 use Rattle.lists.proofs.Count.{true-false, count-zero, count-no}
 use Rattle.incremental.specs.Decision.{accept, refuse}
@@ -21,8 +21,8 @@ use Rattle.path_search.specs.declared.PathAnswer.{PathAnswer}
 use Rattle.path_search.specs.declared.PathAnswer.the-variants.{Entry, NoPath}
 use Rattle.path_search.specs.Search.{hashOf, entryNumbers, matchesBy, leastPair, allPairs, pathFound, pathPairs}
 use Rattle.path_search.specs.Private.{sumBelow, startOf}
-use Rattle.path_search.proofs.Least.{IsLeast, NoneMatches, least-is, least-not}
-use Rattle.path_search.proofs.Places.{sum-more, sum-same, length-pairs, pair-there, pair-at}
+use Rattle.path_search.proofs.Least.{least-is, least-not}
+use Rattle.path_search.proofs.Places.{length-pairs, pair-there, pair-at}
 use Rattle.claims.specs.Numbers.{PairAt, Numbers}
 
 -- ---- over any test of a number and an entry

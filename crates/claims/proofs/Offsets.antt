@@ -3,10 +3,9 @@ use mathlib.Core.Path.{_≡_, refl, sym, ap, _∙_}
 use mathlib.Core.Bool.{Bool, true, false, not, _||_}
 use mathlib.Core.List.{List}
 use mathlib.Core.Logic.{_⊎_, inl, inr}
-use mathlib.Core.Option.{Option, some, none}
+use mathlib.Core.Option.{some, none}
 use Prim.Native.Nat.{ℕ, _+_, _*_, _≤_, _<_}
 use native.Mathlib.Nat.{mul-le-mul-right, add-mul, one-mul}
-use native.Mathlib.Decide.{ℕ-discrete}
 use native.Mathlib.Omega.{arith}
 use borrow.Author.Tests.{ne-eqb, eq-eqb}
 use lib.Dec.{eqb, ltb}
@@ -27,12 +26,12 @@ use Rattle.incremental.specs.declared.Fault.{Fault}
 use Rattle.incremental.specs.declared.Fault.the-variants.{At}
 use Rattle.incremental.specs.Decision.{accept, refuse, refusal, faultAt, faultOf}
 use Rattle.incremental.specs.Plan.{Plan, Answer, decided, wants, run, andThen, reach, check, done}
-use Rattle.incremental.proofs.Plan.{Holds, holds-reach, holds-given, holds-accept}
+use Rattle.incremental.proofs.Plan.{AnswerHolds, holds-reach, holds-given, holds-accept}
 use Rattle.incremental.proofs.Each.{Each, each-refuse, each-accept, each-done, each-reach, each-check, each-given, each-found, each-decide, each-then}
 use Rattle.sections.specs.declared.Section.{Section}
 use Rattle.sections.specs.declared.Head.{Head}
 use Rattle.sections.specs.Fields.{declaredSize, formIn, linkCount, sizeIn, numbered, outside, sharesLower}
-use Rattle.sections.specs.Fields.{signatureFault, sizeFault, headOf, part, offsetFieldAt, outsideFault, sharedFault, placesFault, entriesFault}
+use Rattle.sections.specs.Fields.{signatureFault, sizeFault, headOf, part, offsetFieldAt, outsideFault, overlapFault, placesFault, entriesFault}
 use Rattle.head.specs.Checks.{startPlan, formPlan, sectionPlan, openPlan}
 use Rattle.head.specs.Opened.{StartFacts, OpenFacts}
 use Rattle.head.specs.declared.checks.Start.{Start}
@@ -152,8 +151,8 @@ module _ (p : List ℕ) (m : ℕ) where
   unfolding outsideFault
   outside-row l h = section-row 5 (λ n. outside (headEnd l) (sizeIn h) (numbered h n)) (λ i. refl)
 
-  shared-row : (h : Head) → 112 ≤ length p → (i at : ℕ) → sharedFault h ≡ At i at → Placed p (refusal 6 i at)
-  unfolding sharedFault
+  shared-row : (h : Head) → 112 ≤ length p → (i at : ℕ) → overlapFault h ≡ At i at → Placed p (refusal 6 i at)
+  unfolding overlapFault
   shared-row h = section-row 6 (sharesLower h) (λ i. refl)
 
   -- ---- checks 1 to 6
@@ -176,7 +175,7 @@ module _ (p : List ℕ) (m : ℕ) where
       each-found Any (Placed p) 21 _ _ _ p (λ e. (refl, omega (arith, form-told (s .layout) p _ (rw (f .laid) (form-required (s .version))) told e))) λ l _. ends _
 
   -- the layout of a head form that passed is sound
-  form-sound : (s : Start) → StartFacts p s → Holds (λ t. SoundLayout (t .layout)) (run (formPlan s) p)
+  form-sound : (s : Start) → StartFacts p s → AnswerHolds (λ t. SoundLayout (t .layout)) (run (formPlan s) p)
   unfolding formPlan
   form-sound s f =
       holds-reach (formRequired (s .layout)) _ p _ λ _.

@@ -1,18 +1,16 @@
 -- Vista and 2008 are one hash, so the two tests of version 23 are one test.
 use mathlib.Core.Path.{_≡_, refl, sym, ap, _∙_}
-use mathlib.Core.Bool.{Bool, true, false, _&&_, _||_}
+use mathlib.Core.Bool.{Bool, true, false, _||_}
 use mathlib.Core.List.{List}
 use Prim.Native.Nat.{ℕ, _+_, _%_, _^_}
 use native.Mathlib.Omega.{arith}
 use lib.Dec.{eqb}
 use Rattle.lists.specs.First.{first}
 use Rattle.layout.specs.declared.Version.the-variants.{V23}
-use Rattle.sections.specs.Fields.{storedHash}
 use Rattle.path_hash.specs.Hash.{vista, hash2008}
 use Rattle.path_hash.proofs.Laws.{vista-2008}
 use Rattle.head.specs.declared.checks.Opening.{Opening}
-use Rattle.query.specs.Queries.{entryShown}
-use Rattle.path_search.specs.Search.{hashOf, entryNumbers, matchesBy}
+use Rattle.path_search.specs.Search.{matchesBy}
 use Rattle.path_search.proofs.Least.{hash-low}
 use Rattle.claims.specs.OneHash.{eitherMatches, oldMatch, OneHash}
 

@@ -1,16 +1,13 @@
 -- The run times, one after another.
-use mathlib.Core.Path.{_≡_, refl, sym, _∙_}
+use mathlib.Core.Path.{_≡_, refl, _∙_}
 use mathlib.Core.List.{List}
-use mathlib.Core.Logic.{⊎-elim}
-use Prim.Native.Nat.{ℕ, zero, suc, _+_, _*_, _≤_, _<_}
+use Prim.Native.Nat.{ℕ, zero, suc, _<_}
 use native.Mathlib.Omega.{arith}
 use borrow.Author.Tests.{lt-ltb, le-ltb}
 use lib.ListN.{getD}
-use Rattle.little_endian.specs.Number.{le}
-use Rattle.layout.specs.Versions.{runTimeAt, timeCount}
+use Rattle.layout.specs.Versions.{timeCount}
 use Rattle.layout.specs.declared.Layout.{Layout}
 use Rattle.layout.proofs.Laws.{layout-sound}
-use Rattle.head.specs.declared.checks.Opening.{Opening}
 use Rattle.reader.specs.Checks.{timeAt, timesIn, recordOf}
 use Rattle.claims.specs.Times.{timesOf, Times}
 

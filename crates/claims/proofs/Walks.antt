@@ -1,37 +1,34 @@
 -- What the promise of the walk says of a file, by the laws over its links.
 use mathlib.Core.Path.{_≡_, refl, sym, ap, _∙_}
 use mathlib.Core.Bool.{Bool, true, false}
-use mathlib.Core.List.{List, [], _∷_, _++_}
-use Prim.Native.Nat.{ℕ, zero, suc, _≤_}
+use mathlib.Core.List.{List, [], _++_}
+use Prim.Native.Nat.{ℕ}
 use native.Mathlib.Omega.{arith}
 use borrow.Author.Tests.{le-ltb}
 use lib.Dec.{ltb}
 use lib.ListN.{length, drop}
-use Rattle.lists.specs.Count.{pick}
 use Rattle.lists.specs.Those.{those}
-use Rattle.lists.specs.Table.{tabulate}
 use Rattle.lists.proofs.Table.{length-tabulate}
 use Rattle.layout.specs.Versions.{hasNext}
 use Rattle.incremental.specs.Decision.{Decision, accept, refuse, refusal}
 use Rattle.incremental.specs.Plan.{Answer, decided, wants, run}
-use Rattle.incremental.specs.declared.Refusal.{Refusal}
 use Rattle.sections.specs.Fields.{linkCount}
 use Rattle.sections.proofs.Cases.{links-all}
 use Rattle.head.specs.Checks.{openPlan}
 use Rattle.head.specs.declared.checks.Opening.{Opening}
 use Rattle.head.proofs.Facts.{open-complete}
-use Rattle.trace.specs.Links.{end, nexts, chains}
+use Rattle.trace.specs.Links.{chains}
 use Rattle.trace.proofs.Steps.{length-nexts}
 use Rattle.reader.specs.Verdict.{Acceptable}
 use Rattle.reader.specs.Checks.{nextsIn, linkAt, prefixAnswer, fileAnswer}
 use Rattle.reader.proofs.AllowedLaws.{read-facts, whole-accepted, free-clear, links-pass, links-few}
 use Rattle.walk.specs.declared.WalkAnswer.{WalkAnswer}
 use Rattle.walk.specs.declared.WalkAnswer.the-variants.{Walked, Refused}
-use Rattle.walk.specs.Walk.{walk, chain, joined, along, blocks, total, nextsOf, blocksOf, blocksIn}
-use Rattle.walk.specs.Walk.{Visited, walked, Values, walkedValues, valuesOf, decisionValues, orderAfter, Walks}
+use Rattle.walk.specs.Walk.{walk, flatMap, along, blocks, total, nextsOf, blocksOf, blocksIn}
+use Rattle.walk.specs.Walk.{Visited, walked, Values, walkedValues, valuesOf, decisionValues, orderAfter}
 use Rattle.walk.specs.EveryEntry.{EveryEntry}
 use Rattle.walk.proofs.Once.{every-entry}
-use Rattle.claims.specs.Walks.{WalkSays, WalksSay}
+use Rattle.claims.specs.Walks.{WalksSay}
 use Rattle.claims.proofs.WithoutNext.{no-nexts}
 
 -- a walk is an acceptance
@@ -93,7 +90,7 @@ same-answer (Walked a b) n t e = λ i. Walked (ap (λ (w : Values). w .steps) e 
 same-answer (Refused f) n t e = let z : _≡_ {A = ℕ} 1 0 = ap (λ (w : Values). w .kind) e in absurd (omega arith)
 
 nothing : walk [] ≡ []
-unfolding those joined
+unfolding those flatMap
 nothing = refl
 
 pub walks-say : WalksSay

@@ -1,10 +1,10 @@
 -- Without next indexes: the checks are walked down on two files at once, which agree on all that the checks look at.
 use mathlib.Core.Path.{_≡_, refl, sym, ap, _∙_}
 use mathlib.Core.Bool.{Bool, true, false}
-use mathlib.Core.List.{List, [], _∷_}
+use mathlib.Core.List.{List, []}
 use mathlib.Core.Logic.{_⊎_, inl, inr}
-use mathlib.Core.Option.{Option, some, none}
-use Prim.Native.Nat.{ℕ, zero, suc, _+_, _*_, _-_, _≤_, _<_, min}
+use mathlib.Core.Option.{none}
+use Prim.Native.Nat.{ℕ, _+_, _-_, _≤_, _<_, min}
 use native.Mathlib.Omega.{arith}
 use native.Mathlib.Decide.{ℕ-discrete}
 use borrow.Author.Tests.{ne-eqb, le-ltb, leb-true, leb-false}
@@ -17,15 +17,13 @@ use Rattle.lists.specs.Table.{tabulate}
 use Rattle.lists.proofs.Table.{tabulate-same, tabulate-replicate}
 use Rattle.little_endian.specs.Number.{le}
 use Rattle.little_endian.proofs.Number.{le-take}
-use Rattle.layout.specs.Versions.{layoutOf, headEnd, hasNext, formRequired, traceEntry, versionOf}
-use Rattle.layout.specs.declared.Layout.{Layout}
-use Rattle.layout.proofs.Laws.{layout-sound}
+use Rattle.layout.specs.Versions.{headEnd, hasNext}
 use Rattle.incremental.specs.Decision.{Decision, accept, refuse}
 use Rattle.incremental.specs.Plan.{Plan, decide, Answer, decided, wants, run, andThen, reach, check, done}
 use Rattle.incremental.specs.declared.Fault.{Fault}
 use Rattle.incremental.specs.declared.Fault.the-variants.{At, Nowhere}
 use Rattle.incremental.proofs.Plan.{onward, run-then, reach-here, reach-short, check-passed}
-use Rattle.sections.specs.Fields.{declaredSize, signatureFault, formIn, linkCount, headOf, part, placesFault}
+use Rattle.sections.specs.Fields.{signatureFault, formIn, linkCount, part, placesFault}
 use Rattle.sections.proofs.Cases.{places-enough}
 use Rattle.sections.specs.declared.Section.{Section}
 use Rattle.head.specs.Opened.{OpenFacts}
@@ -35,11 +33,10 @@ use Rattle.head.proofs.Rules.{outside-law, shares-law}
 use Rattle.head.proofs.Facts.{Shapes, open-facts, open-sound, open-shapes}
 use Rattle.names.specs.Names.{misfitFault, unsoundFault}
 use Rattle.lists.specs.Filled.{filled}
-use Rattle.trace.specs.Links.{end, nexts, namers, chains, predecessor, predecessors, astrayFault, sharedFault, cyclicFault}
+use Rattle.trace.specs.Links.{end, nexts, chains, predecessor, predecessors}
 use Rattle.volumes.specs.Volumes.{volumesFrom}
-use Rattle.reader.specs.declared.verdict.Verdict.{Verdict}
 use Rattle.reader.specs.Verdict.{Acceptable, acceptedValues, answerValues}
-use Rattle.reader.specs.Checks.{traceRequired, namesRequired, volumesRequired, nextsIn, recordOf, linkAt}
+use Rattle.reader.specs.Checks.{traceRequired, namesRequired, volumesRequired, nextsIn, recordOf}
 use Rattle.reader.specs.Checks.{countsPlan, fitsPlan, textsPlan, tracePlan, volumesPlan, restPlan}
 use Rattle.reader.proofs.AllowedLaws.{misfit-take, unsound-take, volumes-take, read-rest}
 use Rattle.reader.proofs.Values.{same-values}

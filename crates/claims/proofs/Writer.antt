@@ -43,7 +43,7 @@ use Rattle.reader.specs.Allowed.{Allowed}
 use Rattle.reader.proofs.Allowed.{opens as allowed-opens, demand-2}
 use Rattle.reader.proofs.AllowedLaws.{whole-accepted}
 use Rattle.reader.proofs.Values.{accepted-answer, refused-answer, wanted-answer, same-values}
-use Rattle.writer.specs.LaidOut.{Description, Numbers, laidBy, laidOut, head, beforeZero, carried, pairs, metricsAt, traceAt, stringsAt, volumesAt, laidSize}
+use Rattle.writer.specs.LaidOut.{Description, Numbers, laidBy, laidOut, head, beforeZero, nameKept, pairs, metricsAt, traceAt, stringsAt, volumesAt, laidSize}
 use Rattle.writer.specs.Private.{Writable, headFor, linksIn, sectionChecks, acceptableFor}
 use Rattle.writer.specs.Writes.{writable, roomed, placedAnswer, writeAnswer, fileFor, outputAfter, Lays, Writes}
 use Rattle.writer.proofs.Facts.{LaidFacts}
@@ -138,7 +138,7 @@ module _ (v : Version) (w : Writable (layoutOf v)) (known : versionOf (versionNu
 
   -- it is refused with 3 or 4, or its size is within the limit and its name ends
   abbrev Fits : Type 0
-  Fits = (laidSize l d ≤ sizeLimit) × (length (carried d) < 30)
+  Fits = (laidSize l d ≤ sizeLimit) × (length (nameKept d) < 30)
 
   abbrev RefusedBy : Refusal → Type 0
   RefusedBy f = fileAnswer (laidOut v d) m ≡ decided (refuse f)
@@ -147,9 +147,9 @@ module _ (v : Version) (w : Writable (layoutOf v)) (known : versionOf (versionNu
   Cases = RefusedBy (refusal 3 0 declaredSizeAt) ⊎ (RefusedBy (refusal 4 0 programNameAt) ⊎ Fits)
 
   cases : Cases
-  cases = go (ltb sizeLimit (laidSize l d)) (eqb (length (carried d)) 30) refl refl
+  cases = go (ltb sizeLimit (laidSize l d)) (eqb (length (nameKept d)) 30) refl refl
     where
-      go : (a b : Bool) → ltb sizeLimit (laidSize l d) ≡ a → eqb (length (carried d)) 30 ≡ b → Cases
+      go : (a b : Bool) → ltb sizeLimit (laidSize l d) ≡ a → eqb (length (nameKept d)) 30 ≡ b → Cases
       go true b p q = inl (too-large v l d _ m refl w known (start-facts v l d w r) (ltb-true _ _ p))
       go false true p q = inr (inl (name-endless v l d _ m refl w known (start-facts v l d w r) (ltb-false _ _ p) (eqb-true _ 30 q)))
       go false false p q = inr (inr (ltb-false _ _ p, below-30 (d .name) _ refl (eqb-false _ 30 q)))
@@ -182,7 +182,7 @@ module _ (v : Version) (w : Writable (layoutOf v)) (known : versionOf (versionNu
     facts = laid-facts v l d w r (fits .0)
 
     abbrev o : Opening
-    o = opening v l (length (carried d)) (headFor l d)
+    o = opening v l (length (nameKept d)) (headFor l d)
 
     opened : run openPlan (laidOut v d) ≡ decided (accept o)
     opened = open-complete (laidOut v d) o (opens v l d (laidOut v d) refl w known facts (fits .1))
@@ -192,13 +192,13 @@ module _ (v : Version) (w : Writable (layoutOf v)) (known : versionOf (versionNu
         let e : decided (accept q) ≡ decided (accept o) = sym (open-complete (laidOut v d) q (allowed-opens (laidOut v d) q a)) ∙ opened in
         cc
 
-    whole-name : length (carried d) ≡ length (beforeZero (d .name))
+    whole-name : length (nameKept d) ≡ length (beforeZero (d .name))
     whole-name = omega (arith, fits .1, length-take 30 (beforeZero (d .name)))
 
     unit-written : (i : ℕ) → i < length (beforeZero (d .name)) → le 2 (laidOut v d) (16 + 2 * i) ≡ getD (d .name) i 0
     unfolding laidBy
     unit-written i h =
-        let n = length (carried d) in
+        let n = length (nameKept d) in
         le-left 2 (head v l d) _ (16 + 2 * i) (omega (arith, length-head v l d w, w .run-time, w .run-count, w .head, w .section, whole-name, fits .1))
         ∙ name-unit v l d w r i (omega (arith, whole-name))
         ∙ ap (λ (s : List ℕ). getD s i 0) (sym (carried-prefix (d .name)))

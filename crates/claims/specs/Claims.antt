@@ -10,7 +10,7 @@ use lib.ListN.{length, take}
 use Rattle.incremental.specs.Decision.{accept}
 use Rattle.incremental.specs.Plan.{Plan, decided, run, Stands}
 use Rattle.catalogue.specs.RoundTrip.{RoundTrip}
-use Rattle.sections.specs.Fields.{declaredSize, storedHash}
+use Rattle.sections.specs.Fields.{declaredSize}
 use Rattle.head.specs.Checks.{openPlan}
 use Rattle.head.specs.declared.checks.Opening.{Opening}
 use Rattle.lists.specs.Filled.{filled}

@@ -12,7 +12,7 @@ use Rattle.layout.specs.declared.Version.the-variants.{V17, V23, V26, V30}
 use Rattle.incremental.specs.Decision.{accept}
 use Rattle.incremental.specs.Plan.{decided}
 use Rattle.head.specs.declared.checks.Opening.{Opening}
-use Rattle.trace.specs.Links.{end, chains}
+use Rattle.trace.specs.Links.{end}
 use Rattle.reader.specs.declared.verdict.RunTimes.{RunTimes}
 use Rattle.reader.specs.declared.verdict.Acceptance.{Acceptance}
 use Rattle.reader.specs.declared.verdict.Verdict.{Verdict}

@@ -24,11 +24,11 @@ use Rattle.layout.specs.declared.KnownVersion.{KnownVersion}
 use Rattle.layout.specs.declared.KnownVersion.the-variants.{Known, Unknown}
 use Rattle.incremental.specs.declared.Fault.the-variants.{Nowhere}
 use Rattle.incremental.specs.Decision.{accept}
-use Rattle.incremental.specs.Plan.{Plan, decided, andThen, done, run}
-use Rattle.incremental.proofs.Plan.{answer-then, reach-here, check-passed, given-some, Holds, holds-accept, holds-reach, holds-check}
+use Rattle.incremental.specs.Plan.{decided, run}
+use Rattle.incremental.proofs.Plan.{answer-then, reach-here, check-passed, given-some, AnswerHolds, holds-accept, holds-reach, holds-check}
 use Rattle.incremental.proofs.Plan.{holds-given, holds-then, Decided, decided-decide, decided-reach, decided-check, decided-given, decided-then}
 use Rattle.sections.specs.declared.Head.{Head}
-use Rattle.sections.specs.Fields.{signatureFault, declaredSize, sizeFault, nameEnd, roomFor, formIn, headOf, outsideFault, sharedFault}
+use Rattle.sections.specs.Fields.{signatureFault, declaredSize, sizeFault, nameEnd, roomFor, formIn, headOf, outsideFault, overlapFault}
 use Rattle.head.specs.declared.checks.Start.{Start}
 use Rattle.head.specs.declared.checks.StartAnswer.{StartAnswer}
 use Rattle.head.specs.declared.checks.StartAnswer.the-variants as startAnswer
@@ -91,7 +91,7 @@ units-some found.Nothing n e = let z : _≡_ {A = ℕ} 0 1 = cc in absurd (omega
 
 -- ---- checks 1 to 4
 
-pub start-facts : (p : List ℕ) → Holds (StartFacts p) (run startPlan p)
+pub start-facts : (p : List ℕ) → AnswerHolds (StartFacts p) (run startPlan p)
 unfolding startPlan
 start-facts p =
     holds-reach 4 _ p _ λ _.
@@ -146,7 +146,7 @@ record FormFacts (p : List ℕ) (t : Start) : Type 0 where
   sound : SoundLayout (t .layout)
   least : headEnd (t .layout) ≤ declaredSize p
 
-form-holds : (p : List ℕ) (s : Start) → StartFacts p s → Holds (FormFacts p) (run (formPlan s) p)
+form-holds : (p : List ℕ) (s : Start) → StartFacts p s → AnswerHolds (FormFacts p) (run (formPlan s) p)
 unfolding formPlan
 form-holds p s f =
     holds-reach (formRequired (s .layout)) _ p _ λ t.
@@ -158,7 +158,7 @@ form-holds p s f =
 
 open-inside : (p : List ℕ) (s : Start) → FormFacts p s → headEnd (s .layout) ≤ length p
     → outsideFault (s .layout) (headOf (s .layout) (take (headEnd (s .layout)) p)) ≡ Nowhere
-    → sharedFault (headOf (s .layout) (take (headEnd (s .layout)) p)) ≡ Nowhere
+    → overlapFault (headOf (s .layout) (take (headEnd (s .layout)) p)) ≡ Nowhere
     → OpenFacts p
     (record { version = s .version; layout = s .layout; «name_units» = s .«name_units»; head = headOf (s .layout) (take (headEnd (s .layout)) p) })
 unfolding headOf
@@ -183,16 +183,16 @@ open-inside p s f w g a =
       volumes = rw (← k) (section-end h (le 4 b 12) _ _ _ l (u .3));
     }
 
-sections-hold : (p : List ℕ) (s : Start) → FormFacts p s → Holds (OpenFacts p) (run (sectionPlan s) p)
+sections-hold : (p : List ℕ) (s : Start) → FormFacts p s → AnswerHolds (OpenFacts p) (run (sectionPlan s) p)
 unfolding sectionPlan
 sections-hold p s f =
     let h = headOf (s .layout) (take (headEnd (s .layout)) p) in
     holds-reach (headEnd (s .layout)) _ p _ λ w.
     holds-check _ 5 (outsideFault (s .layout) h) _ p λ g.
-    holds-check _ 6 (sharedFault h) _ p λ a.
+    holds-check _ 6 (overlapFault h) _ p λ a.
     holds-accept (OpenFacts p) _ p (open-inside p s f w g a)
 
-pub open-facts : (p : List ℕ) → Holds (OpenFacts p) (run openPlan p)
+pub open-facts : (p : List ℕ) → AnswerHolds (OpenFacts p) (run openPlan p)
 unfolding openPlan
 open-facts p =
     holds-then _ startPlan _ p λ s e.
@@ -210,7 +210,7 @@ open-complete p o f =
     let sections : run (sectionPlan s) p ≡ decided (accept o) =
     reach-here (headEnd (o .layout)) _ p (f .whole)
     ∙ rw (← f .fields)
-    (check-passed 5 (outsideFault (o .layout) (o .head)) _ p (f .inside) ∙ check-passed 6 (sharedFault (o .head)) _ p (f .apart)) in
+    (check-passed 5 (outsideFault (o .layout) (o .head)) _ p (f .inside) ∙ check-passed 6 (overlapFault (o .head)) _ p (f .apart)) in
     sym
     (sym sections
     ∙ answer-then (formPlan (startIn o)) sectionPlan p _ form
@@ -277,7 +277,7 @@ decided-sections p s f d =
     let h = headOf (s .layout) (take (headEnd (s .layout)) p) in
     decided-reach (headEnd (s .layout)) _ p (le-trans (f .least) d)
     (decided-check 5 (outsideFault (s .layout) h) _ p λ _.
-    decided-check 6 (sharedFault h) _ p λ _.
+    decided-check 6 (overlapFault h) _ p λ _.
     decided-decide _ p)
 
 pub decided-open : (p : List ℕ) → 16 ≤ length p → declaredSize p ≤ length p → Decided (run openPlan p)

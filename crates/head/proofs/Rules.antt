@@ -3,7 +3,7 @@ use mathlib.Core.Path.{_≡_, refl, sym, ap, _∙_}
 use mathlib.Core.List.{List}
 use mathlib.Core.Bool.{Bool, true, false, _&&_, _||_, not}
 use mathlib.Core.Logic.{_↔_, _⊎_, inl, inr, ⊎-map}
-use Prim.Native.Nat.{ℕ, _+_, _-_, _*_, _≤_}
+use Prim.Native.Nat.{ℕ, _+_, _-_, _≤_}
 use native.Mathlib.Omega.{arith}
 use lib.Dec.{eqb, ltb}
 use lib.ListN.{length, take, drop, length-take, length-drop}
@@ -21,7 +21,7 @@ use Rattle.incremental.specs.declared.Fault.the-variants.{At, Nowhere}
 use Rattle.incremental.proofs.Decision.{at-nowhere, fault-clear}
 use Rattle.sections.specs.declared.Section.{Section}
 use Rattle.sections.specs.declared.Head.{Head}
-use Rattle.sections.specs.Fields.{signatureFault, declaredSize, sizeFault, nameEnd, sectionOf, sizeIn, part, outside, outsideFault, shares, sharedFault}
+use Rattle.sections.specs.Fields.{signatureFault, declaredSize, sizeFault, nameEnd, sectionOf, sizeIn, part, outside, outsideFault, shares, overlapFault}
 use Rattle.sections.proofs.Name.{ends-at}
 use Rattle.sections.proofs.Cases.{in-turn, pairs-are}
 use Rattle.head.specs.Rules.{NameEnds, Within, Inside, Separate, Apart}
@@ -139,10 +139,10 @@ none-shared false false false false true f q = absurd (at-nowhere 4 108 q)
 none-shared false false false false false true q = absurd (at-nowhere 4 108 q)
 none-shared false false false false false false q = (refl, refl, refl, refl, refl, refl)
 
-pub shares-law : (h : Head) → (sharedFault h ≡ Nowhere) ↔ Apart h
+pub shares-law : (h : Head) → (overlapFault h ≡ Nowhere) ↔ Apart h
 shares-law h = (there, back)
   where
-    there : sharedFault h ≡ Nowhere → Apart h
+    there : overlapFault h ≡ Nowhere → Apart h
     there e =
         let n =
         none-shared (shares (h .metrics) (h .trace)) (shares (h .metrics) (h .strings)) (shares (h .trace) (h .strings))
@@ -157,7 +157,7 @@ shares-law h = (there, back)
           strings-volumes = separate-law _ _ .0 (n .5);
         }
 
-    back : Apart h → sharedFault h ≡ Nowhere
+    back : Apart h → overlapFault h ≡ Nowhere
     back a =
         let l = separate-law in
         pairs-are h

@@ -1,8 +1,8 @@
 -- The steps of these checks, for `search` at a function's returns. `r` is what a call gave; the code has matched on it.
 use mathlib.Core.Path.{_≡_, refl, sym, ap, _∙_}
 use mathlib.Core.List.{List}
-use mathlib.Core.Option.{Option, some, none}
-use Prim.Native.Nat.{ℕ, _≤_, _<_}
+use mathlib.Core.Option.{Option, none}
+use Prim.Native.Nat.{ℕ, _≤_}
 use lib.ListN.{length, take}
 use Rattle.lists.specs.Answer.{Answers}
 use Rattle.lists.specs.declared.Found.{Found}
@@ -16,12 +16,12 @@ use Rattle.layout.specs.declared.KnownVersion.the-variants.{Known, Unknown}
 use Rattle.layout.specs.declared.KnownForm.{KnownForm}
 use Rattle.layout.specs.declared.KnownForm.the-variants as form
 use Rattle.incremental.specs.Decision.{accept, refuse, refusal}
-use Rattle.incremental.specs.Plan.{Plan, Answer, decided, wants, andThen, given, done, run}
+use Rattle.incremental.specs.Plan.{Plan, Answer, decided, andThen, given, done, run}
 use Rattle.incremental.specs.declared.Refusal.{Refusal}
 use Rattle.incremental.specs.declared.Fault.{Fault}
 use Rattle.incremental.specs.declared.Fault.the-variants as fault
 use Rattle.sections.specs.declared.Head.{Head}
-use Rattle.sections.specs.Fields.{sizeFault, headOf, outsideFault, sharedFault}
+use Rattle.sections.specs.Fields.{sizeFault, headOf, outsideFault, overlapFault}
 use Rattle.incremental.proofs.Plan.{onward, run-steps, reach-on, check-on, check-refused, decide-it, given-some, given-none, then-case}
 use Rattle.head.specs.declared.checks.Start.{Start}
 use Rattle.head.specs.declared.checks.StartAnswer.{StartAnswer}
@@ -99,14 +99,14 @@ module _ (s : Start) (p : List ℕ) (h : Head) (k : headEnd (s .layout) ≤ leng
   outside-refused r i at z f q w = reach-on _ _ p _ k (rw (← e) (check-refused 5 (outsideFault (s .layout) h) _ p i at r z f q w))
 
   module _ (x : Fault) (inside : x ≡ outsideFault (s .layout) h) (none : x ≡ fault.Nowhere) where
-    pub shared-refused : (r : Fault) (i at : ℕ) (z : Refusal) → r ≡ sharedFault h → r ≡ fault.At i at → z ≡ refusal 6 i at
+    pub shared-refused : (r : Fault) (i at : ℕ) (z : Refusal) → r ≡ overlapFault h → r ≡ fault.At i at → z ≡ refusal 6 i at
         → decided (refuse z) ≡ run (sectionPlan s) p
     unfolding sectionPlan
     shared-refused r i at z f q w =
         reach-on _ _ p _ k
-        (rw (← e) (check-on 5 (outsideFault (s .layout) h) _ p x _ inside none (check-refused 6 (sharedFault h) _ p i at r z f q w)))
+        (rw (← e) (check-on 5 (outsideFault (s .layout) h) _ p x _ inside none (check-refused 6 (overlapFault h) _ p i at r z f q w)))
 
-    pub sections-pass : (r : Fault) → r ≡ sharedFault h → r ≡ fault.Nowhere
+    pub sections-pass : (r : Fault) → r ≡ overlapFault h → r ≡ fault.Nowhere
         → _≡_ {A = Answer Opening} (decided (accept (record { version = s .version; layout = s .layout; «name_units» = s .«name_units»; head = h })))
         (run (sectionPlan s) p)
     unfolding sectionPlan
@@ -114,4 +114,4 @@ module _ (s : Start) (p : List ℕ) (h : Head) (k : headEnd (s .layout) ≤ leng
         reach-on _ _ p _ k
         (rw (← e)
         (check-on 5 (outsideFault (s .layout) h) _ p x _ inside none
-        (check-on 6 (sharedFault h) _ p r _ f q (decide-it _ _ p refl))))
+        (check-on 6 (overlapFault h) _ p r _ f q (decide-it _ _ p refl))))

@@ -12,7 +12,7 @@ use Rattle.layout.specs.declared.KnownVersion.{KnownVersion}
 use Rattle.layout.specs.declared.KnownVersion.the-variants.{Known, Unknown}
 use Rattle.incremental.specs.Decision.{accept, refuse}
 use Rattle.incremental.specs.Plan.{Plan, Answer, decided, wants, reach, check, given, done, _>>=_, _>>_}
-use Rattle.sections.specs.Fields.{signatureFault, sizeFault, nameEnd, formIn, headOf, outsideFault, sharedFault}
+use Rattle.sections.specs.Fields.{signatureFault, sizeFault, nameEnd, formIn, headOf, outsideFault, overlapFault}
 use Rattle.head.specs.declared.checks.Start.{Start}
 use Rattle.head.specs.declared.checks.StartAnswer.{StartAnswer}
 use Rattle.head.specs.declared.checks.StartAnswer.the-variants as startAnswer
@@ -55,7 +55,7 @@ sectionPlan s = do
   b ← reach (headEnd (s .layout))
   let h = headOf (s .layout) b
   check 5 (outsideFault (s .layout) h)
-  check 6 (sharedFault h)
+  check 6 (overlapFault h)
   done (record { version = s .version; layout = s .layout; «name_units» = s .«name_units»; head = h })
 
 -- CHECKS 1 TO 6, with 21 among them

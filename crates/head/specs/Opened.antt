@@ -9,7 +9,7 @@ use Rattle.little_endian.specs.Number.{le}
 use Rattle.layout.specs.Versions.{versionOf, layoutOf, headEnd, formRequired, sizeLimit}
 use Rattle.layout.specs.declared.KnownVersion.the-variants.{Known}
 use Rattle.incremental.specs.declared.Fault.the-variants.{Nowhere}
-use Rattle.sections.specs.Fields.{signatureFault, declaredSize, nameEnd, formIn, headOf, outsideFault, sharedFault}
+use Rattle.sections.specs.Fields.{signatureFault, declaredSize, nameEnd, formIn, headOf, outsideFault, overlapFault}
 use Rattle.head.specs.declared.checks.Start.{Start}
 use Rattle.head.specs.declared.checks.Opening.{Opening}
 
@@ -36,7 +36,7 @@ pub record OpenFacts (p : List ℕ) (o : Opening) : Type 0 where
   pub whole : headEnd (o .layout) ≤ length p
   pub fields : o .head ≡ headOf (o .layout) (take (headEnd (o .layout)) p)
   pub inside : outsideFault (o .layout) (o .head) ≡ Nowhere
-  pub apart : sharedFault (o .head) ≡ Nowhere
+  pub apart : overlapFault (o .head) ≡ Nowhere
   pub metrics : o .head .metrics .end ≤ declaredSize p
   pub trace : o .head .trace .end ≤ declaredSize p
   pub strings : o .head .strings .end ≤ declaredSize p

@@ -115,7 +115,7 @@ fn check_sections(file: &[u8], s: Start) -> OpenAnswer
     if let Fault::At(i, at) = sections::outside_fault(l, h) {
         return OpenAnswer::Refused(incremental::refuse(5, i, at));
     }
-    if let Fault::At(i, at) = sections::shared_fault(h) {
+    if let Fault::At(i, at) = sections::overlap_fault(h) {
         return OpenAnswer::Refused(incremental::refuse(6, i, at));
     }
     OpenAnswer::Opened(Opening {

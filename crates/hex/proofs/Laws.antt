@@ -9,8 +9,8 @@ use lib.Dec.{leb}
 use lib.ListN.{length, getD, take, drop, take-append-drop}
 use lib.Seq.{paste, length-paste, take-paste, take-all, take-add, getD-take, getD-append-add, length-take-le}
 use borrow.Author.Tests.{leb-true, le-leb, lt-leb, not-false}
-use Rattle.lists.specs.Count.{pick, some}
-use Rattle.lists.proofs.Count.{some-yes, some-no, some-false, true-false}
+use Rattle.lists.specs.Count.{pick, anyBelow}
+use Rattle.lists.proofs.Count.{any-yes, any-no, any-false, true-false}
 use Rattle.hex.specs.Hex.{isDigit, hexAt, hexDigits, areDigits, numberIn, written}
 use Rattle.hex.specs.Private.{Digits}
 use Rattle.hex.proofs.Hex.{hex-digits, digits-hex, digits-are, length-digits}
@@ -23,20 +23,20 @@ module _ (s : List ℕ) (at w : ℕ) where
 
   pub digits-other : (k : ℕ) → at + w ≤ length s → k < w → isDigit (getD s (at + k) 0) ≡ false → areDigits s at w ≡ false
   unfolding areDigits
-  digits-other k l m d = rw (le-leb (at + w) (length s) l, some-yes (λ j. not (isDigit (getD s (at + j) 0))) w k m (ap not d))
+  digits-other k l m d = rw (le-leb (at + w) (length s) l, any-yes (λ j. not (isDigit (getD s (at + j) 0))) w k m (ap not d))
 
   pub digits-all : at + w ≤ length s → Digits s at w → areDigits s at w ≡ true
   unfolding areDigits
-  digits-all l h = rw (le-leb (at + w) (length s) l, some-no (λ j. not (isDigit (getD s (at + j) 0))) w (λ k m. ap not (h k m)))
+  digits-all l h = rw (le-leb (at + w) (length s) l, any-no (λ j. not (isDigit (getD s (at + j) 0))) w (λ k m. ap not (h k m)))
 
   -- and back
   pub digits-true : areDigits s at w ≡ true → (at + w ≤ length s) × Digits s at w
   unfolding areDigits
-  digits-true e = go (leb (at + w) (length s)) (some (λ k. not (isDigit (getD s (at + k) 0))) w) refl refl e
+  digits-true e = go (leb (at + w) (length s)) (anyBelow (λ k. not (isDigit (getD s (at + k) 0))) w) refl refl e
     where
-      go : (a b : Bool) → leb (at + w) (length s) ≡ a → some (λ k. not (isDigit (getD s (at + k) 0))) w ≡ b → a && not b ≡ true
+      go : (a b : Bool) → leb (at + w) (length s) ≡ a → anyBelow (λ k. not (isDigit (getD s (at + k) 0))) w ≡ b → a && not b ≡ true
           → (at + w ≤ length s) × Digits s at w
-      go true false p q e = (leb-true _ _ p, λ k l. not-false _ (some-false (λ k. not (isDigit (getD s (at + k) 0))) w q k l))
+      go true false p q e = (leb-true _ _ p, λ k l. not-false _ (any-false (λ k. not (isDigit (getD s (at + k) 0))) w q k l))
       go true true p q e = absurd (true-false (sym e))
       go false b p q e = absurd (true-false (sym e))
 

@@ -7,8 +7,8 @@ use native.Mathlib.Omega.{arith}
 use lib.Dec.{eqb, leb}
 use lib.ListN.{getD}
 use borrow.Author.Tests.{eqb-true, not-false, lt-leb}
-use Rattle.lists.specs.Count.{pick, some}
-use Rattle.lists.proofs.Count.{some-false}
+use Rattle.lists.specs.Count.{pick, anyBelow}
+use Rattle.lists.proofs.Count.{any-false}
 use Rattle.hex.specs.Hex.{isDigit, digitValue}
 use Rattle.hex.specs.Private.{valueOr16, ValueTable}
 use Rattle.hex.proofs.Hex.{digit-law}
@@ -22,15 +22,15 @@ wrong : ℕ → Bool
 wrong k = not (eqb (getD values k 0) (valueOr16 (48 + k)))
 
 -- there is none, which is computed here
-none-wrong : some wrong 23 ≡ false
-unfolding some isDigit digitValue valueOr16 values wrong
+none-wrong : anyBelow wrong 23 ≡ false
+unfolding anyBelow isDigit digitValue valueOr16 values wrong
 none-wrong = refl
 
 pub values-right : ValueTable values
 unfolding wrong
 values-right c l m =
     let q : 48 + (c - 48) ≡ c = omega arith in
-    let e : getD values (c - 48) 0 ≡ valueOr16 (48 + (c - 48)) = eqb-true _ _ (not-false _ (some-false wrong 23 none-wrong (c - 48) (omega arith))) in
+    let e : getD values (c - 48) 0 ≡ valueOr16 (48 + (c - 48)) = eqb-true _ _ (not-false _ (any-false wrong 23 none-wrong (c - 48) (omega arith))) in
     rw q at e
 
 -- bytes outside it are no digits

@@ -5,7 +5,7 @@ use Prim.Native.Nat.{ℕ, zero, suc, _+_, _-_, _*_, _/_, _%_, _^_}
 use lib.Dec.{ltb, leb}
 use lib.ListN.{length, getD}
 use lib.Seq.{paste}
-use Rattle.lists.specs.Count.{pick, some}
+use Rattle.lists.specs.Count.{pick, anyBelow}
 
 -- a byte that is one of the digits 0-9 and A-F
 unfoldable pub isDigit : ℕ → Bool
@@ -31,7 +31,7 @@ hexDigits (suc width) x = digitOf (x / 16 ^ width % 16) ∷ hexDigits width x
 
 -- the `width` bytes from `at` are there, and none of them is no digit
 unfoldable pub areDigits : List ℕ → ℕ → ℕ → Bool
-areDigits s at width = leb (at + width) (length s) && not (some (λ k. not (isDigit (getD s (at + k) 0))) width)
+areDigits s at width = leb (at + width) (length s) && not (anyBelow (λ k. not (isDigit (getD s (at + k) 0))) width)
 
 -- READING: the number that `width` digits from `at` form, where they are digits and so few that 64 bits hold it; else 0
 unfoldable pub numberIn : List ℕ → ℕ → ℕ → ℕ

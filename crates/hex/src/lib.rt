@@ -1,7 +1,6 @@
 // Numbers in digits 0-9 A-F, the most significant first: read and written at any width.
 ghost use mathlib.Core.Path.{_≡_};
-ghost use Prim.Native.Nat.{_+_, _/_, _%_, _^_, _≤_, _<_};
-ghost use lib.ListN.{length};
+ghost use Prim.Native.Nat.{_/_, _%_, _^_, _<_};
 ghost use Rattle.hex.specs.Hex.{isDigit, digitOf, areDigits, numberIn, written};
 ghost use Rattle.hex.specs.Private.{valueOr16, ValueTable};
 

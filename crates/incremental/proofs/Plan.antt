@@ -116,30 +116,30 @@ decided-then {A = A} t f p d h = rw (run-then t f p) (go (run t p) d h)
     go (wants j) d h = record { never = λ k e. d .never j refl }
 
 -- what holds of whatever a plan accepts
-pub record Holds {A : Type 0} (P : A → Type 0) (x : Answer A) : Type 0 where
+pub record AnswerHolds {A : Type 0} (P : A → Type 0) (x : Answer A) : Type 0 where
   pub holds : (a : A) → x ≡ decided (accept a) → P a
 
-pub holds-accept : {A : Type 0} (P : A → Type 0) (a : A) (p : List ℕ) → P a → Holds P (run (decide (accept a)) p)
+pub holds-accept : {A : Type 0} (P : A → Type 0) (a : A) (p : List ℕ) → P a → AnswerHolds P (run (decide (accept a)) p)
 unfolding run
 holds-accept P a p h = record { holds = λ b e. let q : a ≡ b = cc in rw (← q) h }
 
-pub holds-refuse : {A : Type 0} (P : A → Type 0) (r : Refusal) (p : List ℕ) → Holds P (run (decide (refuse r)) p)
+pub holds-refuse : {A : Type 0} (P : A → Type 0) (r : Refusal) (p : List ℕ) → AnswerHolds P (run (decide (refuse r)) p)
 unfolding run
 holds-refuse P r p = record { holds = λ b e. let z : _≡_ {A = ℕ} 0 1 = cc in absurd (omega arith) }
 
-pub holds-await : {A : Type 0} (P : A → Type 0) (k : ℕ) (next : List ℕ → Plan A) (p : List ℕ) → (k ≤ length p → Holds P (run (next (take k p)) p))
-    → Holds P (run (await k next) p)
+pub holds-await : {A : Type 0} (P : A → Type 0) (k : ℕ) (next : List ℕ → Plan A) (p : List ℕ) → (k ≤ length p → AnswerHolds P (run (next (take k p)) p))
+    → AnswerHolds P (run (await k next) p)
 holds-await P k next p h = go (leb k (length p)) refl
   where
-    go : (b : Bool) → leb k (length p) ≡ b → Holds P (run (await k next) p)
+    go : (b : Bool) → leb k (length p) ≡ b → AnswerHolds P (run (await k next) p)
     go true e = rw (run-here k next p (leb-true _ _ e)) (h (leb-true _ _ e))
     go false e = rw (run-short k next p (leb-false _ _ e)) (record { holds = λ b q. let z : _≡_ {A = ℕ} 0 1 = cc in absurd (omega arith) })
 
 pub holds-then : {A B : Type 0} (P : B → Type 0) (t : Plan A) (f : A → Plan B) (p : List ℕ)
-    → ((a : A) → run t p ≡ decided (accept a) → Holds P (run (f a) p)) → Holds P (run (andThen t f) p)
+    → ((a : A) → run t p ≡ decided (accept a) → AnswerHolds P (run (f a) p)) → AnswerHolds P (run (andThen t f) p)
 holds-then {A = A} P t f p h = rw (run-then t f p) (go (run t p) h)
   where
-    go : (x : Answer A) → ((a : A) → x ≡ decided (accept a) → Holds P (run (f a) p)) → Holds P (onward x (λ a. run (f a) p))
+    go : (x : Answer A) → ((a : A) → x ≡ decided (accept a) → AnswerHolds P (run (f a) p)) → AnswerHolds P (onward x (λ a. run (f a) p))
     go (decided (accept a)) h = h a refl
     go (decided (refuse r)) h = record { holds = λ b q. let z : _≡_ {A = ℕ} 0 1 = cc in absurd (omega arith) }
     go (wants j) h = record { holds = λ b q. let z : _≡_ {A = ℕ} 0 1 = cc in absurd (omega arith) }
@@ -159,7 +159,7 @@ module _ {B : Type 0} (k : ℕ) (f : List ℕ → Plan B) (p : List ℕ) where
   unfolding reach andThen
   reach-short h = run-short k f p h
 
-  pub holds-reach : (P : B → Type 0) → (k ≤ length p → Holds P (run (f (take k p)) p)) → Holds P (run (andThen (reach k) f) p)
+  pub holds-reach : (P : B → Type 0) → (k ≤ length p → AnswerHolds P (run (f (take k p)) p)) → AnswerHolds P (run (andThen (reach k) f) p)
   unfolding reach andThen
   holds-reach P h = holds-await P k f p h
 
@@ -191,7 +191,7 @@ module _ {B : Type 0} (n : ℕ) (f : Fault) (g : Unit → Plan B) (p : List ℕ)
   check-on r v e q h = rw (check-passed (sym e ∙ q)) h
 
 pub holds-check : {B : Type 0} (P : B → Type 0) (n : ℕ) (f : Fault) (g : Unit → Plan B) (p : List ℕ)
-    → (f ≡ Nowhere → Holds P (run (g tt) p)) → Holds P (run (andThen (check n f) g) p)
+    → (f ≡ Nowhere → AnswerHolds P (run (g tt) p)) → AnswerHolds P (run (andThen (check n f) g) p)
 unfolding check andThen
 holds-check P n (At i at) g p h = holds-refuse P (refusal n i at) p
 holds-check P n Nowhere g p h = h refl
@@ -213,7 +213,7 @@ module _ {A B : Type 0} (n at : ℕ) (o : Option A) (g : A → Plan B) (p : List
   given-none e = rw e
 
 pub holds-given : {A B : Type 0} (P : B → Type 0) (n at : ℕ) (o : Option A) (g : A → Plan B) (p : List ℕ)
-    → ((a : A) → o ≡ some a → Holds P (run (g a) p)) → Holds P (run (andThen (given n at o) g) p)
+    → ((a : A) → o ≡ some a → AnswerHolds P (run (g a) p)) → AnswerHolds P (run (andThen (given n at o) g) p)
 unfolding given andThen
 holds-given P n at (some a) g p h = h a refl
 holds-given P n at none g p h = holds-refuse P (refusal n 0 at) p

@@ -8,7 +8,7 @@ use lib.Dec.{ltb, eqb}
 use lib.ListN.{length, getD, take, length-take, List·getD-eq-default}
 use lib.Seq.{getD-take}
 use native.Mathlib.Decide.{decLt}
-use Rattle.lists.specs.First.{first, firstFrom}
+use Rattle.lists.specs.First.{firstFrom}
 use Rattle.lists.proofs.First.{first-at}
 use Rattle.lists.proofs.Count.{count-le}
 use Rattle.lists.specs.declared.Found.{Found}
@@ -29,7 +29,7 @@ use Rattle.incremental.proofs.Each.{Each, each-refuse, each-accept, each-done, 
 use Rattle.volumes.proofs.Fair.{fair-volumes}
 use Rattle.sections.proofs.Name.{ends-at}
 use Rattle.sections.proofs.Cases.{links-low}
-use Rattle.sections.specs.Fields.{declaredSize, signatureFault, sizeFault, linkCount, headOf, outsideFault, sharedFault, placesFault, entriesFault}
+use Rattle.sections.specs.Fields.{declaredSize, signatureFault, sizeFault, linkCount, headOf, outsideFault, overlapFault, placesFault, entriesFault}
 use Rattle.sections.specs.declared.Head.{Head}
 use Rattle.head.specs.Checks.{startPlan, formPlan, sectionPlan, openPlan}
 use Rattle.head.specs.Opened.{OpenFacts}
@@ -92,8 +92,8 @@ low-outside : (l : Layout) (h : Head) → LowFault (outsideFault l h)
 unfolding outsideFault
 low-outside l h = low-from _ _ 4 1 (omega arith)
 
-low-shared : (h : Head) → LowFault (sharedFault h)
-unfolding sharedFault
+low-shared : (h : Head) → LowFault (overlapFault h)
+unfolding overlapFault
 low-shared h = low-from _ _ 4 1 (omega arith)
 
 low-places : (m n : ℕ) → LowFault (placesFault m n)

@@ -5,48 +5,48 @@ use mathlib.Core.Logic.{⊎-elim}
 use Prim.Native.Nat.{ℕ, zero, suc, _≤_, _<_}
 use native.Mathlib.Nat.{le-of-suc-le-suc, not-suc-le-zero, eq-or-lt-of-le, le-refl}
 use native.Mathlib.Omega.{arith}
-use Rattle.lists.specs.Count.{pick, some, count}
+use Rattle.lists.specs.Count.{pick, anyBelow, count}
 
 -- true is not false
 pub true-false : _≡_ {A = Bool} true false → ⊥
 true-false e = let z : _≡_ {A = ℕ} 0 1 = ap (λ (b : Bool). pick b 0 1) e in omega arith
 
-pub some-yes : (p : ℕ → Bool) (n k : ℕ) → k < n → p k ≡ true → some p n ≡ true
-unfolding some
-some-yes p zero k l e = absurd (not-suc-le-zero l)
-some-yes p (suc n) k l e = go (p n) refl (some-yes p n k)
+pub any-yes : (p : ℕ → Bool) (n k : ℕ) → k < n → p k ≡ true → anyBelow p n ≡ true
+unfolding anyBelow
+any-yes p zero k l e = absurd (not-suc-le-zero l)
+any-yes p (suc n) k l e = go (p n) refl (any-yes p n k)
   where
-    go : (b : Bool) → p n ≡ b → (k < n → p k ≡ true → some p n ≡ true) → elim b as (λ _. Bool) [ true ↦ true | false ↦ some p n ] ≡ true
+    go : (b : Bool) → p n ≡ b → (k < n → p k ≡ true → anyBelow p n ≡ true) → elim b as (λ _. Bool) [ true ↦ true | false ↦ anyBelow p n ] ≡ true
     go true q ih = refl
     go false q ih =
         ⊎-elim (λ j. let z : _≡_ {A = Bool} true false = sym e ∙ ap p j ∙ q in absurd (true-false z)) (λ h. ih h e)
         (eq-or-lt-of-le (le-of-suc-le-suc l))
 
-pub some-no : (p : ℕ → Bool) (n : ℕ) → ((k : ℕ) → k < n → p k ≡ false) → some p n ≡ false
-unfolding some
-some-no p zero f = refl
-some-no p (suc n) f = rw (f n (le-refl (suc n)), some) (some-no p n (λ k h. f k (omega arith)))
+pub any-no : (p : ℕ → Bool) (n : ℕ) → ((k : ℕ) → k < n → p k ≡ false) → anyBelow p n ≡ false
+unfolding anyBelow
+any-no p zero f = refl
+any-no p (suc n) f = rw (f n (le-refl (suc n)), anyBelow) (any-no p n (λ k h. f k (omega arith)))
 
-pub some-true : (p : ℕ → Bool) (n : ℕ) → some p n ≡ true → (k : ℕ) × (k < n) × (p k ≡ true)
-unfolding some
-some-true p zero e = absurd (true-false (sym e))
-some-true p (suc n) e = go (p n) refl e (some-true p n)
+pub any-true : (p : ℕ → Bool) (n : ℕ) → anyBelow p n ≡ true → (k : ℕ) × (k < n) × (p k ≡ true)
+unfolding anyBelow
+any-true p zero e = absurd (true-false (sym e))
+any-true p (suc n) e = go (p n) refl e (any-true p n)
   where
-    go : (b : Bool) → p n ≡ b → elim b as (λ _. Bool) [ true ↦ true | false ↦ some p n ] ≡ true
-        → (some p n ≡ true → (k : ℕ) × (k < n) × (p k ≡ true)) → (k : ℕ) × (k < suc n) × (p k ≡ true)
+    go : (b : Bool) → p n ≡ b → elim b as (λ _. Bool) [ true ↦ true | false ↦ anyBelow p n ] ≡ true
+        → (anyBelow p n ≡ true → (k : ℕ) × (k < n) × (p k ≡ true)) → (k : ℕ) × (k < suc n) × (p k ≡ true)
     go true q f ih = (n, le-refl (suc n), q)
     go false q f ih = let t = ih f in (t .0, omega (arith, t .1), t .2)
 
-pub some-false : (p : ℕ → Bool) (n : ℕ) → some p n ≡ false → (k : ℕ) → k < n → p k ≡ false
-some-false p n e k l = go (p k) refl
+pub any-false : (p : ℕ → Bool) (n : ℕ) → anyBelow p n ≡ false → (k : ℕ) → k < n → p k ≡ false
+any-false p n e k l = go (p k) refl
   where
     go : (b : Bool) → p k ≡ b → b ≡ false
-    go true q = absurd (true-false (sym (some-yes p n k l q) ∙ e))
+    go true q = absurd (true-false (sym (any-yes p n k l q) ∙ e))
     go false q = refl
 
-pub some-more : (p : ℕ → Bool) (n : ℕ) → some p (suc n) ≡ (some p n || p n)
-unfolding some
-some-more p n = go (p n) (some p n)
+pub any-more : (p : ℕ → Bool) (n : ℕ) → anyBelow p (suc n) ≡ (anyBelow p n || p n)
+unfolding anyBelow
+any-more p n = go (p n) (anyBelow p n)
   where
     go : (b a : Bool) → elim b as (λ _. Bool) [ true ↦ true | false ↦ a ] ≡ (a || b)
     go true true = refl
@@ -54,12 +54,12 @@ some-more p n = go (p n) (some p n)
     go false true = refl
     go false false = refl
 
-pub some-eight : (p : ℕ → Bool) → (((((((p 0 || p 1) || p 2) || p 3) || p 4) || p 5) || p 6) || p 7) ≡ some p 8
-unfolding some
-some-eight p = sym (next 7 (next 6 (next 5 (next 4 (next 3 (next 2 (next 1 (some-more p 0))))))))
+pub any-eight : (p : ℕ → Bool) → (((((((p 0 || p 1) || p 2) || p 3) || p 4) || p 5) || p 6) || p 7) ≡ anyBelow p 8
+unfolding anyBelow
+any-eight p = sym (next 7 (next 6 (next 5 (next 4 (next 3 (next 2 (next 1 (any-more p 0))))))))
   where
-    next : (n : ℕ) {a : Bool} → some p n ≡ a → some p (suc n) ≡ (a || p n)
-    next n e = some-more p n ∙ ap (λ b. b || p n) e
+    next : (n : ℕ) {a : Bool} → anyBelow p n ≡ a → anyBelow p (suc n) ≡ (a || p n)
+    next n e = any-more p n ∙ ap (λ b. b || p n) e
 
 -- one number more
 pub count-yes : (p : ℕ → Bool) (n : ℕ) → p n ≡ true → count p (suc n) ≡ suc (count p n)

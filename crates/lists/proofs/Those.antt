@@ -1,16 +1,16 @@
 -- The indexes that pass a test: the place of each in their list, and the index at each place.
 use mathlib.Core.Path.{_≡_, refl, sym, ap, _∙_}
 use mathlib.Core.Bool.{Bool, true, false}
-use mathlib.Core.List.{List, [], _∷_, _++_, append-nil}
+use mathlib.Core.List.{[], _∷_, _++_, append-nil}
 use mathlib.Core.Logic.{⊎-elim}
-use Prim.Native.Nat.{ℕ, zero, suc, _+_, _≤_, _<_}
+use Prim.Native.Nat.{ℕ, zero, suc, _≤_, _<_}
 use native.Mathlib.Nat.{le-of-suc-le-suc, not-suc-le-zero, eq-or-lt-of-le, le-refl}
 use native.Mathlib.Omega.{arith}
 use lib.ListN.{length, getD, length-append, List·getD-append}
 use lib.Seq.{getD-at}
 use Rattle.lists.specs.Count.{count}
 use Rattle.lists.specs.Those.{those}
-use Rattle.lists.proofs.Count.{true-false, count-zero, count-yes, count-no}
+use Rattle.lists.proofs.Count.{count-zero, count-yes, count-no}
 
 -- one number more
 pub those-yes : (p : ℕ → Bool) (n : ℕ) → p n ≡ true → those p (suc n) ≡ those p n ++ (n ∷ [])

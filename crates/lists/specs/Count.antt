@@ -8,9 +8,9 @@ pick true a b = a
 pick false a b = b
 
 -- whether a number below n passes the test
-unfoldable pub some : (ℕ → Bool) → ℕ → Bool
-some p zero = false
-some p (suc n) = elim (p n) [ true ↦ true | false ↦ some p n ]
+unfoldable pub anyBelow : (ℕ → Bool) → ℕ → Bool
+anyBelow p zero = false
+anyBelow p (suc n) = elim (p n) [ true ↦ true | false ↦ anyBelow p n ]
 
 -- how many numbers below n pass the test
 unfoldable pub count : (ℕ → Bool) → ℕ → ℕ

@@ -3,14 +3,14 @@ use mathlib.Core.Path.{_≡_, refl, sym, ap, _∙_}
 use mathlib.Core.Bool.{Bool, true, false, not, _&&_, _||_}
 use mathlib.Core.List.{List}
 use mathlib.Core.Logic.{_↔_}
-use Prim.Native.Nat.{ℕ, _+_, _*_, _^_, _-_, _≤_, _<_}
+use Prim.Native.Nat.{ℕ, _+_, _*_, _-_, _≤_, _<_}
 use native.Mathlib.Omega.{arith}
 use lib.Dec.{eqb, ltb}
 use lib.ListN.{length, getD}
 use borrow.Author.Tests.{leb-true, le-leb, ltb-true, ltb-false, eqb-true, eqb-false, eq-eqb, ne-eqb}
-use Rattle.lists.specs.Count.{some}
+use Rattle.lists.specs.Count.{anyBelow}
 use Rattle.lists.specs.First.{first, firstFrom}
-use Rattle.lists.proofs.Count.{some-yes, some-no, some-true, some-eight, true-false, some-false}
+use Rattle.lists.proofs.Count.{any-yes, any-no, any-true, any-eight, true-false, any-false}
 use Rattle.little_endian.specs.Number.{le, zeroUnit}
 use Rattle.names.specs.Names.{fits, sound, SoundName}
 use Rattle.names.specs.Private.{zeroIn, soundText}
@@ -22,10 +22,10 @@ unit-zero s at = let e : getD s at 0 + 256 * getD s (at + 1) 0 ≡ le 2 s at = o
 
 -- A text, by a loop that stops at the first zero unit
 pub text-zero : (s : List ℕ) (at units k : ℕ) → k < units → zeroUnit s (at + 2 * k) ≡ true → false ≡ soundText s at units
-text-zero s at units k l e = rw (some-yes (λ j. zeroUnit s (at + 2 * j)) units k l e)
+text-zero s at units k l e = rw (any-yes (λ j. zeroUnit s (at + 2 * j)) units k l e)
 
 pub text-end : (s : List ℕ) (at units : ℕ) → ((k : ℕ) → k < units → zeroUnit s (at + 2 * k) ≡ false) → zeroUnit s (at + 2 * units) ≡ soundText s at units
-text-end s at units f = rw (some-no (λ j. zeroUnit s (at + 2 * j)) units f)
+text-end s at units f = rw (any-no (λ j. zeroUnit s (at + 2 * j)) units f)
 
 -- A text, by a loop that takes eight units at a time
 pub text-start : (s : List ℕ) (at units : ℕ) → soundText s (at + 2 * 0) (units - 0) ≡ soundText s at units
@@ -43,10 +43,10 @@ pub zero-in-eight : (s : List ℕ) (at : ℕ) {a b c d e f g h : Bool}
     → (((((((a || b) || c) || d) || e) || f) || g) || h) ≡ zeroIn s at 8
 zero-in-eight s at i j k l m n o q =
     let z : at ≡ at + 2 * 0 = omega arith in
-    rw (i ∙ ap (zeroUnit s) z, j, k, l, m, n, o, q) (some-eight (λ k. zeroUnit s (at + 2 * k)))
+    rw (i ∙ ap (zeroUnit s) z, j, k, l, m, n, o, q) (any-eight (λ k. zeroUnit s (at + 2 * k)))
 
 pub eight-zero : (s : List ℕ) (at units : ℕ) → 8 ≤ units → zeroIn s at 8 ≡ true → false ≡ soundText s at units
-eight-zero s at units h e = let t = some-true (λ k. zeroUnit s (at + 2 * k)) 8 e in text-zero s at units (t .0) (omega (arith, t .1)) (t .2)
+eight-zero s at units h e = let t = any-true (λ k. zeroUnit s (at + 2 * k)) 8 e in text-zero s at units (t .0) (omega (arith, t .1)) (t .2)
 
 pub eight-clear : (s : List ℕ) (at units : ℕ) → 8 ≤ units → zeroIn s at 8 ≡ false → soundText s (at + 16) (units - 8) ≡ soundText s at units
 eight-clear s at units h e = go (zeroIn s (at + 16) (units - 8)) refl
@@ -55,14 +55,14 @@ eight-clear s at units h e = go (zeroIn s (at + 16) (units - 8)) refl
     p k = zeroUnit s (at + 2 * k)
 
     clear : zeroIn s (at + 16) (units - 8) ≡ false → (k : ℕ) → k < units → (b : Bool) → ltb k 8 ≡ b → p k ≡ false
-    clear q k l true w = some-false p 8 e k (ltb-true k 8 w)
+    clear q k l true w = any-false p 8 e k (ltb-true k 8 w)
     clear q k l false w =
         let v : at + 2 * k ≡ at + 16 + 2 * (k - 8) = omega (arith, ltb-false k 8 w) in
-        ap (zeroUnit s) v ∙ some-false (λ j. zeroUnit s (at + 16 + 2 * j)) (units - 8) q (k - 8) (omega (arith, ltb-false k 8 w))
+        ap (zeroUnit s) v ∙ any-false (λ j. zeroUnit s (at + 16 + 2 * j)) (units - 8) q (k - 8) (omega (arith, ltb-false k 8 w))
 
     go : (b : Bool) → zeroIn s (at + 16) (units - 8) ≡ b → (not b && zeroUnit s (at + 16 + 2 * (units - 8))) ≡ soundText s at units
     go true q =
-        let t = some-true (λ j. zeroUnit s (at + 16 + 2 * j)) (units - 8) q in
+        let t = any-true (λ j. zeroUnit s (at + 16 + 2 * j)) (units - 8) q in
         let v : at + 2 * (8 + t .0) ≡ at + 16 + 2 * t .0 = omega arith in
         text-zero s at units (8 + t .0) (omega (arith, t .1)) (ap (zeroUnit s) v ∙ t .2)
     go false q =
@@ -120,10 +120,10 @@ sound-text false b e = (refl, e)
 sound-is : (s : List ℕ) (at units : ℕ) → sound s at units ≡ true → SoundName s at units
 sound-is s at units e =
     let f = sound-fits s at units e in
-    let t = sound-text (some (λ k. zeroUnit s (at + 2 * k)) units) (zeroUnit s (at + 2 * units)) (name-inside s at units f ∙ e) in
+    let t = sound-text (anyBelow (λ k. zeroUnit s (at + 2 * k)) units) (zeroUnit s (at + 2 * units)) (name-inside s at units f ∙ e) in
     record {
       inside = fits-le (length s) at units f;
-      text = λ k l. eqb-false _ _ (some-false (λ k. zeroUnit s (at + 2 * k)) units (t .0) k l);
+      text = λ k l. eqb-false _ _ (any-false (λ k. zeroUnit s (at + 2 * k)) units (t .0) k l);
       end = eqb-true _ _ (t .1);
     }
 

@@ -7,7 +7,7 @@ use lib.Dec.{leb}
 use lib.ListN.{length}
 use Rattle.lists.specs.First.{first}
 use Rattle.lists.specs.Pairs.{firstOf, secondOf}
-use Rattle.lists.specs.Count.{some}
+use Rattle.lists.specs.Count.{anyBelow}
 use Rattle.little_endian.specs.Number.{le, zeroUnit}
 use Rattle.layout.specs.Head.{entryOffset}
 use Rattle.layout.specs.Versions.{metricsEntry, nameOffsetAt, nameLengthAt}
@@ -41,7 +41,7 @@ misfitPair l start pairs entries size = faultOf (nameFieldAt l start) (first (λ
 -- a name that fits has no zero unit among its units, and a zero unit directly after them
 unfoldable pub sound : List ℕ → ℕ → ℕ → Bool
 sound strings at units =
-    fits (length strings) at units && (not (some (λ k. zeroUnit strings (at + 2 * k)) units) && zeroUnit strings (at + 2 * units))
+    fits (length strings) at units && (not (anyBelow (λ k. zeroUnit strings (at + 2 * k)) units) && zeroUnit strings (at + 2 * units))
 
 -- 10: the first of the entries whose name isn't sound
 unfoldable pub unsoundFault : Layout → ℕ → List ℕ → ℕ → List ℕ → Fault

@@ -5,7 +5,7 @@ ghost use lib.ListN.{length};
 ghost use Rattle.path_hash.specs.Hash.{step, plain, vista, xp, xpEnd, eight, eightAt, hash2008};
 
 // Where Vista and 2008 start.
-const START: u32 = 314159;
+pub const VISTA_START: u32 = 314159;
 
 // The plain step.
 fn next(h: u32, c: u32) -> u32
@@ -87,7 +87,7 @@ fn hash_numbers(from: u32, cs: &[u32]) -> u32
 pub fn hash_vista(cs: &[u32]) -> u32
     ensures { λ r. ⌜ r ≡ vista (now (cs .entry)) ⌝ }
 {
-    hash_numbers(START, cs)
+    hash_numbers(VISTA_START, cs)
 }
 
 pub fn hash_xp(cs: &[u32]) -> u32
@@ -100,7 +100,7 @@ pub fn hash_xp(cs: &[u32]) -> u32
 pub fn hash_2008(cs: &[u32]) -> u32
     ensures { λ r. ⌜ r ≡ hash2008 (now (cs .entry)) ⌝ }
 {
-    hash_numbers(START, cs)
+    hash_numbers(VISTA_START, cs)
 }
 
 // A byte as the number that it is, from 0 to 255: none is negative.
@@ -152,7 +152,7 @@ fn hash_bytes(from: u32, text: &[u8]) -> u32
 pub fn hash_vista_bytes(text: &[u8]) -> u32
     ensures { λ r. ⌜ r ≡ vista (now (text .entry)) ⌝ }
 {
-    hash_bytes(START, text)
+    hash_bytes(VISTA_START, text)
 }
 
 pub fn hash_xp_bytes(text: &[u8]) -> u32
@@ -164,5 +164,5 @@ pub fn hash_xp_bytes(text: &[u8]) -> u32
 pub fn hash_2008_bytes(text: &[u8]) -> u32
     ensures { λ r. ⌜ r ≡ hash2008 (now (text .entry)) ⌝ }
 {
-    hash_bytes(START, text)
+    hash_bytes(VISTA_START, text)
 }

@@ -30,7 +30,7 @@ use Rattle.head.specs.declared.checks.Opening.{Opening}
 use Rattle.names.specs.Names.{nameAt, nameUnits, fits, sound}
 use Rattle.names.proofs.Laws.{name-past}
 use Rattle.query.specs.Queries.{asked, bytesAt, entryShown, namePlace}
-use Rattle.path_search.specs.Search.{numbersOf, hashOf, matches, entryNumbers, matchesBy, leastPair, allPairs, pathFound, PathFound}
+use Rattle.path_search.specs.Search.{hashedNumbers, hashOf, matches, entryNumbers, matchesBy, leastPair, allPairs, pathFound, PathFound}
 use Rattle.path_search.specs.Search.{pathPairs, pairsIn, ListsPaths}
 use Rattle.query.specs.Queries.{nameSound, nameIn}
 use Rattle.path_search.specs.Private.{numbersIn, testIn, numberFor, numberIn, numberedIn, entriesIn, searched, PairsPlaced}
@@ -73,14 +73,14 @@ module _ (v : Version) (l : Layout) (metrics strings : List ℕ) (stored i : ℕ
   match-misfit e = rw (← a, ← u, ← name-past strings at units e)
 
   -- the number by the fields, where that of the hash is `n`
-  match-here : {h n end : ℕ} → end ≡ at + 2 * units → h ≡ hashOf v (numbersOf (take (end - at) (drop at strings))) → n ≡ numberFor stored h
+  match-here : {h n end : ℕ} → end ≡ at + 2 * units → h ≡ hashOf v (hashedNumbers (take (end - at) (drop at strings))) → n ≡ numberFor stored h
       → numberIn v l metrics strings stored i ≡ pick (sound strings at units) n 9
   unfolding numberIn nameSound
   match-here {end = end} d e f =
       let l : end - at ≡ 2 * units = omega arith in
       rw (← a, ← u, f, e, l)
 
-  pub match-none : {h n end : ℕ} → end ≡ at + 2 * units → h ≡ hashOf v (numbersOf (take (end - at) (drop at strings))) → n ≡ numberFor stored h
+  pub match-none : {h n end : ℕ} → end ≡ at + 2 * units → h ≡ hashOf v (hashedNumbers (take (end - at) (drop at strings))) → n ≡ numberFor stored h
       → n ≡ 9 → 9 ≡ numberIn v l metrics strings stored i
   match-none {n = n} d e f q = sym (match-here d e f ∙ rw q (neither (sound strings at units)))
     where
@@ -88,11 +88,11 @@ module _ (v : Version) (l : Layout) (metrics strings : List ℕ) (stored i : ℕ
       neither true = refl
       neither false = refl
 
-  pub match-sound : {h n end : ℕ} {r : Bool} → end ≡ at + 2 * units → h ≡ hashOf v (numbersOf (take (end - at) (drop at strings)))
+  pub match-sound : {h n end : ℕ} {r : Bool} → end ≡ at + 2 * units → h ≡ hashOf v (hashedNumbers (take (end - at) (drop at strings)))
       → n ≡ numberFor stored h → r ≡ sound strings at units → r ≡ true → n ≡ numberIn v l metrics strings stored i
   match-sound d e f s q = sym (match-here d e f ∙ rw (sym s ∙ q))
 
-  pub match-unsound : {h n end : ℕ} {r : Bool} → end ≡ at + 2 * units → h ≡ hashOf v (numbersOf (take (end - at) (drop at strings)))
+  pub match-unsound : {h n end : ℕ} {r : Bool} → end ≡ at + 2 * units → h ≡ hashOf v (hashedNumbers (take (end - at) (drop at strings)))
       → n ≡ numberFor stored h → r ≡ sound strings at units → r ≡ false → 9 ≡ numberIn v l metrics strings stored i
   match-unsound d e f s q = sym (match-here d e f ∙ rw (sym s ∙ q))
 
@@ -172,7 +172,7 @@ module _ (o : Opening) (p : List ℕ) (f : OpenFacts p o) where
       go : (b : Bool) → nameSound (o .layout) (metricsOf o p) (stringsOf o p) i ≡ b
           → (b && matches (o .version) (entryNumbers o p i) (storedHash p) n)
           ≡ (b && matches (o .version) (numbersIn (o .layout) (metricsOf o p) (stringsOf o p) i) (storedHash p) n)
-      go true s = ap (λ (x : List ℕ). matches (o .version) (numbersOf x) (storedHash p) n) (sym (name-bytes o p i s))
+      go true s = ap (λ (x : List ℕ). matches (o .version) (hashedNumbers x) (storedHash p) n) (sym (name-bytes o p i s))
       go false s = refl
 
   -- an entry past the whole ones can't be shown

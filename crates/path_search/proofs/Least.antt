@@ -7,10 +7,10 @@ use Prim.Native.Nat.{ℕ, zero, suc, _+_, _*_, _%_, _^_, _≤_, _<_}
 use native.Mathlib.Nat.{eq-or-lt-of-le, le-refl, mod-lt}
 use native.Mathlib.Decide.{decLt, ℕ-discrete}
 use native.Mathlib.Omega.{arith}
-use borrow.Author.Tests.{eq-eqb, ne-eqb, eqb-true, eqb-false, lt-ltb, le-ltb, ltb-true, ltb-false}
+use borrow.Author.Tests.{eq-eqb, ne-eqb, ltb-false}
 use lib.Dec.{eqb, ltb, lit<}
-use Rattle.lists.specs.Count.{pick, some}
-use Rattle.lists.proofs.Count.{some-yes, some-no, some-true, some-false, true-false}
+use Rattle.lists.specs.Count.{pick, anyBelow}
+use Rattle.lists.proofs.Count.{any-yes, any-no, any-true, any-false, true-false}
 use Rattle.lists.specs.First.{first}
 use Rattle.lists.proofs.Those.{those-same}
 use Rattle.lists.proofs.First.{first-at, first-is-at, first-is-nothing, first-nothing}
@@ -18,9 +18,9 @@ use Rattle.lists.specs.declared.Found.{Found}
 use Rattle.lists.specs.declared.Found.the-variants.{At, Nothing}
 use Rattle.layout.specs.declared.Version.{Version}
 use Rattle.layout.specs.declared.Version.the-variants.{V17, V23, V26, V30}
-use Rattle.path_hash.specs.Hash.{step, plain, vista, xpEnd, magnitude, hash2008, wrapSub}
+use Rattle.path_hash.specs.Hash.{step, plain, xpEnd, magnitude, wrapSub}
 use Rattle.path_hash.proofs.Laws.{vista-2008}
-use Rattle.path_search.specs.Search.{numberCount, hashOf, entryBy, pairBy, leastPair, pairsBelow}
+use Rattle.path_search.specs.Search.{hashOf, entryBy, pairBy, leastPair, pairsBelow}
 use Rattle.path_search.specs.Private.{numberFor}
 use Rattle.path_search.specs.declared.PathAnswer.{PathAnswer}
 use Rattle.path_search.specs.declared.PathAnswer.the-variants as pathAnswer
@@ -40,55 +40,55 @@ module _ (test : ℕ → ℕ → Bool) (m : ℕ) where
   pub least-at : (i n : ℕ) → IsLeast test m i n → leastPair test m ≡ pathAnswer.Entry i n
   unfolding leastPair
   least-at i n q =
-      let a : first (λ k. some (test k) m) 9 ≡ At n =
-      first-is-at (λ k. some (test k) m) 9 n (q .number) (some-yes (test n) m i (q .below) (q .matched))
-      (λ k h. some-no (test k) m (λ j l. q .least k j h l)) in
+      let a : first (λ k. anyBelow (test k) m) 9 ≡ At n =
+      first-is-at (λ k. anyBelow (test k) m) 9 n (q .number) (any-yes (test n) m i (q .below) (q .matched))
+      (λ k h. any-no (test k) m (λ j l. q .least k j h l)) in
       let b : first (test n) m ≡ At i = first-is-at (test n) m i (q .below) (q .matched) (q .first) in
       ap (pairBy test m) a ∙ ap (entryBy n) b
 
   pub least-none : NoneMatches test m → leastPair test m ≡ pathAnswer.NoPath
   unfolding leastPair
   least-none f =
-      ap (pairBy test m) (first-is-nothing (λ k. some (test k) m) 9 (λ k h. some-no (test k) m (λ j l. f k j h l)))
+      ap (pairBy test m) (first-is-nothing (λ k. anyBelow (test k) m) 9 (λ k h. any-no (test k) m (λ j l. f k j h l)))
 
   -- and back
   pub least-is : (i n : ℕ) → leastPair test m ≡ pathAnswer.Entry i n → IsLeast test m i n
   unfolding leastPair
-  least-is i n e = go (first (λ k. some (test k) m) 9) refl e
+  least-is i n e = go (first (λ k. anyBelow (test k) m) 9) refl e
     where
       entry : (k : ℕ) (f : Found) → first (test k) m ≡ f → entryBy k f ≡ pathAnswer.Entry i n → (k ≡ n) × (first (test k) m ≡ At i)
       entry k (At j) q h = (let a : k ≡ n = cc in a, let b : j ≡ i = cc in q ∙ ap At b)
       entry k Nothing q h = let z : _≡_ {A = ℕ} 0 1 = cc in absurd (omega arith)
 
-      go : (f : Found) → first (λ k. some (test k) m) 9 ≡ f → pairBy test m f ≡ pathAnswer.Entry i n → IsLeast test m i n
+      go : (f : Found) → first (λ k. anyBelow (test k) m) 9 ≡ f → pairBy test m f ≡ pathAnswer.Entry i n → IsLeast test m i n
       go (At k) q h =
           let a = entry k (first (test k) m) refl h in
-          let b = first-at (λ k. some (test k) m) 9 0 k q in
+          let b = first-at (λ k. anyBelow (test k) m) 9 0 k q in
           let c = first-at (test k) m 0 i (a .1) in
           rw (← a .0)
           (record {
             below = omega (arith, c .1);
             number = omega (arith, b .1);
             matched = c .2;
-            least = λ x j l d. some-false (test x) m (b .3 x (omega arith) l) j d;
+            least = λ x j l d. any-false (test x) m (b .3 x (omega arith) l) j d;
             first = λ j l. c .3 j (omega arith) l;
           })
       go Nothing q h = let z : _≡_ {A = ℕ} 0 1 = cc in absurd (omega arith)
 
   pub least-not : leastPair test m ≡ pathAnswer.NoPath → NoneMatches test m
   unfolding leastPair
-  least-not e = go (first (λ k. some (test k) m) 9) refl e
+  least-not e = go (first (λ k. anyBelow (test k) m) 9) refl e
     where
       entry : (k : ℕ) (f : Found) → first (test k) m ≡ f → entryBy k f ≡ pathAnswer.NoPath → first (test k) m ≡ Nothing
       entry k (At j) q h = let z : _≡_ {A = ℕ} 0 1 = cc in absurd (omega arith)
       entry k Nothing q h = q
 
-      go : (f : Found) → first (λ k. some (test k) m) 9 ≡ f → pairBy test m f ≡ pathAnswer.NoPath → NoneMatches test m
+      go : (f : Found) → first (λ k. anyBelow (test k) m) 9 ≡ f → pairBy test m f ≡ pathAnswer.NoPath → NoneMatches test m
       go (At k) q h =
           let a = entry k (first (test k) m) refl h in
-          let t = some-true (test k) m (first-at (λ k. some (test k) m) 9 0 k q .2) in
+          let t = any-true (test k) m (first-at (λ k. anyBelow (test k) m) 9 0 k q .2) in
           absurd (true-false (sym (t .2) ∙ first-nothing (test k) m a (t .0) (t .1)))
-      go Nothing q h = λ n i l b. some-false (test n) m (first-nothing (λ k. some (test k) m) 9 q n l) i b
+      go Nothing q h = λ n i l b. any-false (test n) m (first-nothing (λ k. anyBelow (test k) m) 9 q n l) i b
 
 -- tests that agree below w, and past w one of them fails
 pub least-same : (t u : ℕ → ℕ → Bool) (m w : ℕ) → w ≤ m → ((n i : ℕ) → n < 9 → i < w → t n i ≡ u n i)

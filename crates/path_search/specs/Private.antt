@@ -13,11 +13,11 @@ use Rattle.layout.specs.declared.Layout.{Layout}
 use Rattle.layout.specs.declared.Version.{Version}
 use Rattle.query.specs.Queries.{bytesAt}
 use Rattle.query.specs.Queries.{nameSound, nameIn}
-use Rattle.path_search.specs.Search.{numbersOf, hashOf, numberCount, matches, leastPair, allPairs, pairsIn}
+use Rattle.path_search.specs.Search.{hashedNumbers, hashOf, numberCount, matches, leastPair, allPairs, pairsIn}
 use Rattle.path_search.specs.declared.PathAnswer.{PathAnswer}
 
 abbrev pub numbersIn : Layout → List ℕ → List ℕ → ℕ → List ℕ
-numbersIn l metrics strings i = numbersOf (bytesAt (nameIn l metrics i) strings)
+numbersIn l metrics strings i = hashedNumbers (bytesAt (nameIn l metrics i) strings)
 
 -- the name of entry i is sound, and its hash matches by number n
 unfoldable pub testIn : Version → Layout → List ℕ → List ℕ → ℕ → ℕ → ℕ → Bool

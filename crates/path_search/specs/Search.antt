@@ -5,7 +5,7 @@ use Prim.Native.Nat.{ℕ, zero, suc, _+_, _*_, _/_, _%_, _^_, _<_, min}
 use lib.Dec.{eqb}
 use lib.ListN.{length, take, drop}
 use Rattle.lists.specs.Answer.{Said}
-use Rattle.lists.specs.Count.{some}
+use Rattle.lists.specs.Count.{anyBelow}
 use Rattle.lists.specs.First.{first}
 use Rattle.lists.specs.Those.{those}
 use Rattle.lists.specs.declared.Found.{Found}
@@ -24,8 +24,8 @@ use mathlib.Core.Path.{_≡_}
 
 -- the numbers that a name gives to the hash (request 102): its bytes, low byte first, two for each unit, each from 0 to 255. The bytes
 -- are those of the file as they stand.
-abbrev pub numbersOf : List ℕ → List ℕ
-numbersOf name = name
+abbrev pub hashedNumbers : List ℕ → List ℕ
+hashedNumbers name = name
 
 -- the hash of a version: 17 uses XP, 23 Vista, 26 2008, and 30 what 26 uses. Vista and 2008 are equal on every list (request 108)
 abbrev pub hashOf : Version → List ℕ → ℕ
@@ -44,7 +44,7 @@ matches v numbers stored n = eqb ((hashOf v numbers + n) % 2 ^ 32) stored
 
 -- the numbers that entry i's name gives to the hash
 abbrev pub entryNumbers : Opening → List ℕ → ℕ → List ℕ
-entryNumbers o p i = numbersOf (bytesAt (namePlace o p i) p)
+entryNumbers o p i = hashedNumbers (bytesAt (namePlace o p i) p)
 
 -- entry i can be shown, and matches by number n
 abbrev pub matchesBy : Opening → List ℕ → ℕ → ℕ → Bool
@@ -63,7 +63,7 @@ pairBy test m Nothing = pathAnswer.NoPath
 
 -- THE ANSWER: the least number for which any entry matches, and then the first entry, or none
 unfoldable pub leastPair : (ℕ → ℕ → Bool) → ℕ → PathAnswer
-leastPair test m = pairBy test m (first (λ n. some (test n) m) numberCount)
+leastPair test m = pairBy test m (first (λ n. anyBelow (test n) m) numberCount)
 
 -- ALL PAIRS that match, ordered by number and then by entry: two numbers each, the entry and its number
 unfoldable pub pairsOf : ℕ → List ℕ → List ℕ

@@ -8,7 +8,7 @@ ghost use Rattle.lists.specs.Answer.{Answers};
 ghost use Rattle.layout.specs.Versions.{sizeLimit};
 ghost use Rattle.layout.specs.Sound.{SoundLayout};
 ghost use Rattle.head.specs.Opened.{OpenFacts};
-ghost use Rattle.path_search.specs.Search.{numbersOf, hashOf, matchesBy, leastPair, pathFound, pathSaid, ListsPaths};
+ghost use Rattle.path_search.specs.Search.{hashedNumbers, hashOf, matchesBy, leastPair, pathFound, pathSaid, ListsPaths};
 ghost use Rattle.path_search.specs.Private.{numberFor, numberIn, searched, PairsPlaced};
 use head::OpenAnswer;
 use head::Opening;
@@ -26,7 +26,7 @@ const NO_NUMBER: u32 = 9;
 
 // The hash of a name, by the version's hash.
 fn name_hash(name: &[u8], version: Version) -> u32
-    ensures { λ r. ⌜ r ≡ hashOf version (numbersOf (now (name .entry))) ⌝ }
+    ensures { λ r. ⌜ r ≡ hashOf version (hashedNumbers (now (name .entry))) ⌝ }
 {
     match version {
         Version::V17 => path_hash::hash_xp_bytes(name),

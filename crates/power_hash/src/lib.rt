@@ -11,23 +11,21 @@ mod entries;
 
 use entries::FIRST;
 use entries::POWERS;
+use path_hash::VISTA_START;
 
 pub enum Swap {
     Swapped(u32),
     TooLong,
 }
 
-// Where Vista starts.
-const START: u32 = 314159;
-
 // 36 times the start, added to each number: 314159 times 37^n is 314159 and 36 times 314159 times each of the n powers below it. So
 // the start needs no power of its own.
 const MORE: u32 = 11309724;
 
 // The most numbers that the table serves, and its first entries alone.
-const MOST: usize = 1024;
+const TABLE_SIZE: usize = 1024;
 
-const FEW: usize = 256;
+const FIRST_SIZE: usize = 256;
 
 fn times(a: u32, b: u32) -> u32
     ensures { λ r. ⌜ r ≡ a * b % 2 ^ 32 ⌝ }
@@ -65,7 +63,7 @@ fn sum_numbers(cs: &[u32], t: &[u32]) -> u32
         sum = std::num::wrapping_add_u32(sum, times(c, t[n - 1 - i]));
         i += 1;
     }
-    std::num::wrapping_add_u32(sum, START)
+    std::num::wrapping_add_u32(sum, VISTA_START)
 }
 
 fn sum_bytes(text: &[u8], t: &[u32]) -> u32
@@ -80,7 +78,7 @@ fn sum_bytes(text: &[u8], t: &[u32]) -> u32
         sum = std::num::wrapping_add_u32(sum, times(b, t[n - 1 - i]));
         i += 1;
     }
-    std::num::wrapping_add_u32(sum, START)
+    std::num::wrapping_add_u32(sum, VISTA_START)
 }
 
 // A table is laid out anew in each call of the function that lends it, so each has its own.
@@ -116,10 +114,10 @@ fn bytes_by_all(text: &[u8]) -> u32
 pub fn hash_powers(cs: &[u32]) -> u32
     ensures { λ r. ⌜ r ≡ hashPowers (now (cs .entry)) ⌝ }
 {
-    if MOST < cs.len() {
+    if TABLE_SIZE < cs.len() {
         return path_hash::hash_vista(cs);
     }
-    if FEW < cs.len() {
+    if FIRST_SIZE < cs.len() {
         return numbers_by_all(cs);
     }
     numbers_by_first(cs)
@@ -129,10 +127,10 @@ pub fn hash_powers(cs: &[u32]) -> u32
 pub fn hash_powers_bytes(text: &[u8]) -> u32
     ensures { λ r. ⌜ r ≡ hashPowers (now (text .entry)) ⌝ }
 {
-    if MOST < text.len() {
+    if TABLE_SIZE < text.len() {
         return path_hash::hash_vista_bytes(text);
     }
-    if FEW < text.len() {
+    if FIRST_SIZE < text.len() {
         return bytes_by_all(text);
     }
     bytes_by_first(text)

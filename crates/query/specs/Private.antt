@@ -1,7 +1,7 @@
 -- What only private contracts need: the queries on an opening, and on the bytes of the sections that they look at.
 use mathlib.Core.Bool.{Bool, _&&_}
 use mathlib.Core.List.{List}
-use Prim.Native.Nat.{ℕ, _*_}
+use Prim.Native.Nat.{ℕ}
 use lib.Dec.{leb, ltb}
 use lib.ListN.{length}
 use Rattle.lists.specs.Count.{pick}
@@ -10,10 +10,8 @@ use Rattle.layout.specs.declared.Layout.{Layout}
 use Rattle.sections.specs.Fields.{part, entriesFault}
 use Rattle.sections.specs.declared.Section.{Section}
 use Rattle.head.specs.declared.checks.Opening.{Opening}
-use Rattle.names.specs.Names.{sound, nameAt, nameUnits}
 use Rattle.volumes.specs.Volumes.{volumeChecks, referenceOf, entryAt}
 use Rattle.query.specs.Queries.{entryShown, namePlace, clear, accepts, volumeShown, volumeFacts, referenceShown}
-use Rattle.query.specs.declared.Place.{Place}
 use Rattle.query.specs.declared.PlaceAnswer.{PlaceAnswer}
 use Rattle.query.specs.declared.PlaceAnswer.the-variants as placeAnswer
 use Rattle.query.specs.declared.VolumeAnswer.{VolumeAnswer}

@@ -24,7 +24,7 @@ use Rattle.layout.specs.Sound.{SoundLayout}
 use Rattle.layout.specs.declared.Layout.{Layout}
 use Rattle.incremental.specs.Decision.{Decision, accept, refuse, faultOf}
 use Rattle.incremental.specs.Plan.{decide, Answer, decided, wants, run, andThen}
-use Rattle.incremental.proofs.Plan.{answer-then, reach-here, check-passed, Holds, holds-reach, holds-check, holds-then, holds-accept}
+use Rattle.incremental.proofs.Plan.{answer-then, reach-here, check-passed, AnswerHolds, holds-reach, holds-check, holds-then, holds-accept}
 use Rattle.incremental.proofs.Decision.{fault-nothing}
 use Rattle.incremental.specs.declared.Fault.{Fault}
 use Rattle.incremental.specs.declared.Fault.the-variants.{Nowhere}
@@ -47,7 +47,6 @@ use Rattle.trace.proofs.Cycles.{cycle-law}
 use Rattle.volumes.specs.Volumes.{entryAt, volumesFrom}
 use Rattle.volumes.specs.SoundVolume.{SoundVolume}
 use Rattle.volumes.proofs.SoundVolume.{volumes-sound}
-use Rattle.reader.specs.declared.verdict.Acceptance.{Acceptance}
 use Rattle.reader.specs.Verdict.{Acceptable}
 use Rattle.reader.specs.Checks.{nextsIn, linkAt, timeAt, recordOf, traceRequired, volumesRequired}
 use Rattle.reader.specs.Checks.{namesRequired, prefixAnswer, sizeOf, sized, whole}
@@ -285,13 +284,13 @@ module _ (m : ℕ) (p : List ℕ) (o : Opening) (f : OpenFacts p o) where
   unfolding unsoundFault
   names-found e i l = sound-name _ _ _ .0 (not-false _ (first-nothing _ (o .head .metrics .count) (fault-nothing _ _ e) i l))
 
-  texts-hold : Holds (λ _. unsoundIn p o f p ≡ Nowhere) (run (textsPlan o) p)
+  texts-hold : AnswerHolds (λ _. unsoundIn p o f p ≡ Nowhere) (run (textsPlan o) p)
   unfolding textsPlan
   texts-hold =
       let k = namesRequired (o .layout) (o .head) in
       holds-reach k _ p _ λ _. holds-check _ 10 (unsoundIn p o f (take k p)) _ p λ e. holds-accept _ tt p (sym (unsound-take p o f) ∙ e)
 
-  trace-hold : Holds (λ t. (t ≡ nextsIn o p) × (linkChecks (linkAt o) (nextsIn o p) ≡ accept (chains (nextsIn o p)))) (run (tracePlan o) p)
+  trace-hold : AnswerHolds (λ t. (t ≡ nextsIn o p) × (linkChecks (linkAt o) (nextsIn o p) ≡ accept (chains (nextsIn o p)))) (run (tracePlan o) p)
   unfolding tracePlan
   trace-hold =
       let s = nextsIn o (take (traceRequired (o .layout) (o .head)) p) in
@@ -302,14 +301,14 @@ module _ (m : ℕ) (p : List ℕ) (o : Opening) (f : OpenFacts p o) where
       holds-check _ 13 (cyclicFault (linkAt o) s) _ p λ c.
       holds-accept _ s p (same, rw same at (links-pass (linkAt o) s a b c))
 
-  volumes-hold : Holds (λ _. volumesIn p o f p ≡ accept tt) (run (volumesPlan o) p)
+  volumes-hold : AnswerHolds (λ _. volumesIn p o f p ≡ accept tt) (run (volumesPlan o) p)
   unfolding volumesPlan
   volumes-hold =
       let k = volumesRequired (o .layout) (o .head) in
       holds-reach k _ p _ λ _.
       holds-then _ (decide (volumesIn p o f (take k p))) _ p λ t e. holds-accept _ tt p (sym (volumes-take p o f) ∙ decision _ t p e)
 
-  pub rest-facts : Holds (RestFacts m p o) (run (restPlan m o) p)
+  pub rest-facts : AnswerHolds (RestFacts m p o) (run (restPlan m o) p)
   unfolding restPlan
   rest-facts =
       holds-then _ (countsPlan m o) _ p λ c e7.
@@ -396,7 +395,7 @@ module _ (m : ℕ) (p : List ℕ) (o : Opening) (f : OpenFacts p o) where
         ∙ answer-then (countsPlan m o) _ p _ counts-complete)
 
 -- what all checks accept, in both directions
-pub read-facts : (m : ℕ) (p : List ℕ) → Holds (λ x. (o : Opening) × OpenFacts p o × RestFacts m p o x) (prefixAnswer p m)
+pub read-facts : (m : ℕ) (p : List ℕ) → AnswerHolds (λ x. (o : Opening) × OpenFacts p o × RestFacts m p o x) (prefixAnswer p m)
 unfolding readPlan
 read-facts m p =
     holds-then _ openPlan (restPlan m) p λ o e.

@@ -12,7 +12,7 @@ use Rattle.incremental.specs.Decision as decision
 use Rattle.incremental.specs.Decision.{Decision, accept, refuse, refusal, checkedOf}
 use Rattle.incremental.specs.Plan.{Plan, decide, Answer, decided, wants, run, andThen, reach, check, done, outcomeOf, _>>=_, _>>_}
 use Rattle.incremental.proofs.Plan.{onward, answer-then, reach-here, reach-short, reach-wants, reach-on, check-refused, check-on, decide-it, then-case, run-steps}
-use Rattle.incremental.proofs.Plan.{Holds, holds-reach, holds-check, holds-accept}
+use Rattle.incremental.proofs.Plan.{AnswerHolds, holds-reach, holds-check, holds-accept}
 use Rattle.incremental.specs.declared.Refusal.{Refusal}
 use Rattle.incremental.specs.declared.Fault.{Fault}
 use Rattle.incremental.specs.declared.Fault.the-variants.{At, Nowhere}
@@ -38,7 +38,7 @@ use Rattle.reader.specs.declared.checks.TraceOutcome.{TraceOutcome}
 use Rattle.reader.specs.declared.checks.TraceOutcome.the-variants as outcome
 use Rattle.reader.specs.declared.verdict.Acceptance.{Acceptance}
 use Rattle.reader.specs.Verdict.{Acceptable}
-use Rattle.reader.specs.Checks.{traceRequired, namesRequired, volumesRequired, nextsIn, linkAt, recordOf}
+use Rattle.reader.specs.Checks.{traceRequired, namesRequired, volumesRequired, linkAt, recordOf}
 use Rattle.reader.specs.Checks.{countsPlan, fitsPlan, textsPlan, tracePlan, volumesPlan, restPlan}
 use Rattle.reader.specs.Private.{TraceAnswer, EntriesFit}
 
@@ -52,7 +52,7 @@ pub ruleset counts = (run-steps, places-at)
 
 module _ (m : ℕ) (o : Opening) (p : List ℕ) where
   -- what they let pass
-  pub counts-hold : Holds (λ _. (linkCount (o .layout) (o .head) ≤ m) × EntriesFit o) (run (countsPlan m o) p)
+  pub counts-hold : AnswerHolds (λ _. (linkCount (o .layout) (o .head) ≤ m) × EntriesFit o) (run (countsPlan m o) p)
   unfolding countsPlan
   counts-hold =
       holds-reach (headEnd (o .layout)) _ p _ λ _.

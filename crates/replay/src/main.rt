@@ -1,7 +1,5 @@
 // Replays a recording from standard input against the starts that stand before it. The input comes in steps through one buffer, in which
 // what is left of a line is carried over. The buffers have 50,176 bytes in all. Between reading and writing all is the library's work.
-ghost use Prim.Native.Nat.{_≤_};
-ghost use lib.ListN.{length};
 use readings::ReplayAnswer;
 use replay_input::Input;
 

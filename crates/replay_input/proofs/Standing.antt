@@ -7,8 +7,8 @@ use Prim.Native.Nat.{ℕ, _+_, _*_, _-_, _%_, _^_, _≤_, _<_, min}
 use native.Mathlib.Nat.{le-refl}
 use native.Mathlib.Omega.{arith}
 use native.Mathlib.Decide.{ℕ-discrete}
-use lib.Dec.{eqb, ltb}
-use lib.ListN.{length, take, drop, length-take, length-drop, length-append, length-map, drop-of-length-le}
+use lib.Dec.{eqb}
+use lib.ListN.{length, take, drop, length-drop, length-append, length-map, drop-of-length-le}
 use lib.Seq.{sets, length-sets, sets-eq, take-at, take-add, take-all, drop-drop, length-take-le}
 use borrow.Author.Tests.{eq-eqb, ne-eqb, lt-ltb, le-ltb}
 use Rattle.lists.specs.Count.{pick}
@@ -16,7 +16,6 @@ use Rattle.lists.specs.Table.{tabulate}
 use Rattle.lists.proofs.Count.{true-false}
 use Rattle.lists.proofs.Parts.{drop-take}
 use Rattle.lists.specs.Filled.{filled}
-use Rattle.readings.specs.declared.Reading.{Reading}
 use Rattle.readings.specs.declared.pieces.Progress.{Progress}
 use Rattle.readings.specs.declared.pieces.Fed.{Fed}
 use Rattle.readings.specs.declared.ReplayAnswer.{ReplayAnswer}
@@ -31,8 +30,8 @@ use Rattle.replay_input.specs.declared.steps.Stage.{Stage}
 use Rattle.replay_input.specs.declared.steps.Input.{Input}
 use Rattle.replay_input.specs.declared.steps.Took.{Took}
 use Rattle.replay_input.specs.Starts.{timeIn, boardIn, room, TakesStarts}
-use Rattle.replay_input.specs.Input.{Standing, nothingRead, startsAt, stepOf, endOf}
-use Rattle.replay_input.specs.Program.{timesOf, boardsOf, mostOf, Stands, Holds, Fresh, Steps, Ends, TakesBytes, atHand}
+use Rattle.replay_input.specs.Input.{Standing, startsAt, stepOf, endOf}
+use Rattle.replay_input.specs.Program.{timesOf, boardsOf, mostOf, StageHolds, BufferHolds, Fresh, Steps, Ends, TakesBytes, atHand}
 use Rattle.replay_input.specs.Private.{StartsFit, RecordingBegins, EndsUnread}
 
 pub fresh : Fresh (record { stage = record { starts = 0; starting = true; progress = record { lines = 0; bad = 0 } }; kept = 0 })
@@ -56,7 +55,7 @@ fresh buffer times boards work answers =
     }
 
 -- the starts' run times and boards are at the front of the lists
-module _ (t : Standing) (stage : Stage) (times boards work answers : List ℕ) (h : Stands t stage times boards work answers) where
+module _ (t : Standing) (stage : Stage) (times boards work answers : List ℕ) (h : StageHolds t stage times boards work answers) where
   times-held : take (stage .starts) times ≡ timesOf t
   times-held = ap (λ (k : ℕ). take k times) (h .count) ∙ h .times-are
 
@@ -132,7 +131,7 @@ module _ (s : List ℕ) (stage : Stage) (times boards work answers : List ℕ) (
   after : Stage
   after = record { starts = stage .starts; starting = false; progress = r .progress }
 
-  module _ (t : Standing) (h : Stands t stage times boards work answers) where
+  module _ (t : Standing) (h : StageHolds t stage times boards work answers) where
     begun : t .starting ≡ false
     begun = sym (h .starting) ∙ e
 
@@ -148,7 +147,7 @@ module _ (s : List ℕ) (stage : Stage) (times boards work answers : List ℕ) (
 
     stands : (x : Taken) → r .progress .lines ≡ x .lines → r .progress .bad ≡ x .bad → ((x .bad ≡ 0 → ⊥) → x .rest ≡ [])
         → Underway (timesOf t) (boardsOf t) work answers′ (x .found)
-        → Stands (record { starts = t .starts; starting = false; taken = x }) after times boards work answers′
+        → StageHolds (record { starts = t .starts; starting = false; taken = x }) after times boards work answers′
     unfolding after
     stands x l b z u =
         record {
@@ -165,11 +164,11 @@ module _ (s : List ℕ) (stage : Stage) (times boards work answers : List ℕ) (
         }
 
     goes-on : atHand (mostOf times boards) t s .taken .lines + 1 < 2 ^ 64
-        → Stands (atHand (mostOf times boards) t s) after times boards work answers′ × (drop (r .used) s ≡ atHand (mostOf times boards) t s .taken .rest)
+        → StageHolds (atHand (mostOf times boards) t s) after times boards work answers′ × (drop (r .used) s ≡ atHand (mostOf times boards) t s .taken .rest)
     goes-on m = go (ℕ-discrete (t .taken .bad) 0)
       where
         go : Dec (t .taken .bad ≡ 0)
-            → Stands (atHand (mostOf times boards) t s) after times boards work answers′ × (drop (r .used) s ≡ atHand (mostOf times boards) t s .taken .rest)
+            → StageHolds (atHand (mostOf times boards) t s) after times boards work answers′ × (drop (r .used) s ≡ atHand (mostOf times boards) t s .taken .rest)
         go (yes z) =
             let q = eq-eqb (t .taken .bad) 0 z in
             let p = eq-eqb (stage .progress .bad) 0 (h .bad ∙ z) in
@@ -228,7 +227,7 @@ module _ (s : List ℕ) (stage : Stage) (times boards : List ℕ) (k : ℕ) (tim
       }
 
   module _ (work answers : List ℕ) (e : stage .starting ≡ true) where
-    module _ (t : Standing) (h : Stands t stage times boards work answers) where
+    module _ (t : Standing) (h : StageHolds t stage times boards work answers) where
       ks : List (List ℕ)
       ks = leading 18 (mostOf times boards - length (t .starts)) s
 
@@ -262,7 +261,7 @@ module _ (s : List ℕ) (stage : Stage) (times boards : List ℕ) (k : ℕ) (tim
       standing : (starting : Bool) (x : Taken) (p : Progress) (work′ answers′ : List ℕ) → p .lines ≡ x .lines → p .bad ≡ x .bad
           → (starting ≡ true → x .found ≡ []) → ((x .bad ≡ 0 → ⊥) → x .rest ≡ [])
           → (starting ≡ false → Underway (map timeIn (t .starts ++ ks)) (map boardIn (t .starts ++ ks)) work′ answers′ (x .found))
-          → Stands (record { starts = t .starts ++ ks; starting = starting; taken = x })
+          → StageHolds (record { starts = t .starts ++ ks; starting = starting; taken = x })
           (record { starts = stage .starts + k; starting = starting; progress = p }) times′ boards′ work′ answers′
       standing starting x p work′ answers′ l b y z u =
           record {
@@ -286,8 +285,8 @@ module _ (s : List ℕ) (stage : Stage) (times boards : List ℕ) (k : ℕ) (tim
     unfolding startsAt ks
     starts-wait lines l n = record { used = taken-fit .0; holds = go }
       where
-        go : (t : Standing) → Stands t stage times boards work answers → atHand (mostOf times boards) t s .taken .lines + 1 < 2 ^ 64
-            → Stands (atHand (mostOf times boards) t s)
+        go : (t : Standing) → StageHolds t stage times boards work answers → atHand (mostOf times boards) t s .taken .lines + 1 < 2 ^ 64
+            → StageHolds (atHand (mostOf times boards) t s)
             (record { starts = stage .starts + k; starting = true; progress = record { lines = lines; bad = 0 } }) times′ boards′ work answers
             × (drop (19 * k) s ≡ atHand (mostOf times boards) t s .taken .rest)
         go t h m =
@@ -319,8 +318,8 @@ module _ (s : List ℕ) (stage : Stage) (times boards : List ℕ) (k : ℕ) (tim
         begun : RecordingBegins (drop (19 * k) s) lines (take (stage .starts + k) times′) (take (stage .starts + k) boards′) r work′ answers′
         begun = rw (take-all (length s - 19 * k) (drop (19 * k) s) (omega (arith, length-drop (19 * k) s))) at b
 
-        go : (t : Standing) → Stands t stage times boards work answers → atHand (mostOf times boards) t s .taken .lines + 1 < 2 ^ 64
-            → Stands (atHand (mostOf times boards) t s)
+        go : (t : Standing) → StageHolds t stage times boards work answers → atHand (mostOf times boards) t s .taken .lines + 1 < 2 ^ 64
+            → StageHolds (atHand (mostOf times boards) t s)
             (record { starts = stage .starts + k; starting = false; progress = r .progress }) times′ boards′ work′ answers′
             × (drop (19 * k + r .used) s ≡ atHand (mostOf times boards) t s .taken .rest)
         go t h m =
@@ -404,11 +403,11 @@ module _ (before stage : Stage) (times boards : List ℕ)
   pub fitting-fits : StartsFit (stage .starts) times boards
   fitting-fits = record { timed = omega (arith, starts-are); boarded = omega (arith, starts-are) }
 
-  module _ (t : Standing) (work answers : List ℕ) (h : Stands t before times boards work answers) where
+  module _ (t : Standing) (work answers : List ℕ) (h : StageHolds t before times boards work answers) where
     starts-same : stage .starts ≡ length (t .starts)
     starts-same = omega (arith, starts-are, h .count, h .room)
 
-    pub stands-fitting : Stands t stage times boards work answers
+    pub stands-fitting : StageHolds t stage times boards work answers
     stands-fitting =
         record {
           count = starts-same;
@@ -441,7 +440,7 @@ module _ (input : Input) (stage : Stage) (times boards work answers : List ℕ) 
       (servedCount (take (stage .starts) times) (take (stage .starts) boards) work answers) answers
 
   ends : saidOf r ≡ pick (eqb last 0) (saidOf Replayed) (saidOf (Refused last)) → ((last ≡ 0 → ⊥) → answers′ ≡ answered (badLine last))
-      → ((t : Standing) → Stands t stage times boards work answers → last ≡ 0 → answers′ ≡ answered (readings (t .taken .found)))
+      → ((t : Standing) → StageHolds t stage times boards work answers → last ≡ 0 → answers′ ≡ answered (readings (t .taken .found)))
       → work′ ≡ filled (length work) → Ends input times boards work answers r work′ answers′
   unfolding last answered
   ends says refused given working =
@@ -453,14 +452,14 @@ module _ (input : Input) (stage : Stage) (times boards work answers : List ℕ) 
         working = working;
       }
     where
-      now : (t : Standing) → Stands t (input .stage) times boards work answers → Stands t stage times boards work answers
+      now : (t : Standing) → StageHolds t (input .stage) times boards work answers → StageHolds t stage times boards work answers
       now t h = stands-fitting (input .stage) stage times boards e t work answers h
 
-      bad : (t : Standing) → Stands t stage times boards work answers → (last ≡ 0 → ⊥)
+      bad : (t : Standing) → StageHolds t stage times boards work answers → (last ≡ 0 → ⊥)
           → answers′ ≡ answersAfter (badLine last) (timesOf t) (boardsOf t) (servedCount (timesOf t) (boardsOf t) work answers) answers
       bad t g n = rw (times-held t stage times boards work answers g, boards-held t stage times boards work answers g) at (refused n)
 
-      good : (t : Standing) → Stands t stage times boards work answers → last ≡ 0
+      good : (t : Standing) → StageHolds t stage times boards work answers → last ≡ 0
           → answers′ ≡ answersAfter (readings (t .taken .found)) (timesOf t) (boardsOf t) (servedCount (timesOf t) (boardsOf t) work answers) answers
       good t g n = rw (times-held t stage times boards work answers g, boards-held t stage times boards work answers g) at (given t g n)
 
@@ -499,9 +498,9 @@ step-holds buffer end input times boards work answers upto stage r kept buffer�
     size : length (take upto buffer) ≡ upto
     size = length-take-le upto buffer (omega arith)
 
-    go : (t : Standing) → Holds t input buffer times boards work answers → input .kept ≤ end → end ≤ length buffer
+    go : (t : Standing) → BufferHolds t input buffer times boards work answers → input .kept ≤ end → end ≤ length buffer
         → stepOf (mostOf times boards) t (take (end - input .kept) (drop (input .kept) buffer)) .taken .lines + 1 < 2 ^ 64
-        → Holds (stepOf (mostOf times boards) t (take (end - input .kept) (drop (input .kept) buffer))) (record { stage = r .stage; kept = kept })
+        → BufferHolds (stepOf (mostOf times boards) t (take (end - input .kept) (drop (input .kept) buffer))) (record { stage = r .stage; kept = kept })
         buffer′ times′ boards′ work′ answers′
     go t h a b m =
         let piece = take (end - input .kept) (drop (input .kept) buffer) in

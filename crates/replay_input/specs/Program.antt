@@ -5,12 +5,11 @@ use mathlib.Core.List.{List, [], map}
 use Prim.Native.Nat.{ℕ, _+_, _-_, _^_, _≤_, _<_, min}
 use lib.Dec.{eqb}
 use lib.ListN.{length, take, drop}
-use Rattle.lists.specs.Answer.{Said}
 use Rattle.lists.specs.Count.{pick}
 use Rattle.lists.specs.Filled.{filled}
 use Rattle.readings.specs.declared.ReplayAnswer.{ReplayAnswer}
 use Rattle.readings.specs.Replay.{answersAfter, saidOf, sayingOf}
-use Rattle.readings.specs.Feeding.{Taken, takenAt, servedCount, Underway}
+use Rattle.readings.specs.Feeding.{takenAt, servedCount, Underway}
 use Rattle.replay_input.specs.declared.steps.Stage.{Stage}
 use Rattle.replay_input.specs.declared.steps.Input.{Input}
 use Rattle.replay_input.specs.declared.steps.Took.{Took}
@@ -30,7 +29,7 @@ mostOf times boards = min (length times) (length boards)
 
 -- ---- what the places hold of a standing
 
-pub record Stands (t : Standing) (stage : Stage) (times boards work answers : List ℕ) : Type 0 where
+pub record StageHolds (t : Standing) (stage : Stage) (times boards work answers : List ℕ) : Type 0 where
   pub count : stage .starts ≡ length (t .starts)
   pub room : length (t .starts) ≤ mostOf times boards
   pub times-are : take (length (t .starts)) times ≡ timesOf t
@@ -44,8 +43,8 @@ pub record Stands (t : Standing) (stage : Stage) (times boards work answers : Li
   pub underway : t .starting ≡ false → Underway (timesOf t) (boardsOf t) work answers (t .taken .found)
 
 -- and what waits stands at the front of the buffer
-pub record Holds (t : Standing) (input : Input) (buffer times boards work answers : List ℕ) : Type 0 where
-  pub stands : Stands t (input .stage) times boards work answers
+pub record BufferHolds (t : Standing) (input : Input) (buffer times boards work answers : List ℕ) : Type 0 where
+  pub stands : StageHolds t (input .stage) times boards work answers
   pub kept : input .kept ≡ length (t .taken .rest)
   pub waiting : take (input .kept) buffer ≡ t .taken .rest
 
@@ -53,21 +52,21 @@ pub record Holds (t : Standing) (input : Input) (buffer times boards work answer
 
 -- at the beginning nothing has been read
 abbrev pub Fresh : Input → Type 0
-Fresh r = (buffer times boards work answers : List ℕ) → Holds nothingRead r buffer times boards work answers
+Fresh r = (buffer times boards work answers : List ℕ) → BufferHolds nothingRead r buffer times boards work answers
 
 -- ONE STEP, whose bytes stand in the buffer behind those that wait, up to `end`; as long as line numbers stay below 2 to the 64
 pub record Steps (buffer : List ℕ) (end : ℕ) (input : Input) (times boards work answers : List ℕ) (r : Input)
     (buffer′ times′ boards′ work′ answers′ : List ℕ) : Type 0 where
   pub within : r .kept ≤ length buffer
-  pub holds : (t : Standing) → Holds t input buffer times boards work answers → input .kept ≤ end → end ≤ length buffer
+  pub holds : (t : Standing) → BufferHolds t input buffer times boards work answers → input .kept ≤ end → end ≤ length buffer
       → stepOf (mostOf times boards) t (take (end - input .kept) (drop (input .kept) buffer)) .taken .lines + 1 < 2 ^ 64
-      → Holds (stepOf (mostOf times boards) t (take (end - input .kept) (drop (input .kept) buffer))) r buffer′ times′ boards′ work′ answers′
+      → BufferHolds (stepOf (mostOf times boards) t (take (end - input .kept) (drop (input .kept) buffer))) r buffer′ times′ boards′ work′ answers′
 
 -- THE END: the answers for the starts, and what is said
 pub record Ends (input : Input) (times boards work answers : List ℕ) (r : ReplayAnswer) (work′ answers′ : List ℕ) : Type 0 where
-  pub given : (t : Standing) → Stands t (input .stage) times boards work answers → input .kept ≡ length (t .taken .rest) → t .taken .lines + 1 < 2 ^ 64
+  pub given : (t : Standing) → StageHolds t (input .stage) times boards work answers → input .kept ≡ length (t .taken .rest) → t .taken .lines + 1 < 2 ^ 64
       → answers′ ≡ answersAfter (endOf t .recording) (timesOf t) (boardsOf t) (servedCount (timesOf t) (boardsOf t) work answers) answers
-  pub says : (t : Standing) → Stands t (input .stage) times boards work answers → input .kept ≡ length (t .taken .rest) → t .taken .lines + 1 < 2 ^ 64
+  pub says : (t : Standing) → StageHolds t (input .stage) times boards work answers → input .kept ≡ length (t .taken .rest) → t .taken .lines + 1 < 2 ^ 64
       → saidOf r ≡ sayingOf (endOf t .recording)
   pub working : work′ ≡ filled (length work)
 
@@ -81,6 +80,6 @@ atHand most t s =
 
 pub record TakesBytes (s : List ℕ) (stage : Stage) (times boards work answers : List ℕ) (r : Took) (times′ boards′ work′ answers′ : List ℕ) : Type 0 where
   pub used : r .used ≤ length s
-  pub holds : (t : Standing) → Stands t stage times boards work answers → atHand (mostOf times boards) t s .taken .lines + 1 < 2 ^ 64
-      → Stands (atHand (mostOf times boards) t s) (r .stage) times′ boards′ work′ answers′
+  pub holds : (t : Standing) → StageHolds t stage times boards work answers → atHand (mostOf times boards) t s .taken .lines + 1 < 2 ^ 64
+      → StageHolds (atHand (mostOf times boards) t s) (r .stage) times′ boards′ work′ answers′
       × (drop (r .used) s ≡ atHand (mostOf times boards) t s .taken .rest)

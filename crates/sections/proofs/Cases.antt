@@ -9,8 +9,8 @@ use mir.Syntax.{w64}
 use mir.Val.{Fits}
 use borrow.Author.Tests.{eq-eqb, ne-eqb, lt-ltb, le-ltb, ltb-false}
 use Rattle.incremental.proofs.Decision.{fault-clear}
-use Rattle.lists.specs.Count.{pick, some}
-use Rattle.lists.proofs.Count.{some-more}
+use Rattle.lists.specs.Count.{pick, anyBelow}
+use Rattle.lists.proofs.Count.{any-more}
 use Rattle.lists.specs.First.{firstFrom}
 use Rattle.lists.specs.declared.Found.{Found}
 use Rattle.lists.specs.declared.Found.the-variants as found
@@ -25,7 +25,7 @@ use Rattle.incremental.specs.declared.Fault.the-variants.{At, Nowhere}
 use Rattle.sections.specs.declared.Section.{Section}
 use Rattle.sections.specs.declared.Head.{Head}
 use Rattle.sections.specs.Fields.{signatureFault, sizeFault, roomFor, formIn, linkCount, sectionOf, headOf, sizeIn, outside}
-use Rattle.sections.specs.Fields.{offsetFieldAt, shares, numbered, outsideFault, sharedFault, placesFault, entriesFault}
+use Rattle.sections.specs.Fields.{offsetFieldAt, shares, numbered, outsideFault, overlapFault, placesFault, entriesFault}
 
 -- the first section that fails a test
 pub pick-hit : (t r : Bool) (x a b : Fault) → r ≡ t → r ≡ true → x ≡ a → x ≡ pick t a b
@@ -77,27 +77,27 @@ pick-or : {A : Type 0} (a b : Bool) (x y : A) → pick (a || b) x y ≡ pick a x
 pick-or true b x y = refl
 pick-or false b x y = refl
 
-some-none : (p : ℕ → Bool) → some p 0 ≡ false
-unfolding some
+some-none : (p : ℕ → Bool) → anyBelow p 0 ≡ false
+unfolding anyBelow
 some-none p = refl
 
-some-one : (p : ℕ → Bool) → some p 1 ≡ p 0
-some-one p = some-more p 0 ∙ ap (λ b. b || p 0) (some-none p)
+some-one : (p : ℕ → Bool) → anyBelow p 1 ≡ p 0
+some-one p = any-more p 0 ∙ ap (λ b. b || p 0) (some-none p)
 
-some-two : (p : ℕ → Bool) → some p 2 ≡ (p 0 || p 1)
-some-two p = some-more p 1 ∙ ap (λ b. b || p 1) (some-one p)
+some-two : (p : ℕ → Bool) → anyBelow p 2 ≡ (p 0 || p 1)
+some-two p = any-more p 1 ∙ ap (λ b. b || p 1) (some-one p)
 
-some-three : (p : ℕ → Bool) → some p 3 ≡ ((p 0 || p 1) || p 2)
-some-three p = some-more p 2 ∙ ap (λ b. b || p 2) (some-two p)
+some-three : (p : ℕ → Bool) → anyBelow p 3 ≡ ((p 0 || p 1) || p 2)
+some-three p = any-more p 2 ∙ ap (λ b. b || p 2) (some-two p)
 
-pub pairs-are : (h : Head) → sharedFault h ≡ sharedPairs h
-unfolding sharedFault firstFrom
+pub pairs-are : (h : Head) → overlapFault h ≡ sharedPairs h
+unfolding overlapFault firstFrom
 pairs-are h =
     let with : Section → ℕ → Bool = λ s k. shares (numbered h (k + 1)) s in
     rw (some-none (with (h .metrics)), some-one (with (h .trace)), some-two (with (h .strings)), some-three (with (h .volumes)))
     (simp (fault-pick, pick-or))
 
-pub by-pairs : (h : Head) (r : Fault) → r ≡ sharedPairs h → r ≡ sharedFault h
+pub by-pairs : (h : Head) (r : Fault) → r ≡ sharedPairs h → r ≡ overlapFault h
 by-pairs h r e = e ∙ sym (pairs-are h)
 
 -- 2

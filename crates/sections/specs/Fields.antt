@@ -7,7 +7,7 @@ use Prim.Native.Nat.{ℕ, _+_, _-_, _*_, _/_}
 use lib.Dec.{eqb, ltb}
 use lib.ListN.{length, take, drop}
 use Rattle.lists.specs.First.{first, firstFrom}
-use Rattle.lists.specs.Count.{pick, some}
+use Rattle.lists.specs.Count.{pick, anyBelow}
 use Rattle.lists.specs.declared.Found.{Found}
 use Rattle.little_endian.specs.Number.{le, zeroUnit}
 use Rattle.layout.specs.Head.{signatureAt, declaredSizeAt, programNameAt, programNameUnits, storedHashAt, metricsOffsetAt, metricsCountAt}
@@ -98,11 +98,11 @@ shares s t = (not (eqb (s .len) 0) && not (eqb (t .len) 0)) && (ltb (s .at) (t .
 
 -- section n shares a byte with a lower section
 abbrev pub sharesLower : Head → ℕ → Bool
-sharesLower h n = some (λ k. shares (numbered h (k + 1)) (numbered h n)) (n - 1)
+sharesLower h n = anyBelow (λ k. shares (numbered h (k + 1)) (numbered h n)) (n - 1)
 
 -- 6: the smallest such section
-unfoldable pub sharedFault : Head → Fault
-sharedFault h = faultOf offsetFieldAt (firstFrom (sharesLower h) 4 1)
+unfoldable pub overlapFault : Head → Fault
+overlapFault h = faultOf offsetFieldAt (firstFrom (sharesLower h) 4 1)
 
 -- how many trace entries have a next index: all of them, or none where the version's entries have no such field (request 107)
 unfoldable pub linkCount : Layout → Head → ℕ

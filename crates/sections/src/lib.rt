@@ -4,7 +4,7 @@ ghost use Prim.Native.Nat.{_≤_};
 ghost use Rattle.lists.specs.Part.{IsPart};
 ghost use Rattle.sections.specs.Fields.{offsetFieldAt, signatureFault, sizeFault, nameUnitsIn, nameEnd, sectionOf, headOf, outside, outsideFault, shares};
 ghost use Rattle.layout.specs.Versions.{formSaid};
-ghost use Rattle.sections.specs.Fields.{sharedFault, placesFault, entriesFault, formIn, linkCount};
+ghost use Rattle.sections.specs.Fields.{overlapFault, placesFault, entriesFault, formIn, linkCount};
 use incremental::Fault;
 use layout::KnownForm;
 use layout::Layout;
@@ -231,8 +231,8 @@ fn share(s: Section, t: Section) -> bool
 }
 
 // Check 6.
-pub fn shared_fault(h: Head) -> Fault
-    ensures { λ r. ⌜ r ≡ sharedFault h ⌝ }
+pub fn overlap_fault(h: Head) -> Fault
+    ensures { λ r. ⌜ r ≡ overlapFault h ⌝ }
 {
     let metrics = h.metrics;
     let trace = h.trace;

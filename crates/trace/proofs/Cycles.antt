@@ -10,7 +10,7 @@ use native.Mathlib.Omega.{arith}
 use borrow.Author.Tests.{eq-eqb, ne-eqb, eqb-true}
 use lib.Dec.{eqb}
 use lib.ListN.{length, List·getD-eq-default}
-use Rattle.lists.proofs.Count.{some-yes, some-no, some-true}
+use Rattle.lists.proofs.Count.{any-yes, any-no, any-true}
 use Rattle.lists.proofs.Pigeon.{Twice, pigeons}
 use Rattle.trace.specs.Links.{end, follow, cyclic, Cyclic}
 use Rattle.trace.proofs.Steps.{Reach, follow-add, follow-suc, follow-end, follow-times}
@@ -26,12 +26,12 @@ no-cycle s i a k l e r =
 
 pub cyclic-yes : (s : List ℕ) (i k : ℕ) → k < length s → follow s (suc k) i ≡ i → cyclic s i ≡ true
 unfolding cyclic
-cyclic-yes s i k l e = some-yes (λ m. eqb (follow s (suc m) i) i) (length s) k l (eq-eqb _ _ e)
+cyclic-yes s i k l e = any-yes (λ m. eqb (follow s (suc m) i) i) (length s) k l (eq-eqb _ _ e)
 
 pub cyclic-no : (s : List ℕ) (i : ℕ) → length s ≤ end → i < length s → Reach s i end → cyclic s i ≡ false
 unfolding cyclic
 cyclic-no s i l h r =
-    some-no (λ m. eqb (follow s (suc m) i) i) (length s)
+    any-no (λ m. eqb (follow s (suc m) i) i) (length s)
     (λ k _. ne-eqb _ _ (λ e. let z = no-cycle s i (suc (r .0)) k l (r .1) e in omega arith))
 
 module _ (s : List ℕ) (i : ℕ) (l : i < length s) (small : length s ≤ end) where
@@ -86,6 +86,6 @@ module _ (s : List ℕ) (i : ℕ) (l : i < length s) (small : length s ≤ end) 
 pub cycle-law : (s : List ℕ) (i : ℕ) → i < length s → length s ≤ end → (cyclic s i ≡ true) ↔ Cyclic s i
 unfolding cyclic
 cycle-law s i l small = (
-  (λ e. let t = some-true (λ k. eqb (follow s (suc k) i) i) (length s) e in (t .0, eqb-true _ _ (t .2))),
+  (λ e. let t = any-true (λ k. eqb (follow s (suc k) i) i) (length s) e in (t .0, eqb-true _ _ (t .2))),
   comes-back s i l small,
 )

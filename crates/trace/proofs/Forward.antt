@@ -13,7 +13,7 @@ use lib.Dec.{eqb, ltb}
 use lib.ListN.{length, List·getD-eq-default}
 use Rattle.lists.specs.First.{first}
 use Rattle.lists.proofs.First.{first-is-nothing}
-use Rattle.lists.proofs.Count.{true-false, some-no}
+use Rattle.lists.proofs.Count.{true-false, any-no}
 use Rattle.lists.specs.declared.Found.the-variants.{Nothing}
 use Rattle.trace.specs.Links.{end, after, follow, cyclic}
 use Rattle.trace.specs.Private.{Forward}
@@ -48,7 +48,7 @@ module _ (s : List ℕ) (l : length s ≤ end) (sound : InRange s) (f : Forward 
   unfolding cyclic follow
   forward-acyclic =
       first-is-nothing (cyclic s) (length s) (λ i q.
-      some-no (λ k. eqb (follow s (suc k) i) i) (length s) (λ k _.
+      any-no (λ k. eqb (follow s (suc k) i) i) (length s) (λ k _.
       ne-eqb (follow s k (after s i)) i (λ e.
       let t = step-on i (omega arith) in
       let b : after s i ≤ follow s k (after s i) = follow-on k (after s i) (t .1) in

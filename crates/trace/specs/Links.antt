@@ -1,6 +1,6 @@
 -- Checks 11, 12 and 13 of document 01 on the next indexes of a trace section, the table of predecessors and the chain count.
 use mathlib.Core.Path.{_≡_}
-use mathlib.Core.Bool.{Bool, true, false, not, _&&_}
+use mathlib.Core.Bool.{Bool, not, _&&_}
 use mathlib.Core.List.{List}
 use mathlib.Core.Logic.{_⊎_}
 use Prim.Native.Nat.{ℕ, zero, suc, _*_, _<_}
@@ -10,7 +10,7 @@ use Rattle.lists.specs.Filled.{filled}
 use Rattle.lists.specs.First.{first}
 use Rattle.lists.specs.Pairs.{firstOf}
 use Rattle.lists.specs.Table.{tabulate}
-use Rattle.lists.specs.Count.{some, count, pick}
+use Rattle.lists.specs.Count.{anyBelow, count, pick}
 use Rattle.little_endian.specs.Number.{le}
 use Rattle.layout.specs.Head.{entryOffset}
 use Rattle.incremental.specs.Decision.{Decision, accept, refuse, faultOf, check, _>>=_, _>>_}
@@ -58,7 +58,7 @@ shared s j = ltb 1 (namers s (length s) j)
 
 -- 13: following next from entry i comes back to it, in as many steps as there are entries (`cycle-law`: in any number of steps)
 unfoldable pub cyclic : List ℕ → ℕ → Bool
-cyclic s i = some (λ k. eqb (follow s (suc k) i) i) (length s)
+cyclic s i = anyBelow (λ k. eqb (follow s (suc k) i) i) (length s)
 
 -- following next from entry i comes back to it
 abbrev pub Cyclic : List ℕ → ℕ → Type 0

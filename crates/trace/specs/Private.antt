@@ -2,7 +2,6 @@
 use mathlib.Core.Path.{_≡_}
 use mathlib.Core.Bool.{Bool, true}
 use mathlib.Core.List.{List}
-use mathlib.Core.Logic.{_⊎_}
 use Prim.Native.Nat.{ℕ, _<_, _≤_, min}
 use lib.ListN.{length, getD, set}
 use Rattle.trace.specs.Links.{end, after, astray, namers, shared, cyclic, sharedFault, cyclicFault}

@@ -17,7 +17,7 @@ use Rattle.trace.specs.Links.{InRange}
 use Rattle.trace.proofs.Steps.{follow-add, follow-end}
 use Rattle.trace.proofs.Cycles.{cycle-law}
 use Rattle.trace.proofs.Accepted.{Acyclic, accepted}
-use Rattle.walk.specs.Walk.{isHead, chain, joined, along}
+use Rattle.walk.specs.Walk.{isHead, chain, flatMap, along}
 
 -- from an entry, and from anything else
 pub chain-step : (s : List ℕ) (k j : ℕ) → j < length s → chain s (suc k) j ≡ j ∷ chain s k (after s j)
@@ -78,8 +78,8 @@ pub reach-end : (at : ℕ → ℕ) (s : List ℕ) (n : ℕ) → length s ≤ end
     → follow s (length s) i ≡ end
 reach-end at s n small e = let a = accepted at s n e in reaches s small (a .sound) (a .acyclic)
 
-pub joined-append : (f : ℕ → List ℕ) (xs ys : List ℕ) → joined f (xs ++ ys) ≡ joined f xs ++ joined f ys
-unfolding joined
+pub joined-append : (f : ℕ → List ℕ) (xs ys : List ℕ) → flatMap f (xs ++ ys) ≡ flatMap f xs ++ flatMap f ys
+unfolding flatMap
 joined-append f [] ys = refl
 joined-append f (x ∷ xs) ys = rw (joined-append f xs ys, append-assoc)
 
@@ -90,14 +90,14 @@ along-append counts (x ∷ xs) ys = omega (arith, along-append counts xs ys)
 
 -- the chains of the heads below h
 abbrev pub below : List ℕ → ℕ → List ℕ
-below s h = joined (chain s (length s)) (those (isHead s) h)
+below s h = flatMap (chain s (length s)) (those (isHead s) h)
 
 pub below-head : (s : List ℕ) (h : ℕ) → isHead s h ≡ true → below s (suc h) ≡ below s h ++ chain s (length s) h
-unfolding joined
+unfolding flatMap
 below-head s h e =
-    ap (joined (chain s (length s))) (those-yes (isHead s) h e)
+    ap (flatMap (chain s (length s))) (those-yes (isHead s) h e)
     ∙ joined-append (chain s (length s)) (those (isHead s) h) (h ∷ [])
     ∙ ap (λ (l : List ℕ). below s h ++ l) (append-nil (chain s (length s) h))
 
 pub below-other : (s : List ℕ) (h : ℕ) → isHead s h ≡ false → below s (suc h) ≡ below s h
-below-other s h e = ap (joined (chain s (length s))) (those-no (isHead s) h e)
+below-other s h e = ap (flatMap (chain s (length s))) (those-no (isHead s) h e)

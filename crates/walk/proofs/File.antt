@@ -1,13 +1,12 @@
 -- The walk of a file by what the whole-file reader and the walk over its chains give.
 use mathlib.Core.Path.{_≡_, refl, sym, ap, _∙_}
 use mathlib.Core.Bool.{Bool, true, false}
-use mathlib.Core.List.{List, _++_}
-use Prim.Native.Nat.{ℕ, _+_, _*_, _≤_, _<_}
+use mathlib.Core.List.{List}
+use Prim.Native.Nat.{ℕ, _*_, _≤_, _<_}
 use native.Mathlib.Nat.{zero-add, le-trans}
 use native.Mathlib.Omega.{arith}
 use borrow.Author.Tests.{lt-ltb, le-ltb}
-use lib.Dec.{ltb}
-use lib.ListN.{length, drop}
+use lib.ListN.{length}
 use Rattle.lists.specs.Count.{pick}
 use Rattle.lists.specs.Table.{tabulate}
 use Rattle.layout.specs.Versions.{headEnd, traceEntry, hasNext}
@@ -20,7 +19,7 @@ use Rattle.head.specs.declared.checks.Opening.{Opening}
 use Rattle.head.proofs.Rules.{part-length}
 use Rattle.head.proofs.Facts.{open-facts, open-sound, open-shapes}
 use Rattle.lists.specs.Filled.{filled}
-use Rattle.trace.specs.Links.{end, nexts, chains, predecessors}
+use Rattle.trace.specs.Links.{nexts, chains}
 use Rattle.trace.proofs.Steps.{length-nexts}
 use Rattle.reader.specs.declared.verdict.Acceptance.{Acceptance}
 use Rattle.reader.specs.declared.verdict.FileVerdict.{FileVerdict}
@@ -32,8 +31,8 @@ use Rattle.reader.proofs.AllowedLaws.{RestFacts, rest-facts, read-rest, whole-a
 use Rattle.walk.specs.declared.Visits.{Visits}
 use Rattle.walk.specs.declared.WalkAnswer.{WalkAnswer}
 use Rattle.walk.specs.declared.WalkAnswer.the-variants.{Walked, Refused}
-use Rattle.walk.specs.Walk.{walk, along, blocks, nextsOf, blocksIn, blocksOf, Visited}
-use Rattle.walk.specs.Walk.{walked, decisionOf, valuesOf, decisionValues, orderAfter, bufferAfter, Walks}
+use Rattle.walk.specs.Walk.{walk, along, blocks, blocksIn, Visited}
+use Rattle.walk.specs.Walk.{walked, valuesOf, decisionValues, orderAfter, bufferAfter, Walks}
 use Rattle.walk.specs.Private.{WalkFits, After, noVisits, Accepts}
 use Rattle.walk.proofs.Written.{written-all}
 use Rattle.walk.proofs.Once.{every-entry}

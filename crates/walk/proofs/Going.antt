@@ -1,21 +1,20 @@
 -- On the way along a chain: what has been written and what is left make up the whole chain.
 use mathlib.Core.Path.{_≡_, refl, sym, ap, _∙_}
-use mathlib.Core.List.{List, [], _∷_}
-use mathlib.Core.Logic.{_⊎_, inl, inr, ⊎-elim}
+use mathlib.Core.List.{List, _∷_}
+use mathlib.Core.Logic.{_⊎_, inr}
 use Prim.Native.Nat.{ℕ, zero, suc, _+_, _-_, _*_, _≤_, _<_}
 use native.Mathlib.Nat.{add-zero}
 use native.Mathlib.Omega.{arith}
 use lib.ListN.{length, getD, set, take, drop, length-set}
-use Rattle.lists.specs.Table.{tabulate}
 use Rattle.lists.proofs.Table.{getD-tabulate}
 use Rattle.little_endian.specs.Number.{le}
 use Rattle.little_endian.proofs.Number.{le-take, le-drop}
 use Rattle.trace.specs.Links.{end, after, follow, nexts}
 use Rattle.trace.specs.Links.{InRange}
-use Rattle.trace.proofs.Steps.{length-nexts, after-nexts}
+use Rattle.trace.proofs.Steps.{after-nexts}
 use Rattle.walk.specs.declared.Visits.{Visits}
 use Rattle.walk.specs.Walk.{chain, along, blocks}
-use Rattle.walk.specs.Private.{written, ChainFits, After}
+use Rattle.walk.specs.Private.{written, ChainFits}
 use Rattle.walk.proofs.Chain.{chain-step, chain-stop}
 
 -- four bytes cut out of a list are those that stand there

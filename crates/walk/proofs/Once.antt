@@ -20,7 +20,7 @@ use Rattle.trace.proofs.Steps.{follow-end}
 use Rattle.trace.proofs.Predecessors.{Named, none, one, named, names-one}
 use Rattle.trace.proofs.Chains.{chains-ends}
 use Rattle.trace.proofs.OneChain.{one-chain}
-use Rattle.walk.specs.Walk.{isHead, chain, joined, walk, along, total}
+use Rattle.walk.specs.Walk.{isHead, chain, flatMap, walk, along, total}
 use Rattle.walk.specs.EveryEntry.{times, EveryEntry}
 use Rattle.walk.proofs.Chain.{chain-step, chain-stop, ended, reach-end, below, below-head, below-other}
 
@@ -119,8 +119,8 @@ within-append : {n : ℕ} {xs ys : List ℕ} → Within n xs → Within n ys →
 within-append nil v = v
 within-append (cons l w) v = cons l (within-append w v)
 
-within-joined : (n : ℕ) (f : ℕ → List ℕ) → ((h : ℕ) → Within n (f h)) → (hs : List ℕ) → Within n (joined f hs)
-unfolding joined
+within-joined : (n : ℕ) (f : ℕ → List ℕ) → ((h : ℕ) → Within n (f h)) → (hs : List ℕ) → Within n (flatMap f hs)
+unfolding flatMap
 within-joined n f w [] = nil
 within-joined n f w (h ∷ hs) = within-append (w h) (within-joined n f w hs)
 
@@ -221,7 +221,7 @@ module _ (at : ℕ → ℕ) (s : List ℕ) (n : ℕ) (small : length s ≤ end) 
 
     -- below a bound it stands once if that head does
     once-below : (h : ℕ) → h ≤ length s → occ (below s h) e ≡ pick (ltb (c .head) h) 1 0
-    unfolding joined those share
+    unfolding flatMap those share
     once-below zero q = rw (le-ltb (c .head) 0 (omega arith))
     once-below (suc h) q = go (isHead s h) refl (ℕ-discrete h (c .head)) (once-below h (omega arith))
       where
@@ -281,7 +281,7 @@ module _ (at : ℕ → ℕ) (s : List ℕ) (n : ℕ) (small : length s ≤ end) 
         heads-ends = length-those (isHead s) (length s) ∙ chains-ends at s n small a;
       }
 
-  pub below-long : (h : ℕ) → h ≤ length s → length (joined (chain s (length s)) (those (isHead s) h)) ≤ length s
+  pub below-long : (h : ℕ) → h ≤ length s → length (flatMap (chain s (length s)) (those (isHead s) h)) ≤ length s
   below-long h q =
       omega (
         arith,

@@ -1,18 +1,17 @@
 -- The chains of the heads so far: each is written behind the others.
 use mathlib.Core.Path.{_≡_, refl, sym, ap, _∙_}
-use mathlib.Core.Bool.{Bool, true, false}
+use mathlib.Core.Bool.{true, false}
 use mathlib.Core.List.{List, _++_}
-use Prim.Native.Nat.{ℕ, zero, suc, _+_, _*_, _≤_, _<_}
-use native.Mathlib.Nat.{le-trans}
+use Prim.Native.Nat.{ℕ, suc, _+_, _≤_, _<_}
 use native.Mathlib.Omega.{arith}
 use borrow.Author.Tests.{eq-eqb, ne-eqb}
 use lib.ListN.{length, getD, length-append}
 use Rattle.lists.specs.Those.{those}
-use Rattle.trace.specs.Links.{end, namers, predecessor, predecessors}
+use Rattle.trace.specs.Links.{end, namers, predecessor}
 use Rattle.trace.proofs.Accepted.{accepted}
 use Rattle.trace.proofs.Predecessors.{Named, none, one, named, at-predecessors}
 use Rattle.walk.specs.declared.Visits.{Visits}
-use Rattle.walk.specs.Walk.{isHead, chainOf, joined, along}
+use Rattle.walk.specs.Walk.{isHead, chainOf, flatMap, along}
 use Rattle.walk.specs.Private.{written, ChainFits, WalkFits, After, noVisits}
 use Rattle.walk.proofs.Chain.{reach-end, along-append, below, below-head, below-other}
 use Rattle.walk.proofs.Written.{written-append}
@@ -33,7 +32,7 @@ after-append counts xs ys v w r order order′ order″ a b =
     }
 
 pub none-yet : (s counts order : List ℕ) → After counts (below s 0) noVisits order noVisits order
-unfolding those joined along written
+unfolding those flatMap along written
 none-yet s counts order = record { steps = refl; total = refl; placed = refl; low = omega arith }
 
 -- one entry more: the chain of a head is written, and nothing else

@@ -1,8 +1,9 @@
 -- What only private contracts need: how the list is written, and what is known on the way.
 use mathlib.Core.Path.{_≡_}
-use mathlib.Core.List.{List, [], _∷_}
-use Prim.Native.Nat.{ℕ, suc, _+_, _*_, _≤_, _<_, _^_}
-use lib.ListN.{length, set}
+use mathlib.Core.List.{List}
+use Prim.Native.Nat.{ℕ, _+_, _*_, _≤_, _<_}
+use lib.Seq.{sets}
+use lib.ListN.{length}
 use Rattle.incremental.specs.Decision.{accept}
 use Rattle.incremental.specs.Plan.{decided, run}
 use Rattle.head.specs.Checks.{openPlan}
@@ -14,10 +15,9 @@ use Rattle.reader.specs.Checks.{fileAnswer}
 use Rattle.walk.specs.declared.Visits.{Visits}
 use Rattle.walk.specs.Walk.{chainOf, along}
 
--- a list with some numbers written into it, one after another from a place
+-- a list with some numbers written into it, one after another from a place; shut, since the kit's own unfolds everywhere
 unfoldable pub written : List ℕ → ℕ → List ℕ → List ℕ
-written order at [] = order
-written order at (i ∷ is) = written (set order at i) (suc at) is
+written order at list = sets order at list
 
 -- what the visits so far add up to is as low as so many 32-bit numbers
 abbrev pub Low : Visits → Type 0

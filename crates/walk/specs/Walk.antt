@@ -45,13 +45,13 @@ abbrev pub chainOf : List ℕ → ℕ → List ℕ
 chainOf s i = chain s (length s) i
 
 -- what is listed for each of some entries, joined
-unfoldable pub joined : (ℕ → List ℕ) → List ℕ → List ℕ
-joined f [] = []
-joined f (h ∷ hs) = f h ++ joined f hs
+unfoldable pub flatMap : (ℕ → List ℕ) → List ℕ → List ℕ
+flatMap f [] = []
+flatMap f (h ∷ hs) = f h ++ flatMap f hs
 
 -- THE LIST that the walk fills: the chains of all heads
 abbrev pub walk : List ℕ → List ℕ
-walk s = joined (chainOf s) (heads s)
+walk s = flatMap (chainOf s) (heads s)
 
 -- ---- the block counts
 

@@ -35,7 +35,7 @@ use Rattle.writer.specs.declared.Given.{Given}
 use Rattle.writer.specs.declared.Draft.{Draft}
 use Rattle.writer.specs.declared.write.Planned.{Planned}
 use Rattle.writer.specs.declared.write.Planned.the-variants.{Fits, TooLarge}
-use Rattle.writer.specs.LaidOut.{Description, descriptionOf, Numbers, beforeZero, laidBy, laidOut, carried, laidSize}
+use Rattle.writer.specs.LaidOut.{Description, descriptionOf, Numbers, beforeZero, laidBy, laidOut, nameKept, laidSize}
 use Rattle.writer.specs.Writes.{writable, roomed, placedAnswer, answerFor, outputAfter, Lays, Writes}
 use Rattle.writer.specs.Private.{patch, Writable, Ready, LaysBy, planBy, planned, sectionChecks, SectionsAnswered, described}
 use Rattle.writer.specs.Private.{linksIn}
@@ -155,7 +155,7 @@ module _ (v : Version) (w : Writable (layoutOf v)) (known : versionOf (versionNu
       lays-refused _ buffer output after _ x
       (read-refused _ _ _ _ (too-large v (layoutOf v) d _ (length buffer) refl w known (start-facts v (layoutOf v) d w r) (rw e at h))) refl y
 
-  pub version-endless : (l : Layout) → l ≡ layoutOf v → laidSize l d ≤ sizeLimit → length (carried d) ≡ 30
+  pub version-endless : (l : Layout) → l ≡ layoutOf v → laidSize l d ≤ sizeLimit → length (nameKept d) ≡ 30
       → Reads (decided (refuse (refusal 4 0 programNameAt))) (length buffer) x after
       → LaysBy v (layoutOf v) d buffer output x after output
   version-endless l q h e y =

@@ -15,7 +15,7 @@ use Rattle.layout.specs.declared.Layout.{Layout}
 use Rattle.sections.specs.Fields.{nameEnd, headOf, part}
 use Rattle.names.specs.Names.{nameAt, nameUnits}
 use Rattle.trace.specs.Links.{nexts}
-use Rattle.writer.specs.LaidOut.{Description, carried, pairs, laidSize}
+use Rattle.writer.specs.LaidOut.{Description, nameKept, pairs, laidSize}
 use Rattle.writer.specs.Private.{headFor, linksIn}
 
 -- what stands before byte 76, whatever the size
@@ -24,7 +24,7 @@ pub record StartFacts (v : Version) (l : Layout) (d : Description) (p : List ℕ
   pub version : le 4 p versionAt ≡ versionNumber v
   pub signature : le 4 p signatureAt ≡ 0x41434353
   pub size : le 4 p declaredSizeAt ≡ min (laidSize l d) 4_294_967_295
-  pub ended : nameEnd (take 76 p) ≡ pick (eqb (length (carried d)) 30) Nothing (At (length (carried d)))
+  pub ended : nameEnd (take 76 p) ≡ pick (eqb (length (nameKept d)) 30) Nothing (At (length (nameKept d)))
 
 -- and the rest, where the size is within the limit
 pub record LaidFacts (v : Version) (l : Layout) (d : Description) (p : List ℕ) : Type 0 where

@@ -11,7 +11,7 @@ use Rattle.layout.specs.Versions.{versionNumber, runTimeAt, runCountAt, firstSe
 use Rattle.layout.specs.declared.Version.{Version}
 use Rattle.layout.specs.declared.Version.the-variants.{V17, V23, V26, V30}
 use Rattle.layout.specs.declared.Layout.{Layout}
-use Rattle.writer.specs.LaidOut.{Numbers, number, bytesOf, unitBytes, spread, Description, carried}
+use Rattle.writer.specs.LaidOut.{Numbers, number, bytesOf, unitBytes, spread, Description, nameKept}
 use Rattle.writer.specs.LaidOut.{laidSize}
 use Rattle.writer.specs.LaidOut.{headFields, head}
 use Rattle.writer.specs.Private.{Ordered, Writable}
@@ -37,7 +37,7 @@ module _ (v : Version) (l : Layout) (d : Description) (w : Writable l) where
         (
           omega arith,
           (
-            omega (arith, length-units (carried d), carried-most (d .name)),
+            omega (arith, length-units (nameKept d), carried-most (d .name)),
             (
               omega
                   arith,
@@ -112,25 +112,25 @@ module _ (v : Version) (l : Layout) (d : Description) (w : Writable l) where
     -- unit i of the name
     from-name : (i : ℕ)
         → le 2 (head v l d) (16 + 2 * i)
-        ≡ le 2 (unitBytes (carried d) ++ spread (16 + length (unitBytes (carried d))) (fieldsAfter (headFields v l d) 3) (firstSection l)) (2 * i)
+        ≡ le 2 (unitBytes (nameKept d) ++ spread (16 + length (unitBytes (nameKept d))) (fieldsAfter (headFields v l d) 3) (firstSection l)) (2 * i)
     from-name i =
         sym (le-drop 2 16 (head v l d) (2 * i))
         ∙ ap (λ (s : List ℕ). le 2 s (2 * i)) (spread-drop 0 (headFields v l d) (firstSection l) 3 ordered-head (omega arith))
 
-    pub name-unit : (i : ℕ) → i < length (carried d) → le 2 (head v l d) (16 + 2 * i) ≡ getD (carried d) i 0
+    pub name-unit : (i : ℕ) → i < length (nameKept d) → le 2 (head v l d) (16 + 2 * i) ≡ getD (nameKept d) i 0
     name-unit i h =
         from-name i
-        ∙ le-left 2 (unitBytes (carried d)) _ (2 * i) (omega (arith, length-units (carried d)))
-        ∙ le-units (carried d) i (carried-low (d .name) (r .units)) h
+        ∙ le-left 2 (unitBytes (nameKept d)) _ (2 * i) (omega (arith, length-units (nameKept d)))
+        ∙ le-units (nameKept d) i (carried-low (d .name) (r .units)) h
 
-    pub name-zero : length (carried d) < 30 → le 2 (head v l d) (16 + 2 * length (carried d)) ≡ 0
+    pub name-zero : length (nameKept d) < 30 → le 2 (head v l d) (16 + 2 * length (nameKept d)) ≡ 0
     unfolding spread
     name-zero h =
-        let n = length (carried d) in
-        let z : List ℕ = replicate (76 - (16 + length (unitBytes (carried d)))) 0 in
-        let e : 2 * n ≡ length (unitBytes (carried d)) + 0 = omega (arith, length-units (carried d)) in
+        let n = length (nameKept d) in
+        let z : List ℕ = replicate (76 - (16 + length (unitBytes (nameKept d)))) 0 in
+        let e : 2 * n ≡ length (unitBytes (nameKept d)) + 0 = omega (arith, length-units (nameKept d)) in
         from-name n
-        ∙ ap (le 2 (unitBytes (carried d) ++ spread (16 + length (unitBytes (carried d))) (fieldsAfter (headFields v l d) 3) (firstSection l))) e
-        ∙ le-right 2 (unitBytes (carried d)) _ 0
-        ∙ le-left 2 z _ 0 (omega (arith, length-replicate {A = ℕ} (76 - (16 + length (unitBytes (carried d)))) 0, length-units (carried d)))
-        ∙ le-zeros 2 (76 - (16 + length (unitBytes (carried d)))) 0
+        ∙ ap (le 2 (unitBytes (nameKept d) ++ spread (16 + length (unitBytes (nameKept d))) (fieldsAfter (headFields v l d) 3) (firstSection l))) e
+        ∙ le-right 2 (unitBytes (nameKept d)) _ 0
+        ∙ le-left 2 z _ 0 (omega (arith, length-replicate {A = ℕ} (76 - (16 + length (unitBytes (nameKept d)))) 0, length-units (nameKept d)))
+        ∙ le-zeros 2 (76 - (16 + length (unitBytes (nameKept d)))) 0

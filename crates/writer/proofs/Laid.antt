@@ -27,7 +27,7 @@ use Rattle.names.specs.Names.{nameAt, nameUnits}
 use Rattle.trace.specs.Links.{nexts}
 use Rattle.trace.specs.Links.{firsts}
 use Rattle.writer.specs.LaidOut.{Numbers, Description, entries, head, metricsBytes, traceBytes, laidBy}
-use Rattle.writer.specs.LaidOut.{carried, pairs, metricsAt, traceAt, stringsAt, volumesAt, laidSize}
+use Rattle.writer.specs.LaidOut.{nameKept, pairs, metricsAt, traceAt, stringsAt, volumesAt, laidSize}
 use Rattle.writer.specs.Private.{Writable, headFor, linksIn}
 use Rattle.writer.proofs.Facts.{StartFacts, LaidFacts}
 use Rattle.writer.proofs.Bytes.{le-left, length-entries, le-entry}
@@ -88,7 +88,7 @@ module _ (v : Version) (l : Layout) (d : Description) (w : Writable l) (r : Numb
   unit-is : (i : ℕ) → i < 30 → le 2 (take 76 file) (16 + 2 * i) ≡ le 2 top-part (16 + 2 * i)
   unit-is i h = le-take 2 76 file (16 + 2 * i) (omega arith) ∙ in-head 2 (16 + 2 * i) (omega (arith, w .run-time, w .run-count, w .head, w .section))
 
-  before : (i : ℕ) → i < length (carried d) → zeroUnit (take 76 file) (16 + 2 * i) ≡ false
+  before : (i : ℕ) → i < length (nameKept d) → zeroUnit (take 76 file) (16 + 2 * i) ≡ false
   before i h =
       let e = unit-is i (omega (arith, carried-most (d .name))) ∙ top.name-unit v l d w r i h in
       ne-eqb _ 0 (λ z. carried-nonzero (d .name) i h (sym e ∙ z))
@@ -96,16 +96,16 @@ module _ (v : Version) (l : Layout) (d : Description) (w : Writable l) (r : Numb
   units : nameUnitsIn (length (take 76 file)) ≡ 30
   units = sym (units-whole (length (take 76 file)) (omega (arith, length-take 76 file, length-file, w .run-time, w .run-count, w .head, w .section)))
 
-  pub name-ended : nameEnd (take 76 file) ≡ pick (eqb (length (carried d)) 30) Nothing (At (length (carried d)))
+  pub name-ended : nameEnd (take 76 file) ≡ pick (eqb (length (nameKept d)) 30) Nothing (At (length (nameKept d)))
   unfolding nameEnd
-  name-ended = rw units (go (eqb (length (carried d)) 30) refl)
+  name-ended = rw units (go (eqb (length (nameKept d)) 30) refl)
     where
-      go : (b : Bool) → eqb (length (carried d)) 30 ≡ b
-          → first (λ i. zeroUnit (take 76 file) (16 + 2 * i)) 30 ≡ pick b Nothing (At (length (carried d)))
-      go true e = first-is-nothing _ 30 (λ i h. before i (omega (arith, eqb-true (length (carried d)) 30 e)))
+      go : (b : Bool) → eqb (length (nameKept d)) 30 ≡ b
+          → first (λ i. zeroUnit (take 76 file) (16 + 2 * i)) 30 ≡ pick b Nothing (At (length (nameKept d)))
+      go true e = first-is-nothing _ 30 (λ i h. before i (omega (arith, eqb-true (length (nameKept d)) 30 e)))
       go false e =
-          let n : length (carried d) < 30 = fewer (length (carried d)) (carried-most (d .name)) (eqb-false (length (carried d)) 30 e) in
-          first-is-at _ 30 (length (carried d)) n (eq-eqb _ 0 (unit-is (length (carried d)) n ∙ top.name-zero v l d w r n)) before
+          let n : length (nameKept d) < 30 = fewer (length (nameKept d)) (carried-most (d .name)) (eqb-false (length (nameKept d)) 30 e) in
+          first-is-at _ 30 (length (nameKept d)) n (eq-eqb _ 0 (unit-is (length (nameKept d)) n ∙ top.name-zero v l d w r n)) before
 
   pub start-facts : StartFacts v l d file
   start-facts =

@@ -37,7 +37,7 @@ use Rattle.reader.specs.Checks.{namesRequired, traceRequired, volumesRequired, 
 use Rattle.reader.specs.Checks.{countsPlan, fitsPlan, textsPlan, tracePlan, volumesPlan, restPlan, readPlan}
 use Rattle.reader.proofs.Early.{names-required-low, trace-required-low, volumes-required-low}
 use Rattle.reader.proofs.AllowedLaws.{misfit-take, unsound-take, nexts-take, volumes-take, record-take, read-rest}
-use Rattle.writer.specs.LaidOut.{Description, carried, pairs, metricsAt, volumesAt, laidSize}
+use Rattle.writer.specs.LaidOut.{Description, nameKept, pairs, metricsAt, volumesAt, laidSize}
 use Rattle.writer.specs.Private.{Writable, headFor, linksIn, sectionChecks, recordFor, acceptableFor, described}
 use Rattle.writer.proofs.Facts.{StartFacts, LaidFacts}
 use Rattle.writer.proofs.Sections.{size-stands, opens}
@@ -146,7 +146,7 @@ module _ (v : Version) (l : Layout) (d : Description) (p : List ℕ) (m : ℕ) (
         ∙ reach-here 16 _ p (omega arith)
         ∙ check-fault 3 _ _ p 0 12 (sym (size-high (layoutOf v) _ _ size-reads (rw (← laid) (omega arith)) (omega arith))))
 
-    pub name-endless : laidSize l d ≤ sizeLimit → length (carried d) ≡ 30 → fileAnswer p m ≡ decided (refuse (refusal 4 0 programNameAt))
+    pub name-endless : laidSize l d ≤ sizeLimit → length (nameKept d) ≡ 30 → fileAnswer p m ≡ decided (refuse (refusal 4 0 programNameAt))
     unfolding startPlan
     name-endless h e =
         let n = long-head in
@@ -155,12 +155,12 @@ module _ (v : Version) (l : Layout) (d : Description) (p : List ℕ) (m : ℕ) (
         ∙ reach-here 16 _ p (omega arith)
         ∙ check-passed 3 _ _ p (sym (size-right (layoutOf v) _ _ size-reads (rw (← laid) (omega arith)) (omega arith)))
         ∙ reach-here 76 _ p (omega arith)
-        ∙ given-none 4 _ _ _ p (ap units {y = Nothing} (s .ended ∙ rw (eq-eqb (length (carried d)) 30 e))))
+        ∙ given-none 4 _ _ _ p (ap units {y = Nothing} (s .ended ∙ rw (eq-eqb (length (nameKept d)) 30 e))))
 
   -- ---- the other checks, where the size is within the limit and the name ends
-  module _ (f : LaidFacts v l d p) (short : length (carried d) < 30) where
+  module _ (f : LaidFacts v l d p) (short : length (nameKept d) < 30) where
     abbrev o : Opening
-    o = opening v l (length (carried d)) (headFor l d)
+    o = opening v l (length (nameKept d)) (headFor l d)
 
     open-facts : OpenFacts p o
     open-facts = opens v l d p laid w known f short

@@ -14,13 +14,13 @@ use Rattle.layout.specs.declared.Version.{Version}
 use Rattle.layout.specs.declared.Layout.{Layout}
 use Rattle.layout.specs.declared.KnownVersion.the-variants.{Known}
 use Rattle.incremental.specs.declared.Fault.the-variants.{Nowhere}
-use Rattle.sections.specs.Fields.{declaredSize, sectionOf, outsideFault, sharedFault}
+use Rattle.sections.specs.Fields.{declaredSize, sectionOf, outsideFault, overlapFault}
 use Rattle.sections.proofs.Cases.{signature-right, form-one}
 use Rattle.head.specs.Rules.{Inside, Apart}
 use Rattle.head.specs.Opened.{OpenFacts}
 use Rattle.head.proofs.Rules.{outside-law, shares-law}
 use Rattle.reader.specs.Checks.{opening}
-use Rattle.writer.specs.LaidOut.{Description, carried, pairs, metricsAt, traceAt, stringsAt, volumesAt, laidSize}
+use Rattle.writer.specs.LaidOut.{Description, nameKept, pairs, metricsAt, traceAt, stringsAt, volumesAt, laidSize}
 use Rattle.writer.specs.Private.{Writable, headFor}
 use Rattle.writer.proofs.Facts.{LaidFacts}
 
@@ -67,7 +67,7 @@ module _ (l : Layout) (d : Description) (w : Writable l) where
       }
 
   -- CHECKS 5 AND 6 cannot fail
-  pub never-outside : (outsideFault l (headFor l d) ≡ Nowhere) × (sharedFault (headFor l d) ≡ Nowhere)
+  pub never-outside : (outsideFault l (headFor l d) ≡ Nowhere) × (overlapFault (headFor l d) ≡ Nowhere)
   never-outside = (outside-law l (headFor l d) .1 inside, shares-law (headFor l d) .1 apart)
 
 pub size-stands : (v : Version) (l : Layout) (d : Description) (p : List ℕ) → LaidFacts v l d p → declaredSize p ≡ laidSize l d
@@ -76,7 +76,7 @@ size-stands v l d p f = f .start .size ∙ omega (arith, f .small)
 -- what checks 1 to 6 accept
 module _ (v : Version) (l : Layout) (d : Description) (p : List ℕ) (laid : l ≡ layoutOf v) (w : Writable l)
     (known : versionOf (versionNumber v) ≡ Known v) (f : LaidFacts v l d p) where
-  pub opens : length (carried d) < 30 → OpenFacts p (opening v l (length (carried d)) (headFor l d))
+  pub opens : length (nameKept d) < 30 → OpenFacts p (opening v l (length (nameKept d)) (headFor l d))
   opens h =
       let e = size-stands v l d p f in
       let n : length p ≡ laidSize l d = f .start .long in
@@ -89,7 +89,7 @@ module _ (v : Version) (l : Layout) (d : Description) (p : List ℕ) (laid : l �
               least = rw (← laid) (omega arith);
               most = omega (arith, f .small);
               known = ap versionOf (f .start .version) ∙ known;
-              ended = f .start .ended ∙ rw (ne-eqb (length (carried d)) 30 (omega arith));
+              ended = f .start .ended ∙ rw (ne-eqb (length (nameKept d)) 30 (omega arith));
               named = omega arith;
               signed = sym (signature-right p _ refl (f .start .signature));
             };

@@ -10,7 +10,7 @@ use Rattle.layout.specs.declared.Layout.{Layout}
 use Rattle.writer.specs.declared.Plan.{Plan}
 use Rattle.writer.specs.declared.Given.{Given}
 use Rattle.writer.specs.declared.Draft.{Draft}
-use Rattle.writer.specs.LaidOut.{Description, descriptionOf, entries, head, metricsBytes, traceBytes, laidBy, carried, laidSize, pairs}
+use Rattle.writer.specs.LaidOut.{Description, descriptionOf, entries, head, metricsBytes, traceBytes, laidBy, nameKept, laidSize, pairs}
 use Rattle.writer.specs.Private.{Ready, headBy}
 use Rattle.writer.proofs.Bytes.{length-entries}
 use Rattle.writer.proofs.Entries.{metrics-size, trace-size}
@@ -40,11 +40,11 @@ module _ (w : Draft) (name metrics trace strings volumes : List ℕ) (r : Ready 
   pub name-fits : (units ≤ length name) × (units ≤ 30)
   name-fits =
       let k = ap length (carried-prefix name) in
-      (omega (arith, r .named, k, length-take (length (carried d)) name), omega (arith, r .named, carried-most name))
+      (omega (arith, r .named, k, length-take (length (nameKept d)) name), omega (arith, r .named, carried-most name))
 
   head-same : headBy (versionNumber v) l p g (take units name) ≡ head v l d
   head-same =
-      let c : take units name ≡ carried d = ap (λ (k : ℕ). take k name) (r .named) ∙ carried-prefix name in
+      let c : take units name ≡ nameKept d = ap (λ (k : ℕ). take k name) (r .named) ∙ carried-prefix name in
       let m : min (laidSize l d) 4_294_967_295 ≡ laidSize l d = omega (arith, r .small) in
       rw (r .plan, c, m) refl
 

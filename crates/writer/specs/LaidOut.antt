@@ -90,8 +90,8 @@ beforeZero [] = []
 beforeZero (u ∷ us) = pick (eqb u 0) [] (u ∷ beforeZero us)
 
 -- those that the file carries: it has room for 30
-abbrev pub carried : Description → List ℕ
-carried d = take programNameUnits (beforeZero (d .name))
+abbrev pub nameKept : Description → List ℕ
+nameKept d = take programNameUnits (beforeZero (d .name))
 
 -- how many pairs a table has; an odd last number is ignored
 abbrev pub pairs : List ℕ → ℕ
@@ -122,7 +122,7 @@ headFields v l d =
     number versionAt 4 (versionNumber v)
     ∷ number signatureAt 4 0x41434353
     ∷ number declaredSizeAt 4 (min (laidSize l d) 4_294_967_295)
-    ∷ record { at = programNameAt; bytes = unitBytes (carried d) }
+    ∷ record { at = programNameAt; bytes = unitBytes (nameKept d) }
     ∷ number storedHashAt 4 (d .storedHash)
     ∷ number metricsOffsetAt 4 (metricsAt l)
     ∷ number metricsCountAt 4 (pairs (d .metrics))

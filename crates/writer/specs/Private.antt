@@ -36,7 +36,7 @@ use Rattle.writer.specs.declared.write.Planned.{Planned}
 use Rattle.writer.specs.declared.write.Planned.the-variants.{Fits, TooLarge}
 use Rattle.reader.specs.declared.verdict.Verdict.{Verdict}
 use Rattle.writer.specs.Writes.{placedAnswer, Lays}
-use Rattle.writer.specs.LaidOut.{Field, number, unitBytes, spread, Description, Numbers, laidBy, carried, pairs, metricsAt, traceAt, stringsAt}
+use Rattle.writer.specs.LaidOut.{Field, number, unitBytes, spread, Description, Numbers, laidBy, nameKept, pairs, metricsAt, traceAt, stringsAt}
 use Rattle.writer.specs.LaidOut.{volumesAt, laidSize}
 
 -- ---- bytes into the place
@@ -51,9 +51,9 @@ Ordered from [] end = from ≤ end
 Ordered from (f ∷ fs) end = (from ≤ f .at) × Ordered (f .at + length (f .bytes)) fs end
 
 -- the fields with zeros between them, up to the end of the last
-unfoldable pub joined : ℕ → List Field → List ℕ
-joined from [] = []
-joined from (f ∷ fs) = (replicate (f .at - from) 0 ++ f .bytes) ++ joined (f .at + length (f .bytes)) fs
+unfoldable pub spread : ℕ → List Field → List ℕ
+spread from [] = []
+spread from (f ∷ fs) = (replicate (f .at - from) 0 ++ f .bytes) ++ spread (f .at + length (f .bytes)) fs
 
 -- 32-bit numbers at their places
 abbrev pub numbersAt : List ℕ → List ℕ → List Field
@@ -109,7 +109,7 @@ pub record Ready (w : Draft) (d : Description) : Type 0 where
   pub numbers : Numbers d
   pub plan : w .plan ≡ planFor (w .layout) d
   pub small : laidSize (w .layout) d ≤ sizeLimit
-  pub named : w .units ≡ length (carried d)
+  pub named : w .units ≡ length (nameKept d)
 
 -- the version of a number as the promise has it
 abbrev pub knownIs : KnownVersion → Option Version
@@ -180,7 +180,7 @@ recordFor v l d n =
     record {
       version = versionNumber v;
       «declared_size» = laidSize l d;
-      «name_units» = length (carried d);
+      «name_units» = length (nameKept d);
       «stored_hash» = d .storedHash;
       times = timesFor (d .runTime);
       «run_count» = d .runCount;

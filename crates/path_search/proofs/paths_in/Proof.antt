@@ -1,4 +1,3 @@
-use native.Mathlib.Omega.{arith}
 use Rattle.head.proofs.Facts.{open-sound}
 use Rattle.path_search.proofs.Laws.{metrics-low, pairs-given}
 use borrow.Author.Needs.{needs}

@@ -1,5 +1,4 @@
 -- The loop keeps the least number of the entries passed and the first entry that has it; an entry with 0 ends it.
-use mathlib.Core.Path.{_≡_, sym, _∙_}
 use mathlib.Core.Logic.{⊎-elim}
 use Prim.Native.Nat.{_≤_, _<_, _-_}
 use native.Mathlib.Nat.{div-le-self}

@@ -1,6 +1,5 @@
 -- None where the start is past the end or its first number is 0; else the digits of the other three.
 use native.Mathlib.Omega.{arith}
-use Rattle.text.specs.Put.{Put}
 use Rattle.replay_input.proofs.Text.{none-past, none-held, answer-line}
 use borrow.Author.Needs.{needs}
 use Rattle.replay_input.proofs.put_answer.Statement.{statement}

@@ -1,5 +1,4 @@
 use Rattle.sections.proofs.Cases.{faults, lengths}
-use borrow.Author.Needs.{needs}
 use Rattle.sections.proofs.entries_fault.Statement.{statement}
 use Rattle.sections.proofs.entries_fault.Tie as tie
 

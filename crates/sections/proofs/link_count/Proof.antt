@@ -1,5 +1,4 @@
 use Rattle.sections.proofs.Cases.{looked}
-use borrow.Author.Needs.{needs}
 use Rattle.sections.proofs.link_count.Statement.{statement}
 use Rattle.sections.proofs.link_count.Tie as tie
 

@@ -1,5 +1,4 @@
 use Rattle.sections.proofs.Cases.{faults}
-use borrow.Author.Needs.{needs}
 use Rattle.sections.proofs.places_fault.Statement.{statement}
 use Rattle.sections.proofs.places_fault.Tie as tie
 

@@ -1,11 +1,11 @@
 -- What has been written and what is left of the chain make up the whole of it, so there is room for each entry.
-use mathlib.Core.Path.{_≡_, _∙_}
+use mathlib.Core.Path.{_≡_}
 use mathlib.Core.List.{List}
-use Prim.Native.Nat.{ℕ, _+_, _-_, _<_, _≤_}
+use Prim.Native.Nat.{ℕ, _+_, _-_, _<_}
 use native.Mathlib.Omega.{arith}
 use lib.ListN.{length}
 use borrow.Author.Needs.{needs}
-use Rattle.trace.specs.Links.{end, nexts}
+use Rattle.trace.specs.Links.{nexts}
 use Rattle.trace.proofs.Steps.{length-nexts}
 use Rattle.walk.specs.Walk.{blocks, chainOf}
 use Rattle.walk.proofs.Going.{next-is, block-is, Going, going-start, going-room, going-step, going-end}

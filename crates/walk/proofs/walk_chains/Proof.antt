@@ -1,14 +1,14 @@
 -- After h entries the chains of the heads below h are written, one behind the other.
-use mathlib.Core.Path.{_≡_, refl, sym, ap, _∙_, subst}
+use mathlib.Core.Path.{_≡_, refl, ap, _∙_}
 use mathlib.Core.List.{List}
 use mathlib.Core.Logic.{⊎-elim}
-use Prim.Native.Nat.{ℕ, suc, _+_, _-_, _<_, _≤_}
+use Prim.Native.Nat.{ℕ, _-_, _<_, _≤_}
 use native.Mathlib.Omega.{arith}
 use lib.ListN.{length}
 use borrow.Author.Needs.{needs}
-use Rattle.trace.specs.Links.{end, nexts}
+use Rattle.trace.specs.Links.{nexts}
 use Rattle.trace.proofs.Steps.{length-nexts}
-use Rattle.walk.specs.Walk.{blocks, chainOf, walk}
+use Rattle.walk.specs.Walk.{blocks}
 use Rattle.walk.specs.Private.{After, noVisits}
 use Rattle.walk.proofs.Visiting.{none-yet, visit-head, visit-other, head-yes, head-no, chain-fits}
 use Rattle.walk.proofs.Chain.{below}

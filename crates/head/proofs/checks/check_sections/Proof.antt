@@ -29,7 +29,7 @@ returns-3 c =
     let outside = told .before .before in
     let head = outside .before in
     shared-refused _ _ _ (omega arith) (head .head-of .ensures) _ (outside .outside-fault .ensures) (told .enum-told .given .1) _ _ _ _
-    (shared .shared-fault .ensures) (arm .i2 .given .1) (c .refuse2 .ensures)
+    (shared .overlap-fault .ensures) (arm .i2 .given .1) (c .refuse2 .ensures)
 
 returns-4 : tie.Need-returns-4
 returns-4 c =
@@ -38,7 +38,7 @@ returns-4 c =
     let outside = told .before .before in
     let head = outside .before in
     sections-pass _ _ _ (omega arith) (head .head-of .ensures) _ (outside .outside-fault .ensures) (told .enum-told .given .1) _
-    (shared .shared-fault .ensures) (c .enum-told2 .given .1)
+    (shared .overlap-fault .ensures) (c .enum-told2 .given .1)
 
 pub check-sections-spec : {M : Type 1} → statement M
 check-sections-spec =

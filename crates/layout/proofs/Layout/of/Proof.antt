@@ -3,8 +3,6 @@ use Rattle.layout.specs.Versions.{layoutOf}
 use borrow.Author.Needs.{needs}
 use Rattle.layout.proofs.Layout.of.Statement.{statement}
 use Rattle.layout.proofs.Layout.of.Tie as tie
-use Rattle.layout.proofs.Layout.of.Reads as reads
-use Rattle.layout.proofs.Layout.of.Lts as lts
 
 returns : tie.Need-returns
 returns c = sym (ap layoutOf (c .enum-told .given .1))

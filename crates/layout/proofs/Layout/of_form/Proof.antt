@@ -2,8 +2,6 @@ use borrow.Author.Needs.{needs}
 use borrow.Author.Tests.{eq-eqb, ne-eqb}
 use Rattle.layout.proofs.Layout.of_form.Statement.{statement}
 use Rattle.layout.proofs.Layout.of_form.Tie as tie
-use Rattle.layout.proofs.Layout.of_form.Reads as reads
-use Rattle.layout.proofs.Layout.of_form.Lts as lts
 
 returns : tie.Need-returns
 returns c = rw (eq-eqb _ _ (c .if1 .taken))

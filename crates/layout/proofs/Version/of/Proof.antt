@@ -3,9 +3,6 @@ use Rattle.lists.proofs.Answers.{answers}
 use Rattle.layout.specs.Versions.{versionOf, knownSaid}
 use Rattle.layout.proofs.Version.of.Statement.{statement}
 use Rattle.layout.proofs.Version.of.Tie as tie
-use borrow.Author.Needs.{needs}
-use Rattle.layout.proofs.Version.of.Reads as reads
-use Rattle.layout.proofs.Version.of.Lts as lts
 
 returns : tie.Need-returns
 unfolding versionOf

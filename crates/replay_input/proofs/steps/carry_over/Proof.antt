@@ -1,15 +1,14 @@
 -- The first k bytes have been carried.
-use mathlib.Core.Path.{_≡_, refl, ap, _∙_}
+use mathlib.Core.Path.{_≡_, refl}
 use Prim.Native.Nat.{_-_, _≤_}
 use native.Mathlib.Omega.{arith}
-use lib.ListN.{length}
-use Rattle.replay_input.proofs.Carrying.{carried, carried-size, carried-step}
+use Rattle.replay_input.proofs.Carrying.{movedUp, carried-size, carried-step}
 use borrow.Author.Needs.{needs}
 use Rattle.replay_input.proofs.steps.carry_over.Statement.{statement}
 use Rattle.replay_input.proofs.steps.carry_over.Tie as tie
 
 abbrev Inv-loop : tie.InvT-loop
-Inv-loop buffer₀ used end rest k₀ buffer k = (k ≤ end - used) × (buffer ≡ carried buffer₀ used k)
+Inv-loop buffer₀ used end rest k₀ buffer k = (k ≤ end - used) × (buffer ≡ movedUp buffer₀ used k)
 
 abbrev μ-loop : tie.MeasureT-loop
 μ-loop buffer₀ used end rest k₀ buffer k = end - used - k

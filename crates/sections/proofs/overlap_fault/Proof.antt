@@ -1,8 +1,8 @@
 -- The six pairs are tested in order of their later section, so the first pair that shares gives the fault.
 use Rattle.sections.proofs.Cases.{picks, by-pairs}
 use borrow.Author.Needs.{needs}
-use Rattle.sections.proofs.shared_fault.Statement.{statement}
-use Rattle.sections.proofs.shared_fault.Tie as tie
+use Rattle.sections.proofs.overlap_fault.Statement.{statement}
+use Rattle.sections.proofs.overlap_fault.Tie as tie
 
 returns : tie.Need-returns
 returns c = by-pairs _ _ (search picks depth 9)
@@ -25,8 +25,8 @@ returns-6 c = by-pairs _ _ (search picks depth 9)
 returns-7 : tie.Need-returns-7
 returns-7 c = by-pairs _ _ (search picks depth 9)
 
-pub shared-fault-spec : {M : Type 1} → statement M
-shared-fault-spec =
+pub overlap-fault-spec : {M : Type 1} → statement M
+overlap-fault-spec =
     tie.close
     (tie.spec
     (λ c κs. search needs)
