@@ -197,10 +197,11 @@ module _ (w : ℕ) (f : Fields) where
 pub digits-line : (w : ℕ) (s : List ℕ) → isLine (w + 18) s ≡ true → s ≡ lineOf w (fieldsIn w s)
 unfolding lineOf fieldsIn
 digits-line w s z =
+    let f = line-true (w + 18) s z in
     let field : (at k : ℕ) → at + k ≤ w + 18 → hexDigits k (hexAt k s at) ≡ take k (drop at s) =
-    λ at k l. digits-hex k s at (omega (arith, line-true (w + 18) s z .size)) (line-part (w + 18) s z at k l) in
+    λ at k l. digits-hex k s at (omega (arith, f .size)) (line-part (w + 18) s z at k l) in
     let e : drop (w + 18) s ≡ 10 ∷ [] =
-    drop-cons s (w + 18) 0 (omega (arith, line-true (w + 18) s z .size)) ∙ rw (line-true (w + 18) s z .feed, drop-of-length-le s {i = suc (w + 18)} (omega (arith, line-true (w + 18) s z .size))) in
+    drop-cons s (w + 18) 0 (omega (arith, f .size)) ∙ rw (f .feed, drop-of-length-le s {i = suc (w + 18)} (omega (arith, f .size))) in
     rw (field 0 w (omega arith), field w 8 (omega arith), field (w + 8) 8 (omega arith), field (w + 16) 2 (omega arith), ← e)
     (sym
     (ap (λ (x : List ℕ). take w s ++ (take 8 (drop w s) ++ (take 8 (drop (w + 8) s) ++ x))) (rest (w + 16) 2 (w + 18) (omega arith))

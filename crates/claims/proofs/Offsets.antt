@@ -172,7 +172,8 @@ module _ (p : List ℕ) (m : ℕ) where
   unfolding formPlan
   form-placed s f =
       wait _ _ λ told.
-      each-found Any (Placed p) 21 _ _ _ p (λ e. (refl, omega (arith, form-told (s .layout) p _ (rw (f .laid) (form-required (s .version))) told e))) λ l _. ends _
+      each-found Any (Placed p) 21 _ _ _ p (λ e. (refl, omega (arith, form-told (s .layout) p _ (rw (f .laid) (form-required (s .version))) told e)))
+      λ l _. ends _
 
   -- the layout of a head form that passed is sound
   form-sound : (s : Start) → StartFacts p s → AnswerHolds (λ t. SoundLayout (t .layout)) (run (formPlan s) p)

@@ -11,7 +11,7 @@ use Rattle.sections.specs.Fields.{part, entriesFault}
 use Rattle.sections.specs.declared.Section.{Section}
 use Rattle.head.specs.declared.checks.Opening.{Opening}
 use Rattle.volumes.specs.Volumes.{volumeChecks, referenceOf, entryAt}
-use Rattle.query.specs.Queries.{entryShown, namePlace, clear, accepts, volumeShown, volumeFacts, referenceShown}
+use Rattle.query.specs.Queries.{entryShown, namePlace, nameSound, nameIn, clear, accepts, volumeShown, volumeFacts, referenceShown}
 use Rattle.query.specs.declared.PlaceAnswer.{PlaceAnswer}
 use Rattle.query.specs.declared.PlaceAnswer.the-variants as placeAnswer
 use Rattle.query.specs.declared.VolumeAnswer.{VolumeAnswer}

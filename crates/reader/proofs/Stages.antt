@@ -11,7 +11,8 @@ use Rattle.layout.specs.Versions.{headEnd, volumeEntry, traceEntry}
 use Rattle.incremental.specs.Decision as decision
 use Rattle.incremental.specs.Decision.{Decision, accept, refuse, refusal, checkedOf}
 use Rattle.incremental.specs.Plan.{Plan, decide, Answer, decided, wants, run, andThen, reach, check, done, outcomeOf, _>>=_, _>>_}
-use Rattle.incremental.proofs.Plan.{onward, answer-then, reach-here, reach-short, reach-wants, reach-on, check-refused, check-on, decide-it, then-case, run-steps}
+use Rattle.incremental.proofs.Plan.{onward, answer-then, reach-here, reach-short, reach-wants}
+use Rattle.incremental.proofs.Plan.{reach-on, check-refused, check-on, decide-it, then-case, run-steps}
 use Rattle.incremental.proofs.Plan.{AnswerHolds, holds-reach, holds-check, holds-accept}
 use Rattle.incremental.specs.declared.Refusal.{Refusal}
 use Rattle.incremental.specs.declared.Fault.{Fault}

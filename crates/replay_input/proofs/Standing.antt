@@ -168,7 +168,8 @@ module _ (s : List ℕ) (stage : Stage) (times boards work answers : List ℕ) (
     goes-on m = go (ℕ-discrete (t .taken .bad) 0)
       where
         go : Dec (t .taken .bad ≡ 0)
-            → StageHolds (atHand (mostOf times boards) t s) after times boards work answers′ × (drop (r .used) s ≡ atHand (mostOf times boards) t s .taken .rest)
+            → StageHolds (atHand (mostOf times boards) t s) after times boards work answers′ ×
+            (drop (r .used) s ≡ atHand (mostOf times boards) t s .taken .rest)
         go (yes z) =
             let q = eq-eqb (t .taken .bad) 0 z in
             let p = eq-eqb (stage .progress .bad) 0 (h .bad ∙ z) in

@@ -4,7 +4,7 @@ use mathlib.Core.Bool.{Bool, true}
 use mathlib.Core.List.{List}
 use Prim.Native.Nat.{ℕ, _<_, _≤_, min}
 use lib.ListN.{length, getD, set}
-use Rattle.trace.specs.Links.{end, after, astray, namers, shared, cyclic, sharedFault, cyclicFault}
+use Rattle.trace.specs.Links.{end, after, InRange, astray, namers, shared, cyclic, sharedFault, cyclicFault}
 use Rattle.lists.specs.Filled.{filled}
 use Rattle.trace.specs.Links.{chains, predecessors, linkChecks, LinkDecision}
 use lib.Dec.{eqb}

@@ -10,7 +10,7 @@ use Rattle.layout.specs.declared.Layout.{Layout}
 use Rattle.writer.specs.declared.Plan.{Plan}
 use Rattle.writer.specs.declared.Given.{Given}
 use Rattle.writer.specs.LaidOut.{Field, number, bytesOf, unitBytes}
-use Rattle.writer.specs.Private.{Ordered, spread, Writable, fieldsBehind, headBy}
+use Rattle.writer.specs.Private.{Ordered, withGaps, Writable, fieldsBehind, headBy}
 use Rattle.writer.proofs.Bytes.{length-bytes, length-units}
 use Rattle.writer.proofs.Spread.{spread-joined, joined-append, joined-same, length-joined}
 
@@ -43,15 +43,15 @@ bytes-split t =
 
 -- a time in two halves
 pub time-joined : (at t : ℕ) (fs : List Field) (from : ℕ)
-    → spread from (number at 4 (t % 4294967296) ∷ number (at + 4) 4 (t / 4294967296) ∷ fs) ≡ spread from (number at 8 t ∷ fs)
-unfolding spread
+    → withGaps from (number at 4 (t % 4294967296) ∷ number (at + 4) 4 (t / 4294967296) ∷ fs) ≡ withGaps from (number at 8 t ∷ fs)
+unfolding withGaps
 time-joined at t fs from =
     let z : List ℕ = replicate (at - from) 0 in
     let lo = bytesOf 4 (t % 4294967296) in
     let hi = bytesOf 4 (t / 4294967296) in
     let n : at + 4 + 4 ≡ at + 8 = omega arith in
     rw (length-bytes 4 (t % 4294967296), length-bytes 4 (t / 4294967296), length-bytes 8 t, sub-self (at + 4), n, bytes-split t)
-    (sym (append-assoc (z ++ lo) hi (spread (at + 8) fs)) ∙ ap (λ (s : List ℕ). s ++ spread (at + 8) fs) (append-assoc z lo hi))
+    (sym (append-assoc (z ++ lo) hi (withGaps (at + 8) fs)) ∙ ap (λ (s : List ℕ). s ++ withGaps (at + 8) fs) (append-assoc z lo hi))
 
 module _ (l : Layout) (w : Writable l) (p : Plan) (g : Given) where
   -- those before the time
@@ -78,7 +78,7 @@ module _ (l : Layout) (w : Writable l) (p : Plan) (g : Given) where
       ∷ number (runCountAt l) 4 (g .«run_count»)
       ∷ []
 
-  pub behind-joined : (from : ℕ) → spread from put ≡ spread from (fieldsBehind l p g)
+  pub behind-joined : (from : ℕ) → withGaps from put ≡ withGaps from (fieldsBehind l p g)
   behind-joined from =
       joined-same from before _ (number (runTimeAt l) 8 (g .«run_time») ∷ number (runCountAt l) 4 (g .«run_count») ∷ [])
       (time-joined (runTimeAt l) (g .«run_time») (number (runCountAt l) 4 (g .«run_count») ∷ []))
@@ -163,25 +163,25 @@ module _ (l : Layout) (w : Writable l) (p : Plan) (g : Given) where
     unfolding bytesOf
     first-ordered end e = (omega arith, (omega arith, (omega arith, omega (arith, e, w .run-time, w .run-count, w .head, w .section))))
 
-    pub first-long : length (spread 0 first-fields) ≡ 16
+    pub first-long : length (withGaps 0 first-fields) ≡ 16
     unfolding bytesOf
     first-long = length-joined 0 first-fields (firstSection l) (first-ordered (firstSection l) (omega arith))
 
-    pub behind-long : length (spread from (fieldsBehind l p g)) ≡ runCountAt l + 4 - from
+    pub behind-long : length (withGaps from (fieldsBehind l p g)) ≡ runCountAt l + 4 - from
     behind-long = length-joined from (fieldsBehind l p g) (firstSection l) (fields-ordered from (omega arith)) ∙ ap (λ (k : ℕ). runCountAt l + k - from)
         (length-bytes 4 (g .«run_count»))
 
-    pub head-pieces : ((spread 0 first-fields ++ unitBytes us) ++ spread from (fieldsBehind l p g)) ++ replicate
+    pub head-pieces : ((withGaps 0 first-fields ++ unitBytes us) ++ withGaps from (fieldsBehind l p g)) ++ replicate
         (firstSection l - (runCountAt l + 4)) 0 ≡ headBy version l p g us
-    unfolding bytesOf spread
+    unfolding bytesOf withGaps
     head-pieces =
         let n = length-units us in
         let fs = fieldsBehind l p g in
         let name : Field = record { at = 16; bytes = unitBytes us } in
         let e : 16 + length (unitBytes us) ≡ from = omega arith in
-        let j : spread 0 (first-fields ++ name ∷ fs) ≡ (spread 0 first-fields ++ unitBytes us) ++ spread from fs =
+        let j : withGaps 0 (first-fields ++ name ∷ fs) ≡ (withGaps 0 first-fields ++ unitBytes us) ++ withGaps from fs =
         joined-append 0 first-fields (name ∷ fs)
-        ∙ ap (λ (k : ℕ). spread 0 first-fields ++ (unitBytes us ++ spread k fs)) e
-        ∙ sym (append-assoc (spread 0 first-fields) (unitBytes us) (spread from fs)) in
+        ∙ ap (λ (k : ℕ). withGaps 0 first-fields ++ (unitBytes us ++ withGaps k fs)) e
+        ∙ sym (append-assoc (withGaps 0 first-fields) (unitBytes us) (withGaps from fs)) in
         ap (λ (s : List ℕ). s ++ replicate (firstSection l - (runCountAt l + 4)) 0) (sym j)
         ∙ sym (spread-joined 0 (first-fields ++ name ∷ fs) (firstSection l))

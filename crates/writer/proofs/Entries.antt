@@ -12,7 +12,7 @@ use Rattle.lists.specs.Pairs.{firstOf, secondOf}
 use Rattle.layout.specs.Versions.{metricsEntry, nameOffsetAt, nameLengthAt, traceEntry}
 use Rattle.layout.specs.declared.Layout.{Layout}
 use Rattle.writer.specs.LaidOut.{number, bytesOf, spread, entries, metricsBytes, traceBytes}
-use Rattle.writer.specs.Private.{patch, Ordered, spread, numbersAt, Writable}
+use Rattle.writer.specs.Private.{patch, Ordered, withGaps, numbersAt, Writable}
 use Rattle.writer.proofs.Bytes.{length-bytes, length-entries}
 use Rattle.writer.proofs.Spread.{ordered-end, length-spread}
 use Rattle.writer.proofs.Stores.{patch-none, patch-join, laid-long, then-laid}
@@ -43,7 +43,7 @@ metric-laid offset units size a b a′ b′ i j k e f g p q =
 -- ---- numbers at their places: what is put and what is left make up the whole
 pub record Putting (o places values : List ℕ) (start : ℕ) (output : List ℕ) (from i : ℕ) : Type 0 where
   pub ordered : Ordered from (numbersAt (drop i places) (drop i values)) (length o)
-  pub whole : patch output from (spread from (numbersAt (drop i places) (drop i values))) ≡ patch o start (spread start (numbersAt places values))
+  pub whole : patch output from (withGaps from (numbersAt (drop i places) (drop i values))) ≡ patch o start (withGaps start (numbersAt places values))
   pub long : length output ≡ length o
   pub low : i ≤ length places
 
@@ -65,7 +65,7 @@ module _ (o places values : List ℕ) (start : ℕ) (output : List ℕ) (from i 
   pub putting-step : (next : List ℕ) → i < length places
       → next ≡ patch output from (replicate (getD places i 0 - from) 0 ++ bytesOf 4 (getD values i 0))
       → Putting o places values start next (getD places i 0 + 4) (i + 1)
-  unfolding spread
+  unfolding withGaps
   putting-step next l e =
       let at = getD places i 0 in
       let z : List ℕ = replicate (at - from) 0 in
@@ -81,13 +81,13 @@ module _ (o places values : List ℕ) (start : ℕ) (output : List ℕ) (from i 
       record {
         ordered = rw (k, ← s) (h .1);
         whole = rw (k, e, ← s)
-            (patch-join output from (z ++ b) (spread (at + length b) rest) (at + length b) (omega (arith, n, r .0)) ∙ w);
+            (patch-join output from (z ++ b) (withGaps (at + length b) rest) (at + length b) (omega (arith, n, r .0)) ∙ w);
         long = laid-long _ _ _ _ e ∙ g .long;
         low = omega arith;
       }
 
-  pub putting-end : length places ≤ i → output ≡ patch o start (spread start (numbersAt places values))
-  unfolding spread
+  pub putting-end : length places ≤ i → output ≡ patch o start (withGaps start (numbersAt places values))
+  unfolding withGaps
   putting-end l =
       let e : drop i places ≡ [] = drop-of-length-le places l in
       patch-none output from ∙ rw e at (g .whole)

@@ -9,7 +9,7 @@ use lib.Seq.{drop-append-add, drop-at}
 use Rattle.little_endian.specs.Number.{le}
 use Rattle.little_endian.proofs.Number.{le-drop}
 use Rattle.writer.specs.LaidOut.{Field, number, spread}
-use Rattle.writer.specs.Private.{Ordered, spread}
+use Rattle.writer.specs.Private.{Ordered, withGaps}
 use Rattle.writer.proofs.Bytes.{le-number}
 
 -- the end of a field
@@ -87,35 +87,35 @@ abbrev pub lastEnd : ℕ → List Field → ℕ
 lastEnd from [] = from
 lastEnd from (f ∷ fs) = lastEnd (endOf f) fs
 
-pub spread-joined : (from : ℕ) (fs : List Field) (end : ℕ) → spread from fs end ≡ spread from fs ++ replicate (end - lastEnd from fs) 0
-unfolding spread spread
+pub spread-joined : (from : ℕ) (fs : List Field) (end : ℕ) → spread from fs end ≡ withGaps from fs ++ replicate (end - lastEnd from fs) 0
+unfolding spread withGaps
 spread-joined from [] end = refl
 spread-joined from (f ∷ fs) end =
     let z : List ℕ = replicate (f .at - from) 0 in
     let r : List ℕ = replicate (end - lastEnd (endOf f) fs) 0 in
     rw (spread-joined (endOf f) fs end)
-    (sym (append-assoc z (f .bytes) (spread (endOf f) fs ++ r)) ∙ sym (append-assoc (z ++ f .bytes) (spread (endOf f) fs) r))
+    (sym (append-assoc z (f .bytes) (withGaps (endOf f) fs ++ r)) ∙ sym (append-assoc (z ++ f .bytes) (withGaps (endOf f) fs) r))
 
-pub joined-append : (from : ℕ) (fs gs : List Field) → spread from (fs ++ gs) ≡ spread from fs ++ spread (lastEnd from fs) gs
-unfolding spread
+pub joined-append : (from : ℕ) (fs gs : List Field) → withGaps from (fs ++ gs) ≡ withGaps from fs ++ withGaps (lastEnd from fs) gs
+unfolding withGaps
 joined-append from [] gs = refl
 joined-append from (f ∷ fs) gs =
-    rw (joined-append (endOf f) fs gs) (sym (append-assoc (replicate (f .at - from) 0 ++ f .bytes) (spread (endOf f) fs) (spread (lastEnd (endOf f) fs) gs)))
+    rw (joined-append (endOf f) fs gs) (sym (append-assoc (replicate (f .at - from) 0 ++ f .bytes) (withGaps (endOf f) fs) (withGaps (lastEnd (endOf f) fs) gs)))
 
 -- fields behind others matter only by their bytes
-pub joined-same : (from : ℕ) (fs gs hs : List Field) → ((k : ℕ) → spread k gs ≡ spread k hs) → spread from (fs ++ gs) ≡ spread from (fs ++ hs)
-joined-same from fs gs hs e = joined-append from fs gs ∙ ap (λ (s : List ℕ). spread from fs ++ s) (e (lastEnd from fs)) ∙ sym (joined-append from fs hs)
+pub joined-same : (from : ℕ) (fs gs hs : List Field) → ((k : ℕ) → withGaps k gs ≡ withGaps k hs) → withGaps from (fs ++ gs) ≡ withGaps from (fs ++ hs)
+joined-same from fs gs hs e = joined-append from fs gs ∙ ap (λ (s : List ℕ). withGaps from fs ++ s) (e (lastEnd from fs)) ∙ sym (joined-append from fs hs)
 
 ordered-last : (from : ℕ) (fs : List Field) (end : ℕ) → Ordered from fs end → from ≤ lastEnd from fs
 ordered-last from [] end o = omega arith
 ordered-last from (f ∷ fs) end o = let l = ordered-last (endOf f) fs end (o .1) in omega (arith, o .0)
 
-pub length-joined : (from : ℕ) (fs : List Field) (end : ℕ) → Ordered from fs end → length (spread from fs) ≡ lastEnd from fs - from
-unfolding spread
+pub length-joined : (from : ℕ) (fs : List Field) (end : ℕ) → Ordered from fs end → length (withGaps from fs) ≡ lastEnd from fs - from
+unfolding withGaps
 length-joined from [] end o = omega arith
 length-joined from (f ∷ fs) end o =
     let z : List ℕ = replicate (f .at - from) 0 in
-    length-append (z ++ f .bytes) (spread (endOf f) fs)
+    length-append (z ++ f .bytes) (withGaps (endOf f) fs)
     ∙ omega (
       arith,
       length-append z (f .bytes),

@@ -51,9 +51,9 @@ Ordered from [] end = from ≤ end
 Ordered from (f ∷ fs) end = (from ≤ f .at) × Ordered (f .at + length (f .bytes)) fs end
 
 -- the fields with zeros between them, up to the end of the last
-unfoldable pub spread : ℕ → List Field → List ℕ
-spread from [] = []
-spread from (f ∷ fs) = (replicate (f .at - from) 0 ++ f .bytes) ++ spread (f .at + length (f .bytes)) fs
+unfoldable pub withGaps : ℕ → List Field → List ℕ
+withGaps from [] = []
+withGaps from (f ∷ fs) = (replicate (f .at - from) 0 ++ f .bytes) ++ withGaps (f .at + length (f .bytes)) fs
 
 -- 32-bit numbers at their places
 abbrev pub numbersAt : List ℕ → List ℕ → List Field

@@ -6,7 +6,7 @@ ghost use Prim.Native.Nat.{_+_, _-_, _*_, _≤_};
 ghost use lib.ListN.{length, take, replicate};
 ghost use Rattle.layout.specs.Versions.{firstSection, metricsEntry, traceEntry};
 ghost use Rattle.writer.specs.LaidOut.{bytesOf, unitBytes, entries, descriptionOf, metricsBytes, traceBytes, laidBy};
-ghost use Rattle.writer.specs.Private.{patch, Ordered, spread, numbersAt, Writable, fieldsBehind, headBy, Ready};
+ghost use Rattle.writer.specs.Private.{patch, Ordered, withGaps, numbersAt, Writable, fieldsBehind, headBy, Ready};
 use layout::Layout;
 use layout::Version;
 
@@ -100,7 +100,7 @@ fn put_field(output: &mut [u8], from: usize, at: usize, n: u32)
 // Numbers at their places in rising order, and zeros between them.
 fn put_numbers(output: &mut [u8], start: usize, places: &[usize], values: &[u32])
     requires { ⌜ (length (now places) ≡ length (now values)) × Ordered start (numbersAt (now places) (now values)) (length (now output)) ⌝ }
-    ensures { λ _. ⌜ now (output .exit) ≡ patch (now (output .entry)) start (spread start (numbersAt (now (places .entry)) (now (values .entry)))) ⌝ }
+    ensures { λ _. ⌜ now (output .exit) ≡ patch (now (output .entry)) start (withGaps start (numbersAt (now (places .entry)) (now (values .entry)))) ⌝ }
 {
     let mut from = start;
     let mut i = 0;
@@ -199,7 +199,7 @@ fn put_trace(output: &mut [u8], at: usize, l: Layout, table: &[u32], count: u32)
 // The fields of the head behind the program name, and zeros between them, from the name's end on.
 fn put_fields(output: &mut [u8], from: usize, l: Layout, p: Plan, g: Given)
     requires { ⌜ Writable l × (from ≤ 76) × (firstSection l ≤ length (now output)) ⌝ }
-    ensures { λ _. ⌜ now (output .exit) ≡ patch (now (output .entry)) from (spread from (fieldsBehind l p g)) ⌝ }
+    ensures { λ _. ⌜ now (output .exit) ≡ patch (now (output .entry)) from (withGaps from (fieldsBehind l p g)) ⌝ }
 {
     let time_at = l.run_time_at as usize;
     let places = [

@@ -11,22 +11,26 @@ use Rattle.catalogue.proofs.fields_of.Tie as tie
 cast-t4 : tie.Need-cast-t4
 cast-t4 c =
     let s = c .before .before in
-    omega (arith, c .number-in .ensures, number-small (s .args .width + 18) (s .args .line .now) (s .pre .1) (0) (s .args .width) (omega arith) (omega (arith, s .pre .0)))
+    let small = number-small (s .args .width + 18) (s .args .line .now) (s .pre .1) in
+    omega (arith, c .number-in .ensures, small 0 (s .args .width) (omega arith) (omega (arith, s .pre .0)))
 
 cast-t6 : tie.Need-cast-t6
 cast-t6 c =
     let s = c .before .before .before in
-    omega (arith, c .number-in2 .ensures, number-small (s .args .width + 18) (s .args .line .now) (s .pre .1) (s .args .width) 8 (omega arith) (omega (arith, s .pre .0)))
+    let small = number-small (s .args .width + 18) (s .args .line .now) (s .pre .1) in
+    omega (arith, c .number-in2 .ensures, small (s .args .width) 8 (omega arith) (omega (arith, s .pre .0)))
 
 cast-t9 : tie.Need-cast-t9
 cast-t9 c =
     let s = c .before .before .before .before in
-    omega (arith, c .number-in3 .ensures, number-small (s .args .width + 18) (s .args .line .now) (s .pre .1) (s .args .width + 8) 8 (omega arith) (omega (arith, s .pre .0)))
+    let small = number-small (s .args .width + 18) (s .args .line .now) (s .pre .1) in
+    omega (arith, c .number-in3 .ensures, small (s .args .width + 8) 8 (omega arith) (omega (arith, s .pre .0)))
 
 cast-t12 : tie.Need-cast-t12
 cast-t12 c =
     let s = c .before .before .before .before .before in
-    omega (arith, c .number-in4 .ensures, number-small (s .args .width + 18) (s .args .line .now) (s .pre .1) (s .args .width + 16) 2 (omega arith) (omega (arith, s .pre .0)))
+    let small = number-small (s .args .width + 18) (s .args .line .now) (s .pre .1) in
+    omega (arith, c .number-in4 .ensures, small (s .args .width + 16) 2 (omega arith) (omega (arith, s .pre .0)))
 
 returns : tie.Need-returns
 unfolding fieldsIn

@@ -62,7 +62,8 @@ add-x c =
     let b = c .before .before .before .before in
     let s = b .before .before .before .before .before .before .args in
     let v = b .loop .inv in
-    omega (arith, v .4, hex-room (b .loop .k) (s .line .now) (s .at) (omega (arith, v .0)) (v .3), c .before .value-of .ensures, d .value, digit-law _ (d .digit) .small)
+    let room = hex-room (b .loop .k) (s .line .now) (s .at) (omega (arith, v .0)) (v .3) in
+    omega (arith, v .4, room, c .before .value-of .ensures, d .value, digit-law _ (d .digit) .small)
 
 loop-again : tie.Need-loop-again Inv-loop μ-loop
 unfolding hexAt
