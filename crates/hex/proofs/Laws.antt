@@ -1,8 +1,8 @@
 -- What the tests of the definitions come to, and the round trip: what was written reads as the number, what was read writes the same.
 use mathlib.Core.Path.{_≡_, refl, sym, ap, _∙_}
-use mathlib.Core.Bool.{Bool, true, false, not, _&&_}
+use mathlib.Core.Bool.{Bool, true, false, not, _&&_, _||_}
 use mathlib.Core.List.{List, _++_}
-use Prim.Native.Nat.{ℕ, _+_, _-_, _≤_, _<_, _^_}
+use Prim.Native.Nat.{ℕ, suc, _+_, _-_, _≤_, _<_, _^_}
 use native.Mathlib.Nat.{mod-eq-of-lt}
 use native.Mathlib.Omega.{arith}
 use lib.Dec.{leb}
@@ -10,7 +10,7 @@ use lib.ListN.{length, getD, take, drop, take-append-drop}
 use lib.Seq.{paste, length-paste, take-paste, take-all, take-add, getD-take, getD-append-add, length-take-le}
 use borrow.Author.Tests.{leb-true, le-leb, lt-leb, not-false}
 use Rattle.lists.specs.Count.{pick, anyBelow}
-use Rattle.lists.proofs.Count.{any-yes, any-no, any-false, true-false}
+use Rattle.lists.proofs.Count.{any-yes, any-no, any-more, any-false, true-false}
 use Rattle.hex.specs.Hex.{isDigit, hexAt, hexDigits, areDigits, numberIn, written}
 use Rattle.hex.specs.Private.{Digits}
 use Rattle.hex.proofs.Hex.{hex-digits, digits-hex, digits-are, length-digits}
@@ -28,6 +28,22 @@ module _ (s : List ℕ) (at w : ℕ) where
   pub digits-all : at + w ≤ length s → Digits s at w → areDigits s at w ≡ true
   unfolding areDigits
   digits-all l h = rw (le-leb (at + w) (length s) l, any-no (λ j. not (isDigit (getD s (at + j) 0))) w (λ k m. ap not (h k m)))
+
+  -- none of no bytes is no digit, and one byte more
+  pub digits-none : at ≤ length s → areDigits s at 0 ≡ true
+  unfolding areDigits anyBelow
+  digits-none l = rw (le-leb (at + 0) (length s) (omega arith))
+
+  pub digits-more : at + suc w ≤ length s → areDigits s at (suc w) ≡ areDigits s at w && isDigit (getD s (at + w) 0)
+  unfolding areDigits
+  digits-more l =
+      rw (le-leb (at + suc w) (length s) l, le-leb (at + w) (length s) (omega arith), any-more (λ j. not (isDigit (getD s (at + j) 0))) w)
+      (go (anyBelow (λ j. not (isDigit (getD s (at + j) 0))) w) (isDigit (getD s (at + w) 0)))
+    where
+      go : (a b : Bool) → not (a || not b) ≡ not a && b
+      go true b = refl
+      go false true = refl
+      go false false = refl
 
   -- and back
   pub digits-true : areDigits s at w ≡ true → (at + w ≤ length s) × Digits s at w

@@ -35,19 +35,10 @@ const VALUES: [u8; 23] = [
 fn is_digit(b: u8) -> bool
     ensures { λ r. ⌜ r ≡ isDigit b ⌝ }
 {
-    if b < 48 {
-        return false;
-    }
-    if b <= 57 {
-        return true;
-    }
-    if b < 65 {
-        return false;
-    }
-    b <= 70
+    ((48 <= b) & (b <= 57)) | ((65 <= b) & (b <= 70))
 }
 
-// Whether so many bytes from `at` are there, and are digits.
+// Whether so many bytes from `at` are there, and are digits. No branch between them, so that many are looked at together.
 pub fn are_digits(line: &[u8], at: usize, width: usize) -> bool
     ensures { λ r. ⌜ r ≡ areDigits (now (line .entry)) at width ⌝ }
 {
@@ -57,14 +48,13 @@ pub fn are_digits(line: &[u8], at: usize, width: usize) -> bool
     if line.len() - at < width {
         return false;
     }
+    let mut all = true;
     let mut k = 0;
     while k < width {
-        if !is_digit(line[at + k]) {
-            return false;
-        }
+        all = all & is_digit(line[at + k]);
         k += 1;
     }
-    true
+    all
 }
 
 // The value of a digit; 16 where the byte is none. Looked up, as a branch on which are letters would be foretold wrong.
