@@ -30,15 +30,46 @@ fn whole_u64(s: &[u8], at: usize) -> u64
     whole_u32(s, at) as u64 + 4294967296 * (whole_u32(s, at + 4) as u64)
 }
 
-// The 16-bit number at an offset; so for the widths below.
-pub fn u16_at(s: &[u8], at: usize) -> u16
+// A read that goes past the end: of two bytes one may be there.
+fn cut_u16(s: &[u8], at: usize) -> u16
+    requires { ⌜ length (now s) ≤ at + 1 ⌝ }
     ensures { λ r. ⌜ r ≡ le 2 (now (s .entry)) at ⌝ }
 {
     if s.len() <= at {
         return 0;
     }
-    if s.len() - at < 2 {
-        return s[at] as u16;
+    s[at] as u16
+}
+
+// Of four bytes: in two halves, each of which may be cut.
+fn cut_u32(s: &[u8], at: usize) -> u32
+    ensures { λ r. ⌜ r ≡ le 4 (now (s .entry)) at ⌝ }
+{
+    if s.len() <= at {
+        return 0;
+    }
+    u16_at(s, at) as u32 + 65536 * (u16_at(s, at + 2) as u32)
+}
+
+// Of eight.
+fn cut_u64(s: &[u8], at: usize) -> u64
+    ensures { λ r. ⌜ r ≡ le 8 (now (s .entry)) at ⌝ }
+{
+    if s.len() <= at {
+        return 0;
+    }
+    u32_at(s, at) as u64 + 4294967296 * (u32_at(s, at + 4) as u64)
+}
+
+// The 16-bit number at an offset; so for the widths below. In a loop the first test is the same each time, and one is left.
+pub fn u16_at(s: &[u8], at: usize) -> u16
+    ensures { λ r. ⌜ r ≡ le 2 (now (s .entry)) at ⌝ }
+{
+    if s.len() < 2 {
+        return cut_u16(s, at);
+    }
+    if s.len() - 2 < at {
+        return cut_u16(s, at);
     }
     whole_u16(s, at)
 }
@@ -46,11 +77,11 @@ pub fn u16_at(s: &[u8], at: usize) -> u16
 pub fn u32_at(s: &[u8], at: usize) -> u32
     ensures { λ r. ⌜ r ≡ le 4 (now (s .entry)) at ⌝ }
 {
-    if s.len() <= at {
-        return 0;
+    if s.len() < 4 {
+        return cut_u32(s, at);
     }
-    if s.len() - at < 4 {
-        return u16_at(s, at) as u32 + 65536 * (u16_at(s, at + 2) as u32);
+    if s.len() - 4 < at {
+        return cut_u32(s, at);
     }
     whole_u32(s, at)
 }
@@ -68,11 +99,11 @@ pub fn u48_at(s: &[u8], at: usize) -> u64
 pub fn u64_at(s: &[u8], at: usize) -> u64
     ensures { λ r. ⌜ r ≡ le 8 (now (s .entry)) at ⌝ }
 {
-    if s.len() <= at {
-        return 0;
+    if s.len() < 8 {
+        return cut_u64(s, at);
     }
-    if s.len() - at < 8 {
-        return u32_at(s, at) as u64 + 4294967296 * (u32_at(s, at + 4) as u64);
+    if s.len() - 8 < at {
+        return cut_u64(s, at);
     }
     whole_u64(s, at)
 }
