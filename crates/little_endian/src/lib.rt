@@ -35,10 +35,7 @@ fn cut_u16(s: &[u8], at: usize) -> u16
     requires { ⌜ length (now s) ≤ at + 1 ⌝ }
     ensures { λ r. ⌜ r ≡ le 2 (now (s .entry)) at ⌝ }
 {
-    if s.len() <= at {
-        return 0;
-    }
-    s[at] as u16
+    if at < s.len() { s[at] as u16 } else { 0 }
 }
 
 // Of four bytes: in two halves, each of which may be cut.

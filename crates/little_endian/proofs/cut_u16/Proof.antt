@@ -1,4 +1,4 @@
--- Bytes past the end count as zero: no byte there gives 0, and one gives itself.
+-- Bytes past the end count as zero: one that is there gives itself.
 use Prim.Native.Nat.{_+_}
 use mathlib.Core.Path.{sym}
 use native.Mathlib.Omega.{arith}
@@ -8,15 +8,15 @@ use borrow.Author.Needs.{needs}
 use Rattle.little_endian.proofs.cut_u16.Statement.{statement}
 use Rattle.little_endian.proofs.cut_u16.Tie as tie
 
-returns : tie.Need-returns
-returns c = let a = c .before .args in sym (le-past 2 (a .s .now) (a .at) (c .if1 .taken))
-
 cast-result : tie.Need-cast-result
 cast-result c = omega (arith, c .shared-slice-known .given (c .before .before .args .at))
 
-returns-2 : tie.Need-returns-2
+returns : tie.Need-returns
 unfolding le
-returns-2 c = let a = c .before .before .args in omega (arith, le-past 1 (a .s .now) (a .at + 1) (c .before .before .pre))
+returns c = let a = c .before .before .args in omega (arith, le-past 1 (a .s .now) (a .at + 1) (c .before .before .pre))
+
+returns-2 : tie.Need-returns-2
+returns-2 c = let a = c .before .args in sym (le-past 2 (a .s .now) (a .at) (c .if1 .left))
 
 pub cut-u16-spec : {M : Type 1} → statement M
-cut-u16-spec = tie.close (tie.spec returns (λ c. search needs) cast-result returns-2)
+cut-u16-spec = tie.close (tie.spec (λ c. search needs) cast-result returns returns-2)
