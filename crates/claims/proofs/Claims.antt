@@ -32,6 +32,7 @@ use Rattle.claims.proofs.Places.{places-say}
 use Rattle.claims.proofs.EmptyPrograms.{empty-programs}
 use Rattle.claims.proofs.Examples.{examples}
 use Rattle.claims.proofs.Points.{points}
+use Rattle.claims.proofs.Settled.{settled}
 use Rattle.year.proofs.Facts.{year-facts}
 use Rattle.claims.specs.Claims.{Claims}
 
@@ -77,6 +78,7 @@ claims =
       path-placed = λ o p i e. path-placed o p i (open-facts p .holds o e);
       writes = writers-say;
       empty-programs = empty-programs;
+      settled = settled;
       examples = examples;
       points = points;
     }

@@ -15,3 +15,4 @@ pub mod Places
 pub mod Points
 pub mod Powers
 pub mod Search
+pub mod Settled

@@ -49,6 +49,7 @@ use Rattle.claims.specs.Writer.{WritersSay}
 use Rattle.claims.specs.EmptyPrograms.{EmptyPrograms}
 use Rattle.claims.specs.Examples.{Examples}
 use Rattle.claims.specs.Points.{Points}
+use Rattle.claims.specs.Settled.{Settled}
 
 -- a refusal or a request
 abbrev pub NotAccepted : Verdict → Type 0
@@ -170,6 +171,8 @@ pub record Claims : Type 1 where
   -- ---- that the promises say something, and can be kept
   -- "What the contracts have to settle": no empty program meets the readers' promises.
   pub empty-programs : EmptyPrograms
+  -- Every public promise determines its answer and every lent place afterwards.
+  pub settled : Settled
   -- The promises can be met: files that the layout allows, each accepted with the record that stands beside it.
   pub examples : Examples
   -- "Points on either edge": all that are marked P.

@@ -13,3 +13,4 @@ pub mod Examples
 pub mod Places
 pub mod Points
 pub mod Powers
+pub mod Settled
