@@ -19,8 +19,7 @@ use Rattle.incremental.specs.Decision.{Decision, accept, refuse, refusal, check
 use Rattle.incremental.specs.Plan.{Answer, decided, wants, run}
 use Rattle.incremental.specs.declared.Checked.{Checked}
 use Rattle.incremental.specs.declared.Checked.the-variants as checked
-use Rattle.catalogue.specs.Line.{LineAnswer, readAnswer, writtenNumber, Writing}
-use Rattle.catalogue.specs.declared.Fields.{Fields}
+use Rattle.catalogue.specs.Line.{LineAnswer, readAnswer, writtenNumber}
 use Rattle.catalogue.specs.declared.ReadLine.{ReadLine}
 use Rattle.catalogue.specs.declared.ReadLine.the-variants as readLine
 use Rattle.catalogue.specs.declared.WrittenLine.{WrittenLine}
@@ -32,11 +31,10 @@ use Rattle.head.specs.declared.checks.StartAnswer.the-variants as startAnswer
 use Rattle.head.specs.declared.checks.OpenAnswer.{OpenAnswer}
 use Rattle.head.specs.declared.checks.OpenAnswer.the-variants as openAnswer
 use Rattle.head.specs.declared.checks.Opening.{Opening}
-use Rattle.trace.specs.Links.{LinkDecision, linksOf}
+use Rattle.trace.specs.Links.{linksOf}
 use Rattle.trace.specs.declared.Links.{Links}
 use Rattle.trace.specs.declared.Links.the-variants as links
 use Rattle.reader.specs.declared.verdict.Acceptance.{Acceptance}
-use Rattle.reader.specs.declared.verdict.Verdict.the-variants.{Accepted, Refused}
 use Rattle.reader.specs.declared.verdict.FileVerdict.{FileVerdict}
 use Rattle.reader.specs.declared.verdict.FileVerdict.the-variants as file
 use Rattle.reader.specs.Verdict.{Acceptable, Reads, verdictIn}
@@ -46,15 +44,11 @@ use Rattle.path_search.specs.Search.{ListsPaths}
 use Rattle.walk.specs.Walk.{Values, valuesOf}
 use Rattle.walk.specs.declared.WalkAnswer.{WalkAnswer}
 use Rattle.walk.specs.declared.WalkAnswer.the-variants as walkAnswer
-use Rattle.writer.specs.LaidOut.{Description}
-use Rattle.writer.specs.Writes.{Writes}
-use Rattle.readings.specs.Replay.{saidOf, Replays}
+use Rattle.readings.specs.Replay.{saidOf}
 use Rattle.readings.specs.declared.ReplayAnswer.{ReplayAnswer}
 use Rattle.readings.specs.declared.ReplayAnswer.the-variants as replayAnswer
-use Rattle.year.specs.Year.{Gives, RowsPut}
-use Rattle.listing_text.specs.Listing.{Listed}
-use Rattle.hivesaddle.specs.Output.{Answered, LineWriting, ReadOut, WalkOut, WriteOut, ReplayOut, YearOut}
-use Rattle.claims.specs.Settled.{SamePart, Settles, Settles₁, Settles₂, Settles₃, SettlesPart, Settled}
+use Rattle.hivesaddle.specs.Output.{Answered, ReadOut}
+use Rattle.claims.specs.Settled.{Settles₁, Settles₂, SettlesPart, Settled}
 
 -- ---- maps from cases to what they say, each one-to-one: the case can be told from it
 
