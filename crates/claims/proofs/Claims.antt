@@ -28,6 +28,7 @@ use Rattle.readings.proofs.Feeding.{pieces-agree}
 use Rattle.replay_input.proofs.Cutting.{steps-agree}
 use Rattle.claims.proofs.Walks.{walks-say}
 use Rattle.claims.proofs.Writer.{writers-say}
+use Rattle.claims.proofs.YearReadings.{year-readings}
 use Rattle.claims.proofs.Places.{places-say}
 use Rattle.claims.proofs.EmptyPrograms.{empty-programs}
 use Rattle.claims.proofs.Examples.{examples}
@@ -69,6 +70,7 @@ claims =
       numbers = numbers;
       powers = powers;
       year-table = year-facts;
+      year-readings = year-readings;
       path-found = λ o p i n a. (path-found-law o p i n a, found-path-law o p i n a);
       path-not-found = path-not-found-law;
       path-not-open = path-not-open;

@@ -16,3 +16,4 @@ pub mod Points
 pub mod Powers
 pub mod Search
 pub mod Settled
+pub mod YearReadings

@@ -14,3 +14,4 @@ pub mod Places
 pub mod Points
 pub mod Powers
 pub mod Settled
+pub mod YearReadings
