@@ -28,10 +28,12 @@ use Rattle.readings.proofs.Feeding.{pieces-agree}
 use Rattle.replay_input.proofs.Cutting.{steps-agree}
 use Rattle.claims.proofs.Walks.{walks-say}
 use Rattle.claims.proofs.Writer.{writers-say}
+use Rattle.claims.proofs.YearReadings.{year-readings}
 use Rattle.claims.proofs.Places.{places-say}
 use Rattle.claims.proofs.EmptyPrograms.{empty-programs}
 use Rattle.claims.proofs.Examples.{examples}
 use Rattle.claims.proofs.Points.{points}
+use Rattle.claims.proofs.Settled.{settled}
 use Rattle.year.proofs.Facts.{year-facts}
 use Rattle.claims.specs.Claims.{Claims}
 
@@ -68,6 +70,7 @@ claims =
       numbers = numbers;
       powers = powers;
       year-table = year-facts;
+      year-readings = year-readings;
       path-found = λ o p i n a. (path-found-law o p i n a, found-path-law o p i n a);
       path-not-found = path-not-found-law;
       path-not-open = path-not-open;
@@ -77,6 +80,7 @@ claims =
       path-placed = λ o p i e. path-placed o p i (open-facts p .holds o e);
       writes = writers-say;
       empty-programs = empty-programs;
+      settled = settled;
       examples = examples;
       points = points;
     }

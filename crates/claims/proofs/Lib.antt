@@ -15,3 +15,5 @@ pub mod Places
 pub mod Points
 pub mod Powers
 pub mod Search
+pub mod Settled
+pub mod YearReadings

@@ -2,11 +2,12 @@
 use mathlib.Core.Path.{_≡_, refl, sym, ap, _∙_}
 use mathlib.Core.Bool.{Bool, true, false}
 use mathlib.Core.List.{List, [], _++_}
-use Prim.Native.Nat.{ℕ}
+use Prim.Native.Nat.{ℕ, _≤_}
 use native.Mathlib.Omega.{arith}
 use borrow.Author.Tests.{le-ltb}
 use lib.Dec.{ltb}
-use lib.ListN.{length, drop}
+use lib.ListN.{length, take, drop}
+use lib.Seq.{take-at}
 use Rattle.lists.specs.Those.{those}
 use Rattle.lists.proofs.Table.{length-tabulate}
 use Rattle.layout.specs.Versions.{hasNext}
@@ -17,16 +18,18 @@ use Rattle.sections.proofs.Cases.{links-all}
 use Rattle.head.specs.Checks.{openPlan}
 use Rattle.head.specs.declared.checks.Opening.{Opening}
 use Rattle.head.proofs.Facts.{open-complete}
-use Rattle.trace.specs.Links.{chains}
+use Rattle.trace.specs.Links.{end, namers, chains}
+use Rattle.trace.proofs.Chains.{chains-ends}
 use Rattle.trace.proofs.Steps.{length-nexts}
+use Rattle.reader.specs.declared.verdict.Acceptance.{Acceptance}
 use Rattle.reader.specs.Verdict.{Acceptable}
-use Rattle.reader.specs.Checks.{nextsIn, linkAt, prefixAnswer, fileAnswer}
+use Rattle.reader.specs.Checks.{nextsIn, linkAt, recordOf, prefixAnswer, fileAnswer}
 use Rattle.reader.proofs.AllowedLaws.{read-facts, whole-accepted, free-clear, links-pass, links-few}
 use Rattle.walk.specs.declared.WalkAnswer.{WalkAnswer}
 use Rattle.walk.specs.declared.WalkAnswer.the-variants.{Walked, Refused}
 use Rattle.walk.specs.Walk.{walk, flatMap, along, blocks, total, nextsOf, blocksOf, blocksIn}
 use Rattle.walk.specs.Walk.{Visited, walked, Values, walkedValues, valuesOf, decisionValues, orderAfter}
-use Rattle.walk.specs.EveryEntry.{EveryEntry}
+use Rattle.walk.specs.EveryEntry.{EveryEntry, times}
 use Rattle.walk.proofs.Once.{every-entry}
 use Rattle.claims.specs.Walks.{WalksSay}
 use Rattle.claims.proofs.WithoutNext.{no-nexts}
@@ -60,9 +63,10 @@ reader-accepted p m n v e = go (fileAnswer p m) refl
         let y : _≡_ {A = ℕ} 0 1 = cc in
         absurd (omega arith)
 
--- the links of a file that is accepted pass, so its walk visits every entry once
+-- the links of a file that is accepted pass, so its walk visits every entry once, and its chains are as many as its ends
 links-visited : (p : List ℕ) (m : ℕ) (x : Acceptable) (o : Opening) → fileAnswer p m ≡ decided (accept x) → run openPlan p ≡ decided (accept o)
-    → EveryEntry (nextsIn o p)
+    → EveryEntry (nextsIn o p) × (x .fields .«chain_count» ≡ namers (nextsIn o p) (length (nextsIn o p)) end)
+unfolding recordOf
 links-visited p m x o e opens =
     let t = read-facts m p .holds x (whole-accepted (length p) (prefixAnswer p m) x e .0) in
     let q : decided (accept (t .0)) ≡ decided (accept o) = sym (open-complete p (t .0) (t .1)) ∙ opens in
@@ -71,7 +75,11 @@ links-visited p m x o e opens =
     let size = length-nexts _ _ _ in
     let s = nextsIn (t .0) p in
     let c = free-clear s _ size few (linkAt (t .0)) (t .2 .free) in
-    rw same at (every-entry (linkAt (t .0)) s (chains s) (omega (arith, size, few)) (links-pass (linkAt (t .0)) s (c .0) (c .1) (c .2)))
+    let passes = links-pass (linkAt (t .0)) s (c .0) (c .1) (c .2) in
+    let short : length s ≤ end = omega (arith, size, few) in
+    let counted : x .fields .«chain_count» ≡ namers s (length s) end =
+    ap (λ (a : Acceptance). a .«chain_count») (t .2 .fields) ∙ chains-ends (linkAt (t .0)) s (chains s) short passes in
+    (rw same at (every-entry (linkAt (t .0)) s (chains s) short passes), rw same at counted)
 
 length-blocks : (section : List ℕ) (size entries : ℕ) → length (blocks section size entries) ≡ entries
 unfolding blocks
@@ -97,15 +105,25 @@ pub walks-say : WalksSay
 unfolding along
 walks-say p buffer order o r buffer′ order′ opens w =
     record {
-      counts = λ h n t q.
+      each-once = λ h n t q.
           let a = accepted-walk (walked p m k) n t (ap valuesOf (sym q) ∙ w .answer) in
           let b = reader-accepted p m k (a .0) (a .1) in
-          let every = links-visited p m (b .0) o (b .1) opens in
-          let steps : n ≡ length (walk (nextsIn o p)) =
-          a .2 ∙ ap (λ (v : Visited). length (v .order)) (sym (b .2)) ∙ ap (λ (s : List ℕ). length (walk s)) nexts-are in
+          let every = links-visited p m (b .0) o (b .1) opens .0 in
+          let size : length (nextsIn o p) ≡ o .head .trace .count = length-nexts _ _ _ ∙ all h in
+          let order-is : a .0 .order ≡ walk (nextsIn o p) = ap (λ (v : Visited). v .order) (sym (b .2)) ∙ ap walk nexts-are in
+          let steps : n ≡ length (walk (nextsIn o p)) = a .2 ∙ ap length order-is in
           let sum : t ≡ along (blocksIn o p) (walk (nextsIn o p)) =
           a .3 ∙ ap (λ (v : Visited). v .total) (sym (b .2)) ∙ (λ i. along (blocks-are i) (walk (nexts-are i))) in
-          (steps ∙ every .long ∙ length-nexts _ _ _ ∙ all h, sum ∙ every .sums (blocksIn o p) (blocks-long ∙ sym (length-nexts _ _ _)));
+          let list : take n order′ ≡ walk (nextsIn o p) =
+          ap (take n) (w .placed ∙ ap (λ (d : Decision Visited). orderAfter d order) (a .1)) ∙ take-at (a .0 .order) _ n (sym (a .2)) ∙ order-is in
+          record {
+            steps = steps ∙ every .long ∙ size;
+            sum = sum ∙ every .sums (blocksIn o p) (blocks-long ∙ sym (length-nexts _ _ _));
+            once = λ e l. ap (λ (xs : List ℕ). times xs e) list ∙ every .once e (omega (arith, size));
+            entries = λ j l. rw list (omega (arith, every .entries j (omega (arith, steps)), size));
+            chains-ends = λ x e. links-visited p m x o e opens .1 ∙ ap (λ (c : ℕ). namers (nextsIn o p) c end) size;
+            heads-ends = every .heads-ends ∙ ap (λ (c : ℕ). namers (nextsIn o p) c end) size;
+          };
       none = λ h n t q.
           let a = accepted-walk (walked p m k) n t (ap valuesOf (sym q) ∙ w .answer) in
           let b = reader-accepted p m k (a .0) (a .1) in

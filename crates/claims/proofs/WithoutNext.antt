@@ -1,7 +1,7 @@
 -- Without next indexes: the checks are walked down on two files at once, which agree on all that the checks look at.
 use mathlib.Core.Path.{_≡_, refl, sym, ap, _∙_}
 use mathlib.Core.Bool.{Bool, true, false}
-use mathlib.Core.List.{List, []}
+use mathlib.Core.List.{List, [], List·Memᴰ·head, List·Memᴰ·eq-of-singleton}
 use mathlib.Core.Logic.{_⊎_, inl, inr}
 use mathlib.Core.Option.{none}
 use Prim.Native.Nat.{ℕ, _+_, _-_, _≤_, _<_, min}
@@ -284,4 +284,6 @@ without-next =
           ∙ rest-same p q o f h none (length buffer) (length buffer′)
           ∙ sym (ap answerValues (read-rest (length buffer′) q o (opens-too p q o f h)))
           ∙ sym (s .verdict));
+      smallest-one = List·Memᴰ·head refl;
+      smallest = λ l m. let e = List·Memᴰ·eq-of-singleton m in rw e (omega arith);
     }

@@ -44,17 +44,17 @@ use Rattle.reader.proofs.Allowed.{opens as allowed-opens, demand-2}
 use Rattle.reader.proofs.AllowedLaws.{whole-accepted}
 use Rattle.reader.proofs.Values.{accepted-answer, refused-answer, wanted-answer, same-values}
 use Rattle.writer.specs.LaidOut.{Description, Numbers, laidBy, laidOut, head, beforeZero, nameKept, pairs, metricsAt, traceAt, stringsAt, volumesAt, laidSize}
-use Rattle.writer.specs.Private.{Writable, headFor, linksIn, sectionChecks, acceptableFor}
+use Rattle.writer.specs.Private.{Writable, headFor, linksIn, sectionChecks, recordFor, acceptableFor}
 use Rattle.writer.specs.Writes.{writable, roomed, placedAnswer, writeAnswer, fileFor, outputAfter, Lays, Writes}
 use Rattle.writer.proofs.Facts.{LaidFacts}
 use Rattle.writer.proofs.Bytes.{le-left}
 use Rattle.writer.proofs.Planning.{carried-prefix}
 use Rattle.writer.proofs.Head.{length-head, name-unit}
-use Rattle.writer.proofs.Laid.{start-facts, laid-facts}
+use Rattle.writer.proofs.Laid.{start-facts, laid-facts, next-written, blocks-written}
 use Rattle.writer.proofs.Sections.{opens}
 use Rattle.writer.proofs.Runs.{too-large, name-endless, laid-answer}
 use Rattle.writer.proofs.Answering.{writable-17, writable-23, known-17, known-23, below-30}
-use Rattle.claims.specs.Writer.{AsksFor, Occurs, FileWritten, WriterSays, WritersSay}
+use Rattle.claims.specs.Writer.{AsksFor, Occurs, EqualFields, FileWritten, WriterSays, WritersSay}
 use Rattle.claims.proofs.EveryName.{program-is, entry-is}
 
 -- ---- the versions
@@ -154,6 +154,9 @@ module _ (v : Version) (w : Writable (layoutOf v)) (known : versionOf (versionNu
       go false true p q = inr (inl (name-endless v l d _ m refl w known (start-facts v l d w r) (ltb-false _ _ p) (eqb-true _ 30 q)))
       go false false p q = inr (inr (ltb-false _ _ p, below-30 (d .name) _ refl (eqb-false _ 30 q)))
 
+  fields-given : (n : ℕ) → EqualFields d (recordFor v l d n)
+  fields-given n = record { hash = refl; time = refl; runs = refl; metrics = refl; trace = refl; volumes = refl }
+
   accepted-fits : (x : Acceptable) → fileAnswer (laidOut v d) m ≡ decided (accept x) → Fits
   accepted-fits x e = go cases
     where
@@ -161,6 +164,16 @@ module _ (v : Version) (w : Writable (layoutOf v)) (known : versionOf (versionNu
       go (inl q) = let z : _≡_ {A = ℕ} 0 1 = cc in absurd (omega arith)
       go (inr (inl q)) = let z : _≡_ {A = ℕ} 0 1 = cc in absurd (omega arith)
       go (inr (inr q)) = q
+
+  -- the record of one that is accepted
+  record-given : (x : Acceptable) → fileAnswer (laidOut v d) m ≡ decided (accept x) → EqualFields d (x .fields)
+  record-given x e =
+      let q = accepted-fits x e in
+      go (sectionChecks l d m) (sym (laid-answer v l d (laidOut v d) m refl w known (laid-facts v l d w r (q .0)) (q .1)) ∙ e)
+    where
+      go : (c : Decision ℕ) → decided (c >>= λ n. accept (acceptableFor v l d m n)) ≡ decided (accept x) → EqualFields d (x .fields)
+      go (accept n) q = let z : acceptableFor v l d m n ≡ x = cc in rw (← z) (fields-given n)
+      go (refuse f) q = let z : _≡_ {A = ℕ} 0 1 = cc in absurd (omega arith)
 
   refused-number : (f : Refusal) → fileAnswer (laidOut v d) m ≡ decided (refuse f) → Occurs (f .number)
   refused-number f e = go cases
@@ -272,6 +285,7 @@ module _ (version : ℕ) (d : Description) (buffer output : List ℕ) (r : Verdi
       let k = asked-laid version v q in
       let x = found p buffer output a buffer′ output′ s in
       let fits = accepted-fits v (k .0) (k .1) d n (length buffer) (x .0) (reader p buffer output a buffer′ output′ s .1) in
+      let given = record-given v (k .0) (k .1) d n (length buffer) (x .0) (reader p buffer output a buffer′ output′ s .1) in
       let reads = laid-reads p buffer output a buffer′ output′ s in
       let t = demand-2 p buffer (Accepted a) buffer′ reads .sound a refl in
       let allowed : Allowed p (o v (k .0) (k .1) d n (length buffer) fits) = rw (opening-is v (k .0) (k .1) d n (length buffer) fits (t .0) (t .1)) at (t .1) in
@@ -281,9 +295,12 @@ module _ (version : ℕ) (d : Description) (buffer output : List ℕ) (r : Verdi
         rest = laid-rest p buffer output a buffer′ output′ s;
         long = laid-long p buffer output a buffer′ output′ s;
         read-again = rw (laid-file p buffer output a buffer′ output′ s) reads;
+        fields = rw (x .2) given;
         name-shown = name-shown v (k .0) (k .1) d n (length buffer) fits allowed;
         name-written = unit-written v (k .0) (k .1) d n (length buffer) fits;
         entry-written = entry-written v (k .0) (k .1) d n (length buffer) fits allowed;
+        next-written = next-written v (layoutOf v) d (k .0) n (fits .0);
+        blocks-written = blocks-written v (layoutOf v) d (k .0) n (fits .0);
       }
 
   written : (a : Acceptance) → r ≡ Accepted a → (v : Version) × AsksFor version v × FileWritten v d buffer output a buffer′ output′

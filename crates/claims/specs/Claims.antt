@@ -46,9 +46,11 @@ use Rattle.claims.specs.WithoutNext.{WithoutNext}
 use Rattle.claims.specs.Places.{PlacesSay}
 use Rattle.claims.specs.Walks.{WalksSay}
 use Rattle.claims.specs.Writer.{WritersSay}
+use Rattle.claims.specs.YearReadings.{YearReadings}
 use Rattle.claims.specs.EmptyPrograms.{EmptyPrograms}
 use Rattle.claims.specs.Examples.{Examples}
 use Rattle.claims.specs.Points.{Points}
+use Rattle.claims.specs.Settled.{Settled}
 
 -- a refusal or a request
 abbrev pub NotAccepted : Verdict → Type 0
@@ -103,6 +105,7 @@ pub record Claims : Type 1 where
   -- Request 104: the search for the program name's end stops at the first zero unit, and check 4's answers are the same.
   pub name-stops : NameStops
   -- Request 107: without next indexes nothing is asked of the trace section and of the working buffer, and neither matters.
+  -- No head form has a smaller H than the one that check 3 and the catalogue take.
   pub without-next : WithoutNext
   -- ---- the working buffer and the trace links
   -- Refusal 7: with as many working places as `places` says it is never given, with fewer it is.
@@ -145,8 +148,11 @@ pub record Claims : Type 1 where
   -- The lines and the temperatures that the request names.
   pub recording-points : RecordingPoints
   -- Request 113: any order of the same lines and starts gives the same table; its rows rise strictly by their hashes, at most 1,024;
-  -- mean times number plus remainder is the sum, with a remainder below the number; no number wraps.
+  -- mean times number plus remainder is the sum, with a remainder below the number; no number wraps. Answers that
+  -- end early go on with zeros.
   pub year-table : YearFacts
+  -- Requests 110 and 113: an answer of the replay is a reading of the table, with its tenths, or none.
+  pub year-readings : YearReadings
   -- ---- the path search and the queries, in words
   -- "Path search", with request 105: the least number for which any metrics entry that can be shown matches, and then the first such
   -- entry, or none; and none on bytes that don't pass checks 1 to 6.
@@ -165,11 +171,13 @@ pub record Claims : Type 1 where
       × (volumeFacts o p i .path .at + volumeFacts o p i .path .len ≤ length p)
   -- ---- test files on demand
   -- Request 101: after a success the place has the laid-out file and then what it held, the whole-file reader gives the same record and
-  -- working buffer on it, its program name and its metrics entries are shown as they were given; what the reader refuses is refused alike.
+  -- working buffer on it, its numbers, its program name, its metrics and its trace entries are those given; what the reader refuses is refused alike.
   pub writes : WritersSay
   -- ---- that the promises say something, and can be kept
   -- "What the contracts have to settle": no empty program meets the readers' promises.
   pub empty-programs : EmptyPrograms
+  -- Every public promise determines its answer and every lent place afterwards.
+  pub settled : Settled
   -- The promises can be met: files that the layout allows, each accepted with the record that stands beside it.
   pub examples : Examples
   -- "Points on either edge": all that are marked P.

@@ -13,3 +13,5 @@ pub mod Examples
 pub mod Places
 pub mod Points
 pub mod Powers
+pub mod Settled
+pub mod YearReadings

@@ -25,7 +25,7 @@ use Rattle.reader.specs.Checks.{ReadsPrefix, ReadsFile}
 
 -- THE TABLE: 0 for 1, 4 for 2, 12 for 3, 16 for 4; for 5 and 6 the section's offset field; 96 for 7; for 8 the volume count; for 9 and
 -- 10 the entry's name offset; for 11 the next index, for 12 and 13 the named entry; for 14 and 15 the volume entry; 12 for 16 and 17;
--- 84 for 21 (request 107)
+-- 84 for 21 (request 107); 0 for 20, which names no field
 abbrev pub offsetOf : Layout → Head → ℕ → ℕ → ℕ
 offsetOf l h number index =
     pick (eqb number 1) versionAt
@@ -38,8 +38,8 @@ offsetOf l h number index =
     (pick (eqb number 9 || eqb number 10) (nameFieldAt l (h .metrics .at) index)
     (pick (eqb number 11 || (eqb number 12 || eqb number 13)) (entryOffset (h .trace .at) (traceEntry l) index)
     (pick (eqb number 14 || eqb number 15) (entryOffset (h .volumes .at) (volumeEntry l) index)
-    (pick (eqb number 21) metricsOffsetAt
-    declaredSizeAt))))))))))
+    (pick (eqb number 16 || eqb number 17) declaredSizeAt
+    (pick (eqb number 21) metricsOffsetAt 0)))))))))))
 
 -- the constants of the version that the first four bytes name; a version that is not known gets refusal 1, at 0 whatever they are
 abbrev pub constants : KnownVersion → Layout

@@ -1,11 +1,13 @@
--- Request 107: files whose trace entries have no next index.
+-- Request 107: files whose trace entries have no next index, and the head forms.
 use mathlib.Core.Path.{_≡_}
 use mathlib.Core.Bool.{false}
-use mathlib.Core.List.{List}
+use mathlib.Core.List.{List, List·Memᴰ}
 use mathlib.Core.Logic.{_⊎_}
 use Prim.Native.Nat.{ℕ, _+_, _≤_, _<_}
 use lib.ListN.{length, getD}
-use Rattle.layout.specs.Versions.{hasNext, headEnd}
+use Rattle.layout.specs.Versions.{layoutOf, hasNext, headEnd, forms}
+use Rattle.layout.specs.declared.Layout.{Layout}
+use Rattle.layout.specs.declared.Version.the-variants.{V30}
 use Rattle.incremental.specs.Decision.{accept}
 use Rattle.incremental.specs.Plan.{decided, run}
 use Rattle.sections.specs.Fields.{linkCount}
@@ -36,3 +38,6 @@ pub record WithoutNext : Type 0 where
       → ReadsPrefix p buffer v after
       → ReadsPrefix q buffer′ w after′
       → v ≡ w
+  -- "refusal 3 and the catalogue take the smallest H of the forms": that of the version's own constants is one of theirs, and none is smaller
+  pub smallest-one : List·Memᴰ (layoutOf V30) forms
+  pub smallest : (l : Layout) → List·Memᴰ l forms → headEnd (layoutOf V30) ≤ headEnd l

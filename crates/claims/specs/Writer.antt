@@ -7,8 +7,8 @@ use Prim.Native.Nat.{ℕ, _+_, _*_, _≤_, _<_}
 use lib.ListN.{length, getD, take, drop}
 use Rattle.lists.specs.Pairs.{firstOf, secondOf}
 use Rattle.little_endian.specs.Number.{le}
-use Rattle.layout.specs.Head.{versionAt, programNameAt}
-use Rattle.layout.specs.Versions.{layoutOf}
+use Rattle.layout.specs.Head.{versionAt, programNameAt, entryOffset}
+use Rattle.layout.specs.Versions.{layoutOf, traceEntry}
 use Rattle.layout.specs.declared.Version.{Version}
 use Rattle.layout.specs.declared.Version.the-variants.{V17, V23}
 use Rattle.incremental.specs.Decision.{accept, refuse, refusal}
@@ -22,7 +22,7 @@ use Rattle.reader.specs.declared.verdict.Verdict.{Verdict}
 use Rattle.reader.specs.declared.verdict.Verdict.the-variants.{Accepted, Refused, Wanted}
 use Rattle.reader.specs.Verdict.{Acceptable}
 use Rattle.reader.specs.Checks.{fileAnswer, ReadsFile}
-use Rattle.writer.specs.LaidOut.{Description, Numbers, laidOut, beforeZero, pairs, stringsAt}
+use Rattle.writer.specs.LaidOut.{Description, Numbers, laidOut, beforeZero, pairs, traceAt, stringsAt}
 use Rattle.writer.specs.Writes.{Writes}
 
 -- "A writer for versions 17 and 23": the version that a number asks for
@@ -32,6 +32,15 @@ AsksFor n v = ((n ≡ 17) × (v ≡ V17)) ⊎ ((n ≡ 23) × (v ≡ V23))
 -- the numbers of its refusals: 2, 5, 6, 16, 17 and 21 are not among them
 abbrev pub Occurs : ℕ → Type 0
 Occurs n = (n ≡ 1) ⊎ ((n ≡ 3) ⊎ ((n ≡ 4) ⊎ (((7 ≤ n) × (n ≤ 15)) ⊎ (n ≡ 20))))
+
+-- the record has the hash, the run time, the run count and the volume count given, and counts the pairs of the tables
+pub record EqualFields (d : Description) (a : Acceptance) : Type 0 where
+  pub hash : a .«stored_hash» ≡ d .storedHash
+  pub time : a .times .latest ≡ d .runTime
+  pub runs : a .«run_count» ≡ d .runCount
+  pub metrics : a .«metrics_count» ≡ pairs (d .metrics)
+  pub trace : a .«trace_count» ≡ pairs (d .trace)
+  pub volumes : a .«volume_count» ≡ d .volumeCount
 
 -- an acceptance with the record `a`, whose declared size is S
 pub record FileWritten (v : Version) (d : Description) (buffer output : List ℕ) (a : Acceptance) (buffer′ output′ : List ℕ) : Type 0 where
@@ -43,12 +52,19 @@ pub record FileWritten (v : Version) (d : Description) (buffer output : List ℕ
   pub long : length output′ ≡ length output
   -- "What it writes the reader accepts with equal fields, name and working buffer": the same record and the same buffer
   pub read-again : ReadsFile (take (a .«declared_size») output′) buffer (Accepted a) buffer′
+  -- "equal fields": those of the record are those given
+  pub fields : EqualFields d a
   -- the program name is shown, from byte 16, and is "a name up to its first zero"
   pub name-shown : programPlace (laidOut v d) ≡ Shown (record { at = programNameAt; len = 2 * length (beforeZero (d .name)) })
   pub name-written : (i : ℕ) → i < length (beforeZero (d .name)) → le 2 (laidOut v d) (programNameAt + 2 * i) ≡ getD (d .name) i 0
   -- each metrics entry is shown with the "name offset and length" given: so many bytes into the string section, so many units
   pub entry-written : (i : ℕ) → i < pairs (d .metrics)
       → entryPlace (laidOut v d) i ≡ Shown (record { at = stringsAt (layoutOf v) d + firstOf (d .metrics) i; len = 2 * secondOf (d .metrics) i })
+  -- each trace entry has the "next and block count" given
+  pub next-written : (i : ℕ) → i < pairs (d .trace)
+      → le 4 (laidOut v d) (entryOffset (traceAt (layoutOf v) d) (traceEntry (layoutOf v)) i) ≡ firstOf (d .trace) i
+  pub blocks-written : (i : ℕ) → i < pairs (d .trace)
+      → le 4 (laidOut v d) (entryOffset (traceAt (layoutOf v) d) (traceEntry (layoutOf v)) i + 4) ≡ secondOf (d .trace) i
 
 -- what the promise says, with the working buffer and the place before and after
 pub record WriterSays (version : ℕ) (d : Description) (buffer output : List ℕ) (r : Verdict) (buffer′ output′ : List ℕ) : Type 0 where

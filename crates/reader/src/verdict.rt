@@ -70,7 +70,7 @@ fn times_in(l: Layout, b: &[u8]) -> RunTimes
 }
 
 // The record that the first bytes of a file give, up to the end of its head.
-pub fn record_of(o: Opening, b: &[u8], chains: usize) -> Acceptance
+pub(crate) fn record_of(o: Opening, b: &[u8], chains: usize) -> Acceptance
     ensures { λ r. ⌜ r ≡ recordOf o (now (b .entry)) chains ⌝ }
 {
     let v = o.version;

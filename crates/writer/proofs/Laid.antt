@@ -2,9 +2,9 @@
 use mathlib.Core.Path.{_≡_, refl, sym, ap, _∙_}
 use mathlib.Core.Bool.{Bool, true, false}
 use mathlib.Core.List.{List, _++_, append-assoc}
-use Prim.Native.Nat.{ℕ, _+_, _*_, _≤_, _<_, min}
+use Prim.Native.Nat.{ℕ, suc, _+_, _*_, _≤_, _<_, min}
 use mathlib.Core.Logic.{⊎-elim}
-use native.Mathlib.Nat.{add-zero, eq-or-lt-of-le, mul-le-mul-left, mul-one}
+use native.Mathlib.Nat.{add-zero, eq-or-lt-of-le, mul-le-mul-left, mul-le-mul-right, mul-one, suc-mul}
 use native.Mathlib.Omega.{arith}
 use borrow.Author.Tests.{eq-eqb, ne-eqb, eqb-true, eqb-false}
 use lib.Dec.{eqb}
@@ -17,7 +17,8 @@ use Rattle.lists.specs.declared.Found.the-variants.{At, Nothing}
 use Rattle.lists.proofs.Table.{tabulate-same}
 use Rattle.lists.proofs.First.{first-is-at, first-is-nothing}
 use Rattle.little_endian.specs.Number.{le, zeroUnit}
-use Rattle.little_endian.proofs.Number.{le-take}
+use Rattle.little_endian.proofs.Number.{le-take, le-drop}
+use Rattle.layout.specs.Head.{entryOffset}
 use Rattle.layout.specs.Versions.{headEnd, runTimeAt, runCountAt, metricsEntry, nameOffsetAt, nameLengthAt, traceEntry, firstSection, sizeLimit}
 use Rattle.layout.specs.declared.Version.{Version}
 use Rattle.layout.specs.declared.Layout.{Layout}
@@ -217,12 +218,37 @@ module _ (v : Version) (l : Layout) (d : Description) (w : Writable l) (r : Numb
         ∙ field-number _ (metricsEntry l) 1 (nameLengthAt l) 4 (secondOf (d .metrics) i) (entry.ordered-metrics l w (d .metrics) i) (omega arith) refl
         (r .metrics (2 * i + 1))
 
+    -- a trace entry, and what stands in it in the file
+    next-laid : (i : ℕ) → le 4 (traceBytes l (d .trace) i) 0 ≡ firstOf (d .trace) i
+    next-laid i = field-number _ (traceEntry l) 0 0 4 (firstOf (d .trace) i) (entry.ordered-trace l w (d .trace) i) (omega arith) refl (r .trace (2 * i))
+
+    blocks-laid : (i : ℕ) → le 4 (traceBytes l (d .trace) i) 4 ≡ secondOf (d .trace) i
+    blocks-laid i = field-number _ (traceEntry l) 1 4 4 (secondOf (d .trace) i) (entry.ordered-trace l w (d .trace) i) (omega arith) refl (r .trace (2 * i + 1))
+
+    in-trace : (i at x : ℕ) → i < pairs (d .trace) → at + 4 ≤ traceEntry l → x ≡ i * traceEntry l + at
+        → le 4 (part (headFor l d .trace) file) x ≡ le 4 (traceBytes l (d .trace) i) at
+    in-trace i at x h k e =
+        ap (λ (s : List ℕ). le 4 s x) trace-is
+        ∙ ap (le 4 trace-part) e
+        ∙ le-entry (traceBytes l (d .trace)) (traceEntry l) (entry.trace-size l w (d .trace)) 4 (pairs (d .trace)) i at h k
+
+    in-file : (i at x : ℕ) → i < pairs (d .trace) → at + 4 ≤ traceEntry l → x ≡ i * traceEntry l + at
+        → le 4 file (traceAt l d + x) ≡ le 4 (traceBytes l (d .trace) i) at
+    in-file i at x h k e =
+        let z : suc i * traceEntry l ≤ pairs (d .trace) * traceEntry l = mul-le-mul-right (traceEntry l) h in
+        sym (le-drop 4 (traceAt l d) file x)
+        ∙ sym (le-take 4 (pairs (d .trace) * traceEntry l) (drop (traceAt l d) file) x (omega (arith, suc-mul i (traceEntry l))))
+        ∙ in-trace i at x h k e
+
+    pub next-written : (i : ℕ) → i < pairs (d .trace) → le 4 file (entryOffset (traceAt l d) (traceEntry l) i) ≡ firstOf (d .trace) i
+    next-written i h = in-file i 0 _ h (omega (arith, w .trace)) (sym (add-zero (i * traceEntry l))) ∙ next-laid i
+
+    pub blocks-written : (i : ℕ) → i < pairs (d .trace) → le 4 file (entryOffset (traceAt l d) (traceEntry l) i + 4) ≡ secondOf (d .trace) i
+    blocks-written i h =
+        ap (le 4 file) (omega arith) ∙ in-file i 4 (i * traceEntry l + 4) h (omega (arith, w .trace)) refl ∙ blocks-laid i
+
     next-is : (i : ℕ) → i < pairs (d .trace) → le 4 (part (headFor l d .trace) file) (i * traceEntry l) ≡ firstOf (d .trace) i
-    next-is i h =
-        ap (λ (s : List ℕ). le 4 s (i * traceEntry l)) trace-is
-        ∙ ap (le 4 trace-part) (sym (add-zero (i * traceEntry l)))
-        ∙ le-entry (traceBytes l (d .trace)) (traceEntry l) (entry.trace-size l w (d .trace)) 4 (pairs (d .trace)) i 0 h (omega (arith, w .trace))
-        ∙ field-number _ (traceEntry l) 0 0 4 (firstOf (d .trace) i) (entry.ordered-trace l w (d .trace) i) (omega arith) refl (r .trace (2 * i))
+    next-is i h = in-trace i 0 _ h (omega (arith, w .trace)) (sym (add-zero (i * traceEntry l))) ∙ next-laid i
 
     pub links-are : nexts (part (headFor l d .trace) file) (traceEntry l) (pairs (d .trace)) ≡ linksIn d
     unfolding nexts firsts
