@@ -13,3 +13,4 @@ pub mod BestReading
 pub mod Points
 pub mod Signed
 pub mod Framing
+pub mod Keeping
