@@ -14,9 +14,16 @@ use Rattle.writer.specs.Writes.{writable, writeAnswer, fileFor, outputAfter}
 use Rattle.lists.specs.Filled.{filled}
 use Rattle.readings.specs.Recording.{recorded}
 use Rattle.readings.specs.Replay.{sayingOf, answersAfter, answerCount}
+use Rattle.readings.specs.declared.pieces.Progress.{Progress}
+use Rattle.readings.specs.declared.pieces.Fed.{Fed}
+use Rattle.readings.specs.Feeding.{servedCount, begunWork, begunAnswers, fedBy, fedAnswers, endSaid, endAnswers}
 use Rattle.catalogue.specs.declared.Fields.{Fields}
 use Rattle.catalogue.specs.Line.{LineAnswer, canWrite, lineOf}
 use Rattle.year.specs.Year as year
+
+-- the number of the interface: raised with each function or place that is added or changed
+abbrev pub interface : ℕ
+interface = 1
 
 -- the values that fit, and the rest of the output as it was
 abbrev pub overlay : List ℕ → List ℕ → List ℕ
@@ -109,6 +116,28 @@ pub record ReplayOut (recording times boards work answers : List ℕ) (code : �
   pub said : Answered (sayingOf (recorded recording)) code out out′
   pub given : answers′ ≡ answersAfter (recorded recording) times boards (answerCount times boards (length answers)) answers
   pub working : work′ ≡ filled (length work)
+
+-- ---- the replay in pieces: 0 with lines, first bad line and starts served, or bytes that need not come again; at the end 0, or 22, and the
+-- line's number
+abbrev pub progressOf : ℕ → ℕ → Progress
+progressOf lines bad = record { lines = lines; bad = bad }
+
+pub record BeginOut (times boards work answers : List ℕ) (code : ℕ) (work′ answers′ out out′ : List ℕ) : Type 0 where
+  pub said : Answered (record { number = 0; values = 0 ∷ 0 ∷ servedCount times boards work answers ∷ [] }) code out out′
+  pub working : work′ ≡ begunWork times boards work answers
+  pub given : answers′ ≡ begunAnswers times boards work answers
+
+abbrev pub fedValues : Fed → List ℕ
+fedValues f = f .progress .lines ∷ f .progress .bad ∷ f .used ∷ []
+
+pub record FeedOut (p : Progress) (piece times boards work answers : List ℕ) (code : ℕ) (answers′ out out′ : List ℕ) : Type 0 where
+  pub said : Answered (record { number = 0; values = fedValues (fedBy p piece) }) code out out′
+  pub given : answers′ ≡ fedAnswers p piece times boards work answers
+
+pub record FinishOut (p : Progress) (waiting : ℕ) (times boards work answers : List ℕ) (code : ℕ) (work′ answers′ out out′ : List ℕ) : Type 0 where
+  pub said : Answered (endSaid p waiting) code out out′
+  pub working : work′ ≡ filled (length work)
+  pub given : answers′ ≡ endAnswers p waiting times boards work answers
 
 -- ---- the table at year's end: the refusal or 0; its place and the number of rows; the rows that fit
 abbrev pub yearSaid : List ℕ → List ℕ → List ℕ → Said

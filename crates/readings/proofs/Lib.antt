@@ -1,11 +1,12 @@
 pub mod Keys
 pub mod Shuffle
 pub mod Heap
+pub mod Orders
 pub mod Ranks
-pub mod Places
-pub mod Range
-pub mod Kept
 pub mod Recorded
+pub mod Range
+pub mod Places
+pub mod Kept
 pub mod Passes
 pub mod Answering
 pub mod BestReading
@@ -14,3 +15,4 @@ pub mod Signed
 pub mod Framing
 pub mod Feeding
 pub mod Keeping
+pub mod Runs
