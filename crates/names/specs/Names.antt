@@ -3,11 +3,11 @@ use mathlib.Core.Path.{_≡_}
 use mathlib.Core.Bool.{Bool, not, _&&_}
 use mathlib.Core.List.{List}
 use Prim.Native.Nat.{ℕ, _+_, _*_, _≤_, _<_}
-use lib.Dec.{leb}
+use lib.Dec.{leb, eqb}
 use lib.ListN.{length}
 use Rattle.lists.specs.First.{first}
 use Rattle.lists.specs.Pairs.{firstOf, secondOf}
-use Rattle.lists.specs.Count.{anyBelow}
+use Rattle.lists.specs.Count.{anyBelow, pick}
 use Rattle.little_endian.specs.Number.{le, zeroUnit}
 use Rattle.layout.specs.Head.{entryOffset}
 use Rattle.layout.specs.Versions.{metricsEntry, nameOffsetAt, nameLengthAt}
@@ -38,6 +38,11 @@ misfitFault l start metrics entries size = faultOf (nameFieldAt l start) (first 
 unfoldable pub misfitPair : Layout → ℕ → List ℕ → ℕ → ℕ → Fault
 misfitPair l start pairs entries size = faultOf (nameFieldAt l start) (first (λ i. not (fits size (firstOf pairs i) (secondOf pairs i))) entries)
 
+-- the same where both are given: over the pairs, or over the metrics array where the table of pairs is empty
+unfoldable pub misfitFrom : Layout → ℕ → List ℕ → List ℕ → ℕ → ℕ → Fault
+misfitFrom l start metrics pairs entries size =
+    pick (eqb (length pairs) 0) (misfitFault l start metrics entries size) (misfitPair l start pairs entries size)
+
 -- a name that fits has no zero unit among its units, and a zero unit directly after them
 unfoldable pub sound : List ℕ → ℕ → ℕ → Bool
 sound strings at units =
@@ -51,6 +56,11 @@ unsoundFault l start metrics entries strings =
 -- the same over a table of pairs
 unfoldable pub unsoundPair : Layout → ℕ → List ℕ → ℕ → List ℕ → Fault
 unsoundPair l start pairs entries strings = faultOf (nameFieldAt l start) (first (λ i. not (sound strings (firstOf pairs i) (secondOf pairs i))) entries)
+
+-- the same where both are given
+unfoldable pub unsoundFrom : Layout → ℕ → List ℕ → List ℕ → ℕ → List ℕ → Fault
+unsoundFrom l start metrics pairs entries strings =
+    pick (eqb (length pairs) 0) (unsoundFault l start metrics entries strings) (unsoundPair l start pairs entries strings)
 
 -- in plain words: what a sound name is
 pub record SoundName (strings : List ℕ) (at units : ℕ) : Type 0 where
