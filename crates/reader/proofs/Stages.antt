@@ -1,6 +1,6 @@
 -- The stages from check 7 on, by what the calls in their code gave: each way out of a stage is a run of its plan.
 use mathlib.Core.Path.{_≡_, refl, sym, ap, _∙_}
-use mathlib.Core.List.{List}
+use mathlib.Core.List.{List, []}
 use Prim.Native.Nat.{ℕ, _*_, _≤_, _<_}
 use native.Mathlib.Decide.{ℕ-discrete}
 use native.Mathlib.Nat.{zero-mul}
@@ -27,10 +27,11 @@ use Rattle.head.specs.Opened.{OpenFacts}
 use Rattle.head.proofs.Rules.{part-length}
 use Rattle.head.proofs.Facts.{open-shapes}
 use Rattle.head.specs.declared.checks.Opening.{Opening}
-use Rattle.names.specs.Names.{misfitFault, unsoundFault}
-use Rattle.trace.specs.Links.{nexts, astrayFault, sharedFault, cyclicFault, linkChecks, chains, predecessors, linksOf, LinkAnswer, held}
+use Rattle.names.specs.Names.{misfitFault, misfitFrom, unsoundFault, unsoundFrom}
+use Rattle.names.proofs.Laws.{misfit-bytes, unsound-bytes}
+use Rattle.trace.specs.Links.{nexts, astrayFault, sharedFault, cyclicFault, linkChecks, chains, predecessors, linksOf, LinkListAnswer, LinkAnswer, held}
 use Rattle.trace.proofs.Accepted.{trace-room}
-use Rattle.trace.proofs.Steps.{length-nexts}
+use Rattle.trace.proofs.Steps.{length-nexts, from-section}
 use Rattle.trace.specs.declared.Links.{Links}
 use Rattle.trace.specs.declared.Links.the-variants as links
 use Rattle.volumes.specs.Volumes.{volumesFrom, volumesChecks}
@@ -71,10 +72,10 @@ module _ (o : Opening) (p : List ℕ) where
   fits-short h = reach-wants _ _ p h
 
   module _ (a : List ℕ) (h : o .head .metrics .end ≤ length p) (e : a ≡ part (o .head .metrics) (take (o .head .metrics .end) p)) (r : Fault)
-      (f : r ≡ misfitFault (o .layout) (o .head .metrics .at) a (o .head .metrics .count) (o .head .strings .len)) where
+      (f : r ≡ misfitFrom (o .layout) (o .head .metrics .at) a [] (o .head .metrics .count) (o .head .strings .len)) where
     misfit : r ≡ misfitFault (o .layout) (o .head .metrics .at) (part (o .head .metrics) (take (o .head .metrics .end) p)) (o .head .metrics .count)
         (o .head .strings .len)
-    misfit = rw (← e) f
+    misfit = rw (← e) (f ∙ misfit-bytes _ _ a _ _)
 
     pub fits-refused : (i at : ℕ) (x : Refusal) → r ≡ At i at → x ≡ refusal 9 i at → decided (refuse x) ≡ run (fitsPlan o) p
     unfolding fitsPlan
@@ -100,10 +101,10 @@ module _ (o : Opening) (p : List ℕ) (k : ℕ) (at : k ≡ namesRequired (o .la
   texts-short h = texts-are _ (reach-wants k _ p h)
 
   module _ (a b : List ℕ) (h : k ≤ length p) (e : a ≡ part (o .head .metrics) (take k p)) (g : b ≡ part (o .head .strings) (take k p)) (r : Fault)
-      (f : r ≡ unsoundFault (o .layout) (o .head .metrics .at) a (o .head .metrics .count) b) where
+      (f : r ≡ unsoundFrom (o .layout) (o .head .metrics .at) a [] (o .head .metrics .count) b) where
     unsound : r ≡ unsoundFault (o .layout) (o .head .metrics .at) (part (o .head .metrics) (take k p)) (o .head .metrics .count)
         (part (o .head .strings) (take k p))
-    unsound = rw (← e, ← g) f
+    unsound = rw (← e, ← g) (f ∙ unsound-bytes _ _ a _ b)
 
     pub texts-refused : (i at : ℕ) (x : Refusal) → r ≡ At i at → x ≡ refusal 10 i at → decided (refuse x) ≡ run (textsPlan o) p
     texts-refused i at x q w = texts-are _ (reach-on k _ p _ h (check-refused 10 _ _ p i at r x unsound q w))
@@ -147,12 +148,15 @@ module _ (o : Opening) (p : List ℕ) (m k : ℕ) (required : k ≡ traceRequire
 
   module _ (a : List ℕ) (h : k ≤ length p) (e : a ≡ part (o .head .trace) (take k p)) (n : ℕ) (count : n ≡ linkCount (o .layout) (o .head))
       (room : linkCount (o .layout) (o .head) ≤ m) (r : Links) (buffer : List ℕ)
-      (w : LinkAnswer a (o .head .trace .at) (traceEntry (o .layout)) n m r buffer) where
+      (w : LinkAnswer a [] (o .head .trace .at) (traceEntry (o .layout)) n m r buffer) where
     abbrev s : List ℕ
     s = nexts a (traceEntry (o .layout)) n
 
+    given : LinkListAnswer (linkAt o) s m r buffer
+    given = rw from-section at w
+
     links-decide : linkChecks (linkAt o) s ≡ linksOf r
-    links-decide = sym (w .answer ∙ trace-room (linkAt o) s m (rw (length-nexts a (traceEntry (o .layout)) n, count) room))
+    links-decide = sym (given .answer ∙ trace-room (linkAt o) s m (rw (length-nexts a (traceEntry (o .layout)) n, count) room))
 
     lines-run : run (tracePlan o) p ≡ run (linesOf (astrayFault (linkAt o) s) (sharedFault (linkAt o) s) (cyclicFault (linkAt o) s) s) p
     unfolding tracePlan
@@ -173,7 +177,7 @@ module _ (o : Opening) (p : List ℕ) (m k : ℕ) (required : k ≡ traceRequire
     unfolding linkChecks
     trace-passed c q =
         let l = lines-accept (astrayFault (linkAt o) s) (sharedFault (linkAt o) s) (cyclicFault (linkAt o) s) (chains s) c s p (links-decide ∙ ap linksOf q) in
-        let t : buffer ≡ predecessors s m = w .holds ∙ ap (λ (d : Decision ℕ). held d s m) (sym (w .answer) ∙ ap linksOf q) in
+        let t : buffer ≡ predecessors s m = given .holds ∙ ap (λ (d : Decision ℕ). held d s m) (sym (given .answer) ∙ ap linksOf q) in
         record {
           passed = λ j z. let i : c ≡ j = cc in (s, lines-run ∙ l .0, sym i ∙ l .1, t);
           refused = λ f z. let y : _≡_ {A = ℕ} 0 1 = cc in absurd (omega arith);
