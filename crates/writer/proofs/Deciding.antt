@@ -15,10 +15,10 @@ use Rattle.incremental.specs.declared.Checked.{Checked}
 use Rattle.incremental.specs.declared.Checked.the-variants as checked
 use Rattle.sections.specs.Fields.{placesFault, entriesFault}
 use Rattle.sections.proofs.Cases.{places-enough, entries-fit}
-use Rattle.trace.specs.Links.{firsts, linkChecks, traceChecks, linksOf, predecessors, held, LinkListAnswer}
+use Rattle.trace.specs.Links.{firsts, linkChecks, traceChecks, linksOf, predecessors, held, LinkListAnswer, LinkAnswer}
 use Rattle.trace.specs.declared.Links.{Links}
 use Rattle.trace.specs.declared.Links.the-variants as links
-use Rattle.trace.proofs.Steps.{length-firsts}
+use Rattle.trace.proofs.Steps.{length-firsts, from-pairs}
 use Rattle.volumes.specs.Volumes.{volumesFrom, volumesChecks}
 use Rattle.writer.specs.declared.Plan.{Plan}
 use Rattle.names.specs.Names.{misfitPair, unsoundPair}
@@ -60,7 +60,10 @@ module _ (l : Layout) (p : Plan) (count : ℕ) (metrics trace strings volumes : 
     names-refused f buffer q = record { answer = rw (sym e ∙ ap checkedOf q) refl; holds = none-held f buffer }
 
     module _ (q : c ≡ checked.Passed) (room : p .trace ≤ m) (k : Links) (buffer : List ℕ)
-        (a : LinkListAnswer (entryOffset (p .«trace_at») (traceEntry l)) s m k buffer) where
+        (w : LinkAnswer [] trace (p .«trace_at») (traceEntry l) (p .trace) m k buffer) where
+      a : LinkListAnswer (entryOffset (p .«trace_at») (traceEntry l)) s m k buffer
+      a = rw from-pairs at w
+
       decided-links : linksOf k ≡ linkChecks (entryOffset (p .«trace_at») (traceEntry l)) s
       decided-links = a .answer ∙ places-passed _ s m (omega (arith, length-firsts trace (p .trace)))
 
