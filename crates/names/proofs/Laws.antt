@@ -8,17 +8,15 @@ use native.Mathlib.Omega.{arith}
 use lib.Dec.{eqb, ltb}
 use lib.ListN.{length, getD}
 use borrow.Author.Tests.{leb-true, le-leb, ltb-true, ltb-false, eqb-true, eqb-false, eq-eqb, ne-eqb}
-use Rattle.lists.specs.Count.{anyBelow, pick}
-use Rattle.lists.specs.Pairs.{firstOf, secondOf}
+use Rattle.lists.specs.Count.{anyBelow}
 use Rattle.lists.specs.First.{first, firstFrom}
 use Rattle.lists.proofs.Count.{any-yes, any-no, any-true, any-eight, true-false, any-false}
 use Rattle.little_endian.specs.Number.{le, zeroUnit}
 use Rattle.little_endian.proofs.Number.{le-past}
+use Rattle.layout.specs.Versions.{metricsEntry, nameOffsetAt, nameLengthAt}
 use Rattle.layout.specs.declared.Layout.{Layout}
-use Rattle.incremental.specs.Decision.{faultOf}
-use Rattle.incremental.specs.declared.Fault.{Fault}
-use Rattle.names.specs.Names.{nameAt, nameUnits, nameFieldAt, fits, sound, misfitFault, misfitPair, misfitFrom, unsoundFault, unsoundPair, unsoundFrom, SoundName}
-use Rattle.names.specs.Private.{zeroIn, soundText, offsetFrom, unitsFrom}
+use Rattle.names.specs.Names.{fits, sound, inPairs, namesFrom, SoundName}
+use Rattle.names.specs.Private.{zeroIn, soundText}
 
 -- One unit, by its bytes
 pub unit-zero : (s : List ℕ) (at : ℕ) → eqb (getD s at 0 + 256 * getD s (at + 1) 0) 0 ≡ zeroUnit s at
@@ -107,51 +105,14 @@ pub fails-at : (test : ℕ → ℕ → Bool) (f g : ℕ → ℕ) (i : ℕ) {at u
     → at ≡ f i → units ≡ g i → r ≡ test at units → failsAt test f g i ≡ not r
 fails-at test f g i a u e = rw (← a, ← u, ← e)
 
--- the first entry that fails, of names from where they are given
-fault-from : (b : Bool) (at : ℕ → ℕ) (test : ℕ → ℕ → Bool) (f f′ g g′ : ℕ → ℕ) (n : ℕ)
-    → faultOf at (first (failsAt test (λ i. pick b (f i) (f′ i)) (λ i. pick b (g i) (g′ i))) n)
-    ≡ pick b (faultOf at (first (failsAt test f g) n)) (faultOf at (first (failsAt test f′ g′) n))
-fault-from true at test f f′ g g′ n = refl
-fault-from false at test f f′ g g′ n = refl
-
-module _ (l : Layout) (start : ℕ) (metrics pairs : List ℕ) (entries : ℕ) where
-  -- the first entry whose name fails a test
-  abbrev pub firstFailing : (ℕ → ℕ → Bool) → Fault
-  firstFailing test = faultOf (nameFieldAt l start) (first (failsAt test (offsetFrom l metrics pairs) (unitsFrom l metrics pairs)) entries)
-
-  pub misfit-from : (size : ℕ) → firstFailing (fits size) ≡ misfitFrom l start metrics pairs entries size
-  unfolding misfitFrom misfitFault misfitPair
-  misfit-from size = fault-from (eqb (length pairs) 0) _ (fits size) (nameAt l metrics) (firstOf pairs) (nameUnits l metrics) (secondOf pairs) entries
-
-  pub unsound-from : (strings : List ℕ) → firstFailing (sound strings) ≡ unsoundFrom l start metrics pairs entries strings
-  unfolding unsoundFrom unsoundFault unsoundPair
-  unsound-from strings = fault-from (eqb (length pairs) 0) _ (sound strings) (nameAt l metrics) (firstOf pairs) (nameUnits l metrics) (secondOf pairs) entries
-
--- with no pairs they are those of the metrics array, and with no array those of the pairs
-pub misfit-bytes : (l : Layout) (start : ℕ) (metrics : List ℕ) (entries size : ℕ)
-    → misfitFrom l start metrics [] entries size ≡ misfitFault l start metrics entries size
-unfolding misfitFrom
-misfit-bytes l start metrics entries size = refl
-
-pub unsound-bytes : (l : Layout) (start : ℕ) (metrics : List ℕ) (entries : ℕ) (strings : List ℕ)
-    → unsoundFrom l start metrics [] entries strings ≡ unsoundFault l start metrics entries strings
-unfolding unsoundFrom
-unsound-bytes l start metrics entries strings = refl
-
+-- with no metrics array the names are those of the pairs
 no-bytes : (at : ℕ) → le 4 [] at ≡ 0
 no-bytes at = le-past 4 [] at (omega arith)
 
-pub misfit-pairs : (l : Layout) (start : ℕ) (pairs : List ℕ) (entries size : ℕ)
-    → misfitFrom l start [] pairs entries size ≡ misfitPair l start pairs entries size
-unfolding misfitFrom misfitFault misfitPair
-misfit-pairs l start [] entries size = simp no-bytes
-misfit-pairs l start (x ∷ xs) entries size = rw (ne-eqb (length (x ∷ xs)) 0 (λ e. absurd (omega arith)))
-
-pub unsound-pairs : (l : Layout) (start : ℕ) (pairs : List ℕ) (entries : ℕ) (strings : List ℕ)
-    → unsoundFrom l start [] pairs entries strings ≡ unsoundPair l start pairs entries strings
-unfolding unsoundFrom unsoundFault unsoundPair
-unsound-pairs l start [] entries strings = simp no-bytes
-unsound-pairs l start (x ∷ xs) entries strings = rw (ne-eqb (length (x ∷ xs)) 0 (λ e. absurd (omega arith)))
+pub names-pairs : (l : Layout) (pairs : List ℕ) → namesFrom l [] pairs ≡ inPairs pairs
+names-pairs l [] = λ k.
+    record { offset = λ i. no-bytes (i * metricsEntry l + nameOffsetAt l) k; units = λ i. no-bytes (i * metricsEntry l + nameLengthAt l) k }
+names-pairs l (x ∷ xs) = rw (ne-eqb (length (x ∷ xs)) 0 (λ e. absurd (omega arith)))
 
 -- each of the first i entries passes: the first of all n that fails is the first from i on
 abbrev pub PassedTo : ℕ → (ℕ → Bool) → ℕ → Type 0

@@ -3,8 +3,8 @@ ghost use mathlib.Core.Path.{_≡_};
 ghost use Prim.Native.Nat.{_+_, _*_, _≤_};
 ghost use lib.ListN.{length};
 ghost use Rattle.little_endian.specs.Number.{le, zeroUnit};
-ghost use Rattle.names.specs.Names.{fits, sound, nameAt, nameUnits, nameFieldAt, misfitFrom, unsoundFrom};
-ghost use Rattle.names.specs.Private.{zeroIn, soundText, offsetFrom, unitsFrom};
+ghost use Rattle.names.specs.Names.{fits, sound, nameAt, nameUnits, nameFieldAt, namesFrom, misfitFault, unsoundFault};
+ghost use Rattle.names.specs.Private.{zeroIn, soundText};
 
 use incremental::Fault;
 use layout::Layout;
@@ -102,7 +102,7 @@ pub fn name_units(metrics: &[u8], l: Layout, i: u32) -> u32
 
 // The offset of the name of entry i: the first number of pair i, or where no pairs are given that of the metrics entry.
 fn offset_from(metrics: &[u8], pairs: &[u32], l: Layout, i: u32) -> u32
-    ensures { λ r. ⌜ r ≡ offsetFrom l (now (metrics .entry)) (now (pairs .entry)) i ⌝ }
+    ensures { λ r. ⌜ r ≡ namesFrom l (now (metrics .entry)) (now (pairs .entry)) .offset i ⌝ }
 {
     if pairs.len() == 0 {
         return name_at(metrics, l, i);
@@ -112,7 +112,7 @@ fn offset_from(metrics: &[u8], pairs: &[u32], l: Layout, i: u32) -> u32
 
 // The length of that name in units, which is a pair's second number.
 fn units_from(metrics: &[u8], pairs: &[u32], l: Layout, i: u32) -> u32
-    ensures { λ r. ⌜ r ≡ unitsFrom l (now (metrics .entry)) (now (pairs .entry)) i ⌝ }
+    ensures { λ r. ⌜ r ≡ namesFrom l (now (metrics .entry)) (now (pairs .entry)) .units i ⌝ }
 {
     if pairs.len() == 0 {
         return name_units(metrics, l, i);
@@ -136,7 +136,7 @@ pub fn misfit_fault(
     entries: u32,
     size: usize,
 ) -> Fault
-    ensures { λ r. ⌜ r ≡ misfitFrom l start (now (metrics .entry)) (now (pairs .entry)) entries size ⌝ }
+    ensures { λ r. ⌜ r ≡ misfitFault l start (namesFrom l (now (metrics .entry)) (now (pairs .entry))) entries size ⌝ }
 {
     let mut i = 0;
     while i < entries {
@@ -159,7 +159,7 @@ pub fn unsound_fault(
     entries: u32,
     strings: &[u8],
 ) -> Fault
-    ensures { λ r. ⌜ r ≡ unsoundFrom l start (now (metrics .entry)) (now (pairs .entry)) entries (now (strings .entry)) ⌝ }
+    ensures { λ r. ⌜ r ≡ unsoundFault l start (namesFrom l (now (metrics .entry)) (now (pairs .entry))) entries (now (strings .entry)) ⌝ }
 {
     let mut i = 0;
     while i < entries {

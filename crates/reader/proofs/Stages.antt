@@ -27,11 +27,10 @@ use Rattle.head.specs.Opened.{OpenFacts}
 use Rattle.head.proofs.Rules.{part-length}
 use Rattle.head.proofs.Facts.{open-shapes}
 use Rattle.head.specs.declared.checks.Opening.{Opening}
-use Rattle.names.specs.Names.{misfitFault, misfitFrom, unsoundFault, unsoundFrom}
-use Rattle.names.proofs.Laws.{misfit-bytes, unsound-bytes}
-use Rattle.trace.specs.Links.{nexts, astrayFault, sharedFault, cyclicFault, linkChecks, chains, predecessors, linksOf, LinkListAnswer, LinkAnswer, held}
+use Rattle.names.specs.Names.{inMetrics, misfitFault, unsoundFault}
+use Rattle.trace.specs.Links.{nexts, astrayFault, sharedFault, cyclicFault, linkChecks, chains, predecessors, linksOf, LinkAnswer, held}
 use Rattle.trace.proofs.Accepted.{trace-room}
-use Rattle.trace.proofs.Steps.{length-nexts, from-section}
+use Rattle.trace.proofs.Steps.{length-nexts}
 use Rattle.trace.specs.declared.Links.{Links}
 use Rattle.trace.specs.declared.Links.the-variants as links
 use Rattle.volumes.specs.Volumes.{volumesFrom, volumesChecks}
@@ -40,7 +39,7 @@ use Rattle.reader.specs.declared.checks.TraceOutcome.{TraceOutcome}
 use Rattle.reader.specs.declared.checks.TraceOutcome.the-variants as outcome
 use Rattle.reader.specs.declared.verdict.Acceptance.{Acceptance}
 use Rattle.reader.specs.Verdict.{Acceptable}
-use Rattle.reader.specs.Checks.{traceRequired, namesRequired, volumesRequired, linkAt, recordOf}
+use Rattle.reader.specs.Checks.{namesIn, traceRequired, namesRequired, volumesRequired, linkAt, recordOf}
 use Rattle.reader.specs.Checks.{countsPlan, fitsPlan, textsPlan, tracePlan, volumesPlan, restPlan}
 use Rattle.reader.specs.Private.{TraceAnswer, EntriesFit}
 
@@ -72,10 +71,10 @@ module _ (o : Opening) (p : List ℕ) where
   fits-short h = reach-wants _ _ p h
 
   module _ (a : List ℕ) (h : o .head .metrics .end ≤ length p) (e : a ≡ part (o .head .metrics) (take (o .head .metrics .end) p)) (r : Fault)
-      (f : r ≡ misfitFrom (o .layout) (o .head .metrics .at) a [] (o .head .metrics .count) (o .head .strings .len)) where
-    misfit : r ≡ misfitFault (o .layout) (o .head .metrics .at) (part (o .head .metrics) (take (o .head .metrics .end) p)) (o .head .metrics .count)
+      (f : r ≡ misfitFault (o .layout) (o .head .metrics .at) (inMetrics (o .layout) a) (o .head .metrics .count) (o .head .strings .len)) where
+    misfit : r ≡ misfitFault (o .layout) (o .head .metrics .at) (namesIn o (take (o .head .metrics .end) p)) (o .head .metrics .count)
         (o .head .strings .len)
-    misfit = rw (← e) (f ∙ misfit-bytes _ _ a _ _)
+    misfit = rw (← e) f
 
     pub fits-refused : (i at : ℕ) (x : Refusal) → r ≡ At i at → x ≡ refusal 9 i at → decided (refuse x) ≡ run (fitsPlan o) p
     unfolding fitsPlan
@@ -89,7 +88,7 @@ module _ (o : Opening) (p : List ℕ) where
 abbrev textsAt : ℕ → Opening → Plan Unit
 textsAt k o = do
   b ← reach k
-  check 10 (unsoundFault (o .layout) (o .head .metrics .at) (part (o .head .metrics) b) (o .head .metrics .count) (part (o .head .strings) b))
+  check 10 (unsoundFault (o .layout) (o .head .metrics .at) (namesIn o b) (o .head .metrics .count) (part (o .head .strings) b))
   done tt
 
 module _ (o : Opening) (p : List ℕ) (k : ℕ) (at : k ≡ namesRequired (o .layout) (o .head)) where
@@ -101,10 +100,10 @@ module _ (o : Opening) (p : List ℕ) (k : ℕ) (at : k ≡ namesRequired (o .la
   texts-short h = texts-are _ (reach-wants k _ p h)
 
   module _ (a b : List ℕ) (h : k ≤ length p) (e : a ≡ part (o .head .metrics) (take k p)) (g : b ≡ part (o .head .strings) (take k p)) (r : Fault)
-      (f : r ≡ unsoundFrom (o .layout) (o .head .metrics .at) a [] (o .head .metrics .count) b) where
-    unsound : r ≡ unsoundFault (o .layout) (o .head .metrics .at) (part (o .head .metrics) (take k p)) (o .head .metrics .count)
+      (f : r ≡ unsoundFault (o .layout) (o .head .metrics .at) (inMetrics (o .layout) a) (o .head .metrics .count) b) where
+    unsound : r ≡ unsoundFault (o .layout) (o .head .metrics .at) (namesIn o (take k p)) (o .head .metrics .count)
         (part (o .head .strings) (take k p))
-    unsound = rw (← e, ← g) (f ∙ unsound-bytes _ _ a _ b)
+    unsound = rw (← e, ← g) f
 
     pub texts-refused : (i at : ℕ) (x : Refusal) → r ≡ At i at → x ≡ refusal 10 i at → decided (refuse x) ≡ run (textsPlan o) p
     texts-refused i at x q w = texts-are _ (reach-on k _ p _ h (check-refused 10 _ _ p i at r x unsound q w))
@@ -152,11 +151,8 @@ module _ (o : Opening) (p : List ℕ) (m k : ℕ) (required : k ≡ traceRequire
     abbrev s : List ℕ
     s = nexts a (traceEntry (o .layout)) n
 
-    given : LinkListAnswer (linkAt o) s m r buffer
-    given = rw from-section at w
-
     links-decide : linkChecks (linkAt o) s ≡ linksOf r
-    links-decide = sym (given .answer ∙ trace-room (linkAt o) s m (rw (length-nexts a (traceEntry (o .layout)) n, count) room))
+    links-decide = sym (w .answer ∙ trace-room (linkAt o) s m (rw (length-nexts a (traceEntry (o .layout)) n, count) room))
 
     lines-run : run (tracePlan o) p ≡ run (linesOf (astrayFault (linkAt o) s) (sharedFault (linkAt o) s) (cyclicFault (linkAt o) s) s) p
     unfolding tracePlan
@@ -177,7 +173,7 @@ module _ (o : Opening) (p : List ℕ) (m k : ℕ) (required : k ≡ traceRequire
     unfolding linkChecks
     trace-passed c q =
         let l = lines-accept (astrayFault (linkAt o) s) (sharedFault (linkAt o) s) (cyclicFault (linkAt o) s) (chains s) c s p (links-decide ∙ ap linksOf q) in
-        let t : buffer ≡ predecessors s m = given .holds ∙ ap (λ (d : Decision ℕ). held d s m) (sym (given .answer) ∙ ap linksOf q) in
+        let t : buffer ≡ predecessors s m = w .holds ∙ ap (λ (d : Decision ℕ). held d s m) (sym (w .answer) ∙ ap linksOf q) in
         record {
           passed = λ j z. let i : c ≡ j = cc in (s, lines-run ∙ l .0, sym i ∙ l .1, t);
           refused = λ f z. let y : _≡_ {A = ℕ} 0 1 = cc in absurd (omega arith);

@@ -34,7 +34,6 @@ after-firsts pairs entries i l = getD-tabulate entries (firstOf pairs) i end l
 
 -- the next indexes from where they are given
 pub length-from : (section pairs : List ℕ) (size entries : ℕ) → length (nextsFrom section pairs size entries) ≡ entries
-unfolding nextsFrom
 length-from section pairs size entries = go (eqb (length pairs) 0)
   where
     go : (b : Bool) → length (pick b (nexts section size entries) (firsts pairs entries)) ≡ entries
@@ -43,20 +42,15 @@ length-from section pairs size entries = go (eqb (length pairs) 0)
 
 pub after-from : (section pairs : List ℕ) (size entries i : ℕ) → i < entries
     → after (nextsFrom section pairs size entries) i ≡ nextFrom section pairs size i
-unfolding nextsFrom
 after-from section pairs size entries i l = go (eqb (length pairs) 0)
   where
     go : (b : Bool) → after (pick b (nexts section size entries) (firsts pairs entries)) i ≡ pick b (le 4 section (i * size)) (firstOf pairs i)
     go true = after-nexts section size entries i l
     go false = after-firsts pairs entries i l
 
--- with no pairs they are the section's, and with no section the pairs'
-pub from-section : (section : List ℕ) (size entries : ℕ) → nextsFrom section [] size entries ≡ nexts section size entries
-unfolding nextsFrom
-from-section section size entries = refl
-
+-- with no section they are the pairs'
 pub from-pairs : (pairs : List ℕ) (size entries : ℕ) → nextsFrom [] pairs size entries ≡ firsts pairs entries
-unfolding nextsFrom nexts firsts
+unfolding nexts firsts
 from-pairs [] size entries = tabulate-same entries _ _ (λ i l. le-past 4 [] (i * size) (omega arith))
 from-pairs (x ∷ xs) size entries = rw (ne-eqb (length (x ∷ xs)) 0 (λ e. absurd (omega arith)))
 

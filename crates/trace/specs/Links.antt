@@ -32,7 +32,7 @@ unfoldable pub firsts : List ℕ → ℕ → List ℕ
 firsts pairs entries = tabulate entries (λ i. firstOf pairs i)
 
 -- the next indexes where both are given: those of the pairs, or of the section where the table of pairs is empty
-unfoldable pub nextsFrom : List ℕ → List ℕ → ℕ → ℕ → List ℕ
+abbrev pub nextsFrom : List ℕ → List ℕ → ℕ → ℕ → List ℕ
 nextsFrom section pairs size entries = pick (eqb (length pairs) 0) (nexts section size entries) (firsts pairs entries)
 
 -- the entry after entry i; outside the list, the end

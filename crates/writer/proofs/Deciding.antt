@@ -21,7 +21,7 @@ use Rattle.trace.specs.declared.Links.the-variants as links
 use Rattle.trace.proofs.Steps.{length-firsts, from-pairs}
 use Rattle.volumes.specs.Volumes.{volumesFrom, volumesChecks}
 use Rattle.writer.specs.declared.Plan.{Plan}
-use Rattle.names.specs.Names.{misfitPair, unsoundPair}
+use Rattle.names.specs.Names.{inPairs, misfitFault, unsoundFault}
 use Rattle.incremental.proofs.Decision.{check-at, check-nowhere}
 use Rattle.writer.specs.declared.Given.{Given}
 use Rattle.writer.specs.LaidOut.{descriptionOf, metricsAt}
@@ -108,8 +108,8 @@ module _ (l : Layout) (p : Plan) (g : Given) (metrics trace strings volumes : Li
       >> (check 8 (entriesFault (g .«volume_count») (volumeEntry l) (length volumes)) >> tableChecks l p (g .«volume_count») metrics trace strings volumes))
   unfolding sectionChecks tableChecks
   in-turn =
-      let nine = check 9 (misfitPair l (metricsAt l) metrics (length metrics / 2) (length strings)) in
-      let ten = check 10 (unsoundPair l (metricsAt l) metrics (length metrics / 2) strings) in
+      let nine = check 9 (misfitFault l (metricsAt l) (inPairs metrics) (length metrics / 2) (length strings)) in
+      let ten = check 10 (unsoundFault l (metricsAt l) (inPairs metrics) (length metrics / 2) strings) in
       rw plan
       (ap (λ (d : Decision ℕ). check 7 (placesFault m (length trace / 2)) >> (check 8 (entriesFault (g .«volume_count») (volumeEntry l) (length volumes)) >> d))
       (sym (regroup nine ten _)))
