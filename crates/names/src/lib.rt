@@ -5,7 +5,6 @@ ghost use lib.ListN.{length};
 ghost use Rattle.little_endian.specs.Number.{le, zeroUnit};
 ghost use Rattle.names.specs.Names.{fits, sound, nameAt, nameUnits, nameFieldAt, namesFrom, misfitFault, unsoundFault};
 ghost use Rattle.names.specs.Private.{zeroIn, soundText};
-
 use incremental::Fault;
 use layout::Layout;
 

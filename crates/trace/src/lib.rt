@@ -10,7 +10,6 @@ ghost use Rattle.incremental.specs.Decision.{refusal};
 ghost use Rattle.trace.specs.Links.{end, nextsFrom, predecessors, LinkAnswer};
 ghost use Rattle.trace.specs.Private.{nextFrom, Distinct, Forward, firstCyclic, LinkedBuffer, FilledBuffer, FilledLinked};
 ghost use Rattle.trace.specs.Private.{TableBuilt, Stored, Passed, CyclesAnswered, LinksAnswered};
-
 use incremental::Fault;
 use incremental::Refusal;
 use lists::Found;
@@ -72,7 +71,13 @@ fn store_predecessor(buffer: &mut [u32], i: u32, next: u32, least: u32) -> u32
 // Checks 11 and 12: the first entry astray, or else the smallest entry that two entries name, or else the number of entries that
 // end a chain and whether every next index is above its own. All in one pass, since a large section has to come from memory each
 // time. A filled buffer becomes the table of predecessors where no entry is astray.
-fn store_predecessors(section: &[u8], pairs: &[u32], size: u16, entries: u32, buffer: &mut [u32]) -> Pass
+fn store_predecessors(
+    section: &[u8],
+    pairs: &[u32],
+    size: u16,
+    entries: u32,
+    buffer: &mut [u32],
+) -> Pass
     requires { ⌜ FilledBuffer (nextsFrom (now section) (now pairs) size entries) (now buffer) ⌝ }
     ensures { λ r. ⌜ Passed (nextsFrom (now (section .entry)) (now (pairs .entry)) size entries) (length (now (buffer .entry))) r (now (buffer .exit)) ⌝ }
 {
@@ -185,7 +190,8 @@ fn check_order(
     forward: bool,
     buffer: &mut [u32],
 ) -> Links
-    requires { ⌜ TableBuilt (nextsFrom (now section) (now pairs) size entries) ends (now buffer) × (forward ≡ true → Forward (nextsFrom (now section) (now pairs) size entries)) ⌝ }
+    requires { ⌜ TableBuilt (nextsFrom (now section) (now pairs) size entries) ends (now buffer)
+        × (forward ≡ true → Forward (nextsFrom (now section) (now pairs) size entries)) ⌝ }
     ensures { λ r.
         ⌜ CyclesAnswered (entryOffset start size) (nextsFrom (now (section .entry)) (now (pairs .entry)) size entries) (length (now (buffer .entry))) r
         (now (buffer .exit)) ⌝ }
@@ -197,7 +203,14 @@ fn check_order(
 }
 
 // Checks 11 to 13 with a filled buffer.
-fn check_entries(section: &[u8], pairs: &[u32], start: u32, size: u16, entries: u32, buffer: &mut [u32]) -> Links
+fn check_entries(
+    section: &[u8],
+    pairs: &[u32],
+    start: u32,
+    size: u16,
+    entries: u32,
+    buffer: &mut [u32],
+) -> Links
     requires { ⌜ FilledBuffer (nextsFrom (now section) (now pairs) size entries) (now buffer) ⌝ }
     ensures { λ r.
         ⌜ LinksAnswered (entryOffset start size) (nextsFrom (now (section .entry)) (now (pairs .entry)) size entries) (length (now (buffer .entry))) r
@@ -236,7 +249,9 @@ pub fn check_links(
     entries: u32,
     predecessors: &mut [u32],
 ) -> Links
-    ensures { λ r. ⌜ LinkAnswer (now (section .entry)) (now (pairs .entry)) start size entries (length (now (predecessors .entry))) r (now (predecessors .exit)) ⌝ }
+    ensures { λ r.
+        ⌜ LinkAnswer (now (section .entry)) (now (pairs .entry)) start size entries (length (now (predecessors .entry))) r
+        (now (predecessors .exit)) ⌝ }
 {
     let places = predecessors.len();
     lists::fill(predecessors);

@@ -221,7 +221,8 @@ pub record SectionsAnswered (c : Decision ℕ) (s : List ℕ) (m : ℕ) (r : Lin
 -- checks 9 and 10, and 9 to 15
 abbrev pub nameChecks : Layout → List ℕ → List ℕ → ℕ → Decision Unit
 nameChecks l metrics strings entries =
-    check 9 (misfitFault l (metricsAt l) (inPairs metrics) entries (length strings)) >> check 10 (unsoundFault l (metricsAt l) (inPairs metrics) entries strings)
+    check 9 (misfitFault l (metricsAt l) (inPairs metrics) entries (length strings))
+    >> check 10 (unsoundFault l (metricsAt l) (inPairs metrics) entries strings)
 
 unfoldable pub tableChecks : Layout → Plan → ℕ → List ℕ → List ℕ → List ℕ → List ℕ → Decision ℕ
 tableChecks l p count metrics trace strings volumes = do

@@ -95,7 +95,14 @@ fn check_names(l: Layout, metrics: &[u32], entries: u32, strings: &[u8]) -> Chec
     ensures { λ r. ⌜ checkedOf r ≡ nameChecks l (now (metrics .entry)) (now (strings .entry)) entries ⌝ }
 {
     let start = l.first_section as u32;
-    if let Fault::At(i, at) = names::misfit_fault(&NO_BYTES, metrics, l, start, entries, strings.len()) {
+    if let Fault::At(i, at) = names::misfit_fault(
+        &NO_BYTES,
+        metrics,
+        l,
+        start,
+        entries,
+        strings.len(),
+    ) {
         return Checked::Refused(incremental::refuse(9, i, at));
     }
     if let Fault::At(i, at) = names::unsound_fault(&NO_BYTES, metrics, l, start, entries, strings) {
@@ -123,7 +130,14 @@ fn check_tables(
     if let Checked::Refused(r) = check_names(l, metrics, p.metrics, strings) {
         return Links::Refused(r);
     }
-    let chains = match trace::check_links(&NO_BYTES, trace, p.trace_at, l.trace_entry, p.trace, predecessors) {
+    let chains = match trace::check_links(
+        &NO_BYTES,
+        trace,
+        p.trace_at,
+        l.trace_entry,
+        p.trace,
+        predecessors,
+    ) {
         Links::Chains(n) => n,
         Links::Refused(r) => return Links::Refused(r),
     };

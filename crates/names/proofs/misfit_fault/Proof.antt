@@ -11,7 +11,8 @@ use Rattle.names.proofs.misfit_fault.Statement.{statement}
 use Rattle.names.proofs.misfit_fault.Tie as tie
 
 abbrev Inv-loop : tie.InvT-loop
-Inv-loop metrics pairs l start entries size i₀ i = PassedTo entries (failsAt (fits size) (namesFrom l metrics pairs .offset) (namesFrom l metrics pairs .units)) i
+Inv-loop metrics pairs l start entries size i₀ i =
+    PassedTo entries (failsAt (fits size) (namesFrom l metrics pairs .offset) (namesFrom l metrics pairs .units)) i
 
 abbrev μ-loop : tie.MeasureT-loop
 μ-loop metrics pairs l start entries size i₀ i = entries - i

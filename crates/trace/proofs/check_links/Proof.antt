@@ -34,8 +34,8 @@ returns-2 c =
     let fill = places .before .before .before in
     let a = fill .before .before .before .before .before .args in
     let r = c .before .before .check-entries in
-    answer-links _ _ _ _ (length-from (a .section .now) (a .pairs .now) (a .size) (a .entries)) _ _ (places .places-fault .ensures) _ (told .enum-told .given .1)
-    (rw (fill .fill .kept .0) at (r .ensures))
+    answer-links _ _ _ _ (length-from (a .section .now) (a .pairs .now) (a .size) (a .entries)) _ _ (places .places-fault .ensures) _
+    (told .enum-told .given .1) (rw (fill .fill .kept .0) at (r .ensures))
 
 pub check-links-spec : {M : Type 1} → statement M
 check-links-spec =

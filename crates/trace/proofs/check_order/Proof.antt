@@ -16,7 +16,8 @@ returns : tie.Need-returns
 returns c =
     let a = c .before .before .before .before in
     let s = nextsFrom (a .args .section .now) (a .args .pairs .now) (a .args .size) (a .args .entries) in
-    let small : length s ≤ end = omega (arith, length-from (a .args .section .now) (a .args .pairs .now) (a .args .size) (a .args .entries), a .fits .entries) in
+    let small : length s ≤ end =
+    omega (arith, length-from (a .args .section .now) (a .args .pairs .now) (a .args .size) (a .args .entries), a .fits .entries) in
     let f = forward-acyclic s small (a .pre .0 .sound) (a .pre .1 (c .if1 .taken)) in
     answer-chains _ s _ _ (firstCyclic s) _ small (a .pre .0) refl f (a .pre .0 .table)
 

@@ -59,7 +59,8 @@ outer c = inner c .before .before .before
 next-is : (c : Next) → c .next-at .result ≡ after (links (outer c)) (inner c .before .loop .j)
 next-is c =
     let a = start (outer c) .args in
-    c .next-at .ensures ∙ sym (after-from (a .section .now) (a .pairs .now) (a .size) (a .entries) (inner c .before .loop .j) (omega (arith, entry (inner c), size (outer c))))
+    c .next-at .ensures
+    ∙ sym (after-from (a .section .now) (a .pairs .now) (a .size) (a .entries) (inner c .before .loop .j) (omega (arith, entry (inner c), size (outer c))))
 
 -- the two ways out: after the last entry, and from a walk that came back to its first entry
 all : (c : tie.At-entries Inv-loop μ-loop Inv-entries μ-entries) → start c .args .entries ≤ c .entries .i

@@ -8,7 +8,8 @@ use Rattle.writer.proofs.write.check_names.Tie as tie
 
 returns : tie.Need-returns
 returns c =
-    let arm = c .before .before in check-at _ _ _ _ _ _ _ (rw names-pairs at (arm .before .before .misfit-fault .ensures)) (arm .i .given .1) (c .refuse .ensures)
+    let arm = c .before .before in
+    check-at _ _ _ _ _ _ _ (rw names-pairs at (arm .before .before .misfit-fault .ensures)) (arm .i .given .1) (c .refuse .ensures)
 
 returns-2 : tie.Need-returns-2
 returns-2 c =
