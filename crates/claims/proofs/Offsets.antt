@@ -37,7 +37,7 @@ use Rattle.head.specs.Opened.{StartFacts, OpenFacts}
 use Rattle.head.specs.declared.checks.Start.{Start}
 use Rattle.head.specs.declared.checks.Opening.{Opening}
 use Rattle.head.proofs.Facts.{Shapes, form-take, form-facts, start-facts, open-facts, open-sound, open-shapes}
-use Rattle.names.specs.Names.{nameAt, nameUnits, nameFieldAt, fits, sound as soundText, misfitFault, unsoundFault}
+use Rattle.names.specs.Names.{Named, nameFieldAt, fits, sound as soundText, misfitFault, unsoundFault}
 use Rattle.trace.specs.Links.{astray, shared, cyclic}
 use Rattle.trace.proofs.Steps.{length-nexts}
 use Rattle.volumes.proofs.Fair.{fair-volumes}
@@ -242,15 +242,15 @@ module _ (p : List ℕ) (m : ℕ) where
         (sound .name-offset) (omega arith) (omega (arith, a .1)) in
         row n i at (a .0 ∙ e i) (omega (arith, a .0, c))
 
-    misfit-row : (e : List ℕ) (size : ℕ) → h .metrics .end ≤ length p → (i at : ℕ) → misfitFault l (h .metrics .at) e (h .metrics .count) size ≡ At i at
+    misfit-row : (e : Named) (size : ℕ) → h .metrics .end ≤ length p → (i at : ℕ) → misfitFault l (h .metrics .at) e (h .metrics .count) size ≡ At i at
         → Placed p (refusal 9 i at)
     unfolding misfitFault
-    misfit-row e size k = name-row 9 (λ i. not (fits size (nameAt l e i) (nameUnits l e i))) (λ i. refl) k
+    misfit-row e size k = name-row 9 (λ i. not (fits size (e .offset i) (e .units i))) (λ i. refl) k
 
-    unsound-row : (e s : List ℕ) → h .metrics .end ≤ length p → (i at : ℕ) → unsoundFault l (h .metrics .at) e (h .metrics .count) s ≡ At i at
+    unsound-row : (e : Named) (s : List ℕ) → h .metrics .end ≤ length p → (i at : ℕ) → unsoundFault l (h .metrics .at) e (h .metrics .count) s ≡ At i at
         → Placed p (refusal 10 i at)
     unfolding unsoundFault
-    unsound-row e s k = name-row 10 (λ i. not (soundText s (nameAt l e i) (nameUnits l e i))) (λ i. refl) k
+    unsound-row e s k = name-row 10 (λ i. not (soundText s (e .offset i) (e .units i))) (λ i. refl) k
 
     fits-placed : Each (λ _. h .metrics .end ≤ length p) (Placed p) (run (fitsPlan o) p)
     unfolding fitsPlan

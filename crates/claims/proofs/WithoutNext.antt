@@ -31,7 +31,7 @@ use Rattle.head.specs.Rules.{Within, Separate}
 use Rattle.head.specs.declared.checks.Opening.{Opening}
 use Rattle.head.proofs.Rules.{outside-law, shares-law}
 use Rattle.head.proofs.Facts.{Shapes, open-facts, open-sound, open-shapes}
-use Rattle.names.specs.Names.{misfitFault, unsoundFault}
+use Rattle.names.specs.Names.{inMetrics, misfitFault, unsoundFault}
 use Rattle.lists.specs.Filled.{filled}
 use Rattle.trace.specs.Links.{end, nexts, chains, predecessor, predecessors}
 use Rattle.volumes.specs.Volumes.{volumesFrom}
@@ -207,7 +207,7 @@ module _ (p q : List ℕ) (o : Opening) (f : OpenFacts p o) (h : SameOutside (o 
       reach-same (o .head .metrics .end) _
       (check-same 9 _ _
       (misfit-take p o f
-      ∙ (λ i. misfitFault (o .layout) (o .head .metrics .at) (metrics-same i) (o .head .metrics .count) (o .head .strings .len))
+      ∙ (λ i. misfitFault (o .layout) (o .head .metrics .at) (inMetrics (o .layout) (metrics-same i)) (o .head .metrics .count) (o .head .strings .len))
       ∙ sym (misfit-take q o opens-too)))
 
   texts-same : run (textsPlan o) p ≡ run (textsPlan o) q
@@ -216,7 +216,7 @@ module _ (p q : List ℕ) (o : Opening) (f : OpenFacts p o) (h : SameOutside (o 
       reach-same (namesRequired (o .layout) (o .head)) _
       (check-same 10 _ _
       (unsound-take p o f
-      ∙ (λ i. unsoundFault (o .layout) (o .head .metrics .at) (metrics-same i) (o .head .metrics .count) (strings-same i))
+      ∙ (λ i. unsoundFault (o .layout) (o .head .metrics .at) (inMetrics (o .layout) (metrics-same i)) (o .head .metrics .count) (strings-same i))
       ∙ sym (unsound-take q o opens-too)))
 
   volumes-stage : run (volumesPlan o) p ≡ run (volumesPlan o) q

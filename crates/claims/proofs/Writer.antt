@@ -28,7 +28,7 @@ use Rattle.sections.specs.Fields.{placesFault, entriesFault}
 use Rattle.head.specs.Checks.{openPlan}
 use Rattle.head.specs.declared.checks.Opening.{Opening}
 use Rattle.head.proofs.Facts.{open-complete}
-use Rattle.names.specs.Names.{misfitPair, unsoundPair}
+use Rattle.names.specs.Names.{inPairs, misfitFault, unsoundFault}
 use Rattle.trace.specs.Links.{astrayFault, sharedFault, cyclicFault, linkChecks, chains}
 use Rattle.volumes.specs.Volumes.{volumesFrom}
 use Rattle.volumes.proofs.Fair.{fair-volumes}
@@ -125,8 +125,8 @@ unfolding sectionChecks
 fair-sections l d m =
     fair-line 7 (placesFault m (pairs (d .trace))) _ (omega arith) (omega arith)
     (fair-line 8 (entriesFault (d .volumeCount) (volumeEntry l) (length (d .volumes))) _ (omega arith) (omega arith)
-    (fair-line 9 (misfitPair l (metricsAt l) (d .metrics) (pairs (d .metrics)) (length (d .strings))) _ (omega arith) (omega arith)
-    (fair-line 10 (unsoundPair l (metricsAt l) (d .metrics) (pairs (d .metrics)) (d .strings)) _ (omega arith) (omega arith)
+    (fair-line 9 (misfitFault l (metricsAt l) (inPairs (d .metrics)) (pairs (d .metrics)) (length (d .strings))) _ (omega arith) (omega arith)
+    (fair-line 10 (unsoundFault l (metricsAt l) (inPairs (d .metrics)) (pairs (d .metrics)) (d .strings)) _ (omega arith) (omega arith)
     (fair-bind (linkChecks (entryOffset (traceAt l d) (traceEntry l)) (linksIn d)) _ (fair-links _ _) λ n.
     fair-then Middle (volumesFrom (d .volumes) l (volumesAt l d) (d .volumeCount) 0) _
     (fair-volumes Middle _ l _ _ 0 (λ k _ _. ((omega arith, omega arith), (omega arith, omega arith)))) (fair-accept Middle n)))))

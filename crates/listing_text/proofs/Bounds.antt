@@ -36,7 +36,7 @@ use Rattle.head.specs.Opened.{OpenFacts}
 use Rattle.head.proofs.Facts.{open-facts}
 use Rattle.head.specs.declared.checks.Start.{Start}
 use Rattle.head.specs.declared.checks.Opening.{Opening}
-use Rattle.names.specs.Names.{misfitFault, unsoundFault}
+use Rattle.names.specs.Names.{Named, misfitFault, unsoundFault}
 use Rattle.trace.specs.Links as links
 use Rattle.trace.proofs.Steps.{length-nexts}
 use Rattle.reader.specs.Verdict.{Acceptable, Values, Reads, valuesOf, answerValues, acceptedValues}
@@ -104,13 +104,13 @@ low-entries : (n entry size : ℕ) → LowFault (entriesFault n entry size)
 unfolding entriesFault
 low-entries n entry size = low-fault 0 _ (ltb size (n * entry)) (omega arith)
 
-low-misfit : (l : Layout) (start : ℕ) (metrics : List ℕ) (n size : ℕ) → n < 2 ^ 32 → LowFault (misfitFault l start metrics n size)
+low-misfit : (l : Layout) (start : ℕ) (names : Named) (n size : ℕ) → n < 2 ^ 32 → LowFault (misfitFault l start names n size)
 unfolding misfitFault
-low-misfit l start metrics n size h = low-from _ _ n 0 (omega arith)
+low-misfit l start names n size h = low-from _ _ n 0 (omega arith)
 
-low-unsound : (l : Layout) (start : ℕ) (metrics : List ℕ) (n : ℕ) (strings : List ℕ) → n < 2 ^ 32 → LowFault (unsoundFault l start metrics n strings)
+low-unsound : (l : Layout) (start : ℕ) (names : Named) (n : ℕ) (strings : List ℕ) → n < 2 ^ 32 → LowFault (unsoundFault l start names n strings)
 unfolding unsoundFault
-low-unsound l start metrics n strings h = low-from _ _ n 0 (omega arith)
+low-unsound l start names n strings h = low-from _ _ n 0 (omega arith)
 
 -- ---- all checks
 

@@ -1,7 +1,7 @@
 -- Laws on the names of metrics entries: what each way through the code decides, and what a sound name is.
 use mathlib.Core.Path.{_≡_, refl, sym, ap, _∙_}
 use mathlib.Core.Bool.{Bool, true, false, not, _&&_, _||_}
-use mathlib.Core.List.{List}
+use mathlib.Core.List.{List, [], _∷_}
 use mathlib.Core.Logic.{_↔_}
 use Prim.Native.Nat.{ℕ, _+_, _*_, _-_, _≤_, _<_}
 use native.Mathlib.Omega.{arith}
@@ -12,7 +12,10 @@ use Rattle.lists.specs.Count.{anyBelow}
 use Rattle.lists.specs.First.{first, firstFrom}
 use Rattle.lists.proofs.Count.{any-yes, any-no, any-true, any-eight, true-false, any-false}
 use Rattle.little_endian.specs.Number.{le, zeroUnit}
-use Rattle.names.specs.Names.{fits, sound, SoundName}
+use Rattle.little_endian.proofs.Number.{le-past}
+use Rattle.layout.specs.Versions.{metricsEntry, nameOffsetAt, nameLengthAt}
+use Rattle.layout.specs.declared.Layout.{Layout}
+use Rattle.names.specs.Names.{fits, sound, inPairs, namesFrom, SoundName}
 use Rattle.names.specs.Private.{zeroIn, soundText}
 
 -- One unit, by its bytes
@@ -101,6 +104,15 @@ failsAt test f g i = not (test (f i) (g i))
 pub fails-at : (test : ℕ → ℕ → Bool) (f g : ℕ → ℕ) (i : ℕ) {at units : ℕ} {r : Bool}
     → at ≡ f i → units ≡ g i → r ≡ test at units → failsAt test f g i ≡ not r
 fails-at test f g i a u e = rw (← a, ← u, ← e)
+
+-- with no metrics array the names are those of the pairs
+no-bytes : (at : ℕ) → le 4 [] at ≡ 0
+no-bytes at = le-past 4 [] at (omega arith)
+
+pub names-pairs : (l : Layout) (pairs : List ℕ) → namesFrom l [] pairs ≡ inPairs pairs
+names-pairs l [] = λ k.
+    record { offset = λ i. no-bytes (i * metricsEntry l + nameOffsetAt l) k; units = λ i. no-bytes (i * metricsEntry l + nameLengthAt l) k }
+names-pairs l (x ∷ xs) = rw (ne-eqb (length (x ∷ xs)) 0 (λ e. absurd (omega arith)))
 
 -- each of the first i entries passes: the first of all n that fails is the first from i on
 abbrev pub PassedTo : ℕ → (ℕ → Bool) → ℕ → Type 0

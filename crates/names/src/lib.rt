@@ -3,15 +3,10 @@ ghost use mathlib.Core.Path.{_≡_};
 ghost use Prim.Native.Nat.{_+_, _*_, _≤_};
 ghost use lib.ListN.{length};
 ghost use Rattle.little_endian.specs.Number.{le, zeroUnit};
-ghost use Rattle.names.specs.Names.{fits, sound, nameAt, nameUnits, nameFieldAt, misfitFault, unsoundFault};
+ghost use Rattle.names.specs.Names.{fits, sound, nameAt, nameUnits, nameFieldAt, namesFrom, misfitFault, unsoundFault};
 ghost use Rattle.names.specs.Private.{zeroIn, soundText};
-
-mod pairs;
-
 use incremental::Fault;
 use layout::Layout;
-pub use pairs::misfit_pair;
-pub use pairs::unsound_pair;
 
 // Whether a name of so many units at an offset fits a strings section of that size, with its zero unit.
 pub fn name_fits(size: usize, at: u32, units: u32) -> bool
@@ -104,6 +99,26 @@ pub fn name_units(metrics: &[u8], l: Layout, i: u32) -> u32
     entry_field(metrics, l.metrics_entry, l.name_length_at, i)
 }
 
+// The offset of the name of entry i: the first number of pair i, or where no pairs are given that of the metrics entry.
+fn offset_from(metrics: &[u8], pairs: &[u32], l: Layout, i: u32) -> u32
+    ensures { λ r. ⌜ r ≡ namesFrom l (now (metrics .entry)) (now (pairs .entry)) .offset i ⌝ }
+{
+    if pairs.len() == 0 {
+        return name_at(metrics, l, i);
+    }
+    lists::number_at(pairs, 2 * (i as usize))
+}
+
+// The length of that name in units, which is a pair's second number.
+fn units_from(metrics: &[u8], pairs: &[u32], l: Layout, i: u32) -> u32
+    ensures { λ r. ⌜ r ≡ namesFrom l (now (metrics .entry)) (now (pairs .entry)) .units i ⌝ }
+{
+    if pairs.len() == 0 {
+        return name_units(metrics, l, i);
+    }
+    lists::number_at(pairs, 2 * (i as usize) + 1)
+}
+
 // Where in the file the name-offset field of entry i stands, in a metrics array that starts at `start`.
 fn name_field_at(l: Layout, start: u32, i: u32) -> usize
     ensures { λ r. ⌜ r ≡ nameFieldAt l start i ⌝ }
@@ -112,13 +127,20 @@ fn name_field_at(l: Layout, start: u32, i: u32) -> usize
 }
 
 // Check 9: the first entry whose name does not fit a strings section of that size. The metrics start at `start` in the file.
-pub fn misfit_fault(metrics: &[u8], l: Layout, start: u32, entries: u32, size: usize) -> Fault
-    ensures { λ r. ⌜ r ≡ misfitFault l start (now (metrics .entry)) entries size ⌝ }
+pub fn misfit_fault(
+    metrics: &[u8],
+    pairs: &[u32],
+    l: Layout,
+    start: u32,
+    entries: u32,
+    size: usize,
+) -> Fault
+    ensures { λ r. ⌜ r ≡ misfitFault l start (namesFrom l (now (metrics .entry)) (now (pairs .entry))) entries size ⌝ }
 {
     let mut i = 0;
     while i < entries {
-        let at = name_at(metrics, l, i);
-        let units = name_units(metrics, l, i);
+        let at = offset_from(metrics, pairs, l, i);
+        let units = units_from(metrics, pairs, l, i);
         if !name_fits(size, at, units) {
             return Fault::At(i as usize, name_field_at(l, start, i));
         }
@@ -128,13 +150,20 @@ pub fn misfit_fault(metrics: &[u8], l: Layout, start: u32, entries: u32, size: u
 }
 
 // Check 10: the first entry whose name is not sound.
-pub fn unsound_fault(metrics: &[u8], l: Layout, start: u32, entries: u32, strings: &[u8]) -> Fault
-    ensures { λ r. ⌜ r ≡ unsoundFault l start (now (metrics .entry)) entries (now (strings .entry)) ⌝ }
+pub fn unsound_fault(
+    metrics: &[u8],
+    pairs: &[u32],
+    l: Layout,
+    start: u32,
+    entries: u32,
+    strings: &[u8],
+) -> Fault
+    ensures { λ r. ⌜ r ≡ unsoundFault l start (namesFrom l (now (metrics .entry)) (now (pairs .entry))) entries (now (strings .entry)) ⌝ }
 {
     let mut i = 0;
     while i < entries {
-        let at = name_at(metrics, l, i);
-        let units = name_units(metrics, l, i);
+        let at = offset_from(metrics, pairs, l, i);
+        let units = units_from(metrics, pairs, l, i);
         if !name_sound(strings, at, units) {
             return Fault::At(i as usize, name_field_at(l, start, i));
         }

@@ -48,7 +48,7 @@ use Rattle.volumes.specs.Volumes.{entryAt, volumesFrom}
 use Rattle.volumes.specs.SoundVolume.{SoundVolume}
 use Rattle.volumes.proofs.SoundVolume.{volumes-sound}
 use Rattle.reader.specs.Verdict.{Acceptable}
-use Rattle.reader.specs.Checks.{nextsIn, linkAt, timeAt, recordOf, traceRequired, volumesRequired}
+use Rattle.reader.specs.Checks.{namesIn, nextsIn, linkAt, timeAt, recordOf, traceRequired, volumesRequired}
 use Rattle.reader.specs.Checks.{namesRequired, prefixAnswer, sizeOf, sized, whole}
 use Rattle.reader.specs.Checks.{countsPlan, fitsPlan, textsPlan, tracePlan, volumesPlan, restPlan, readPlan}
 use Rattle.reader.specs.Private.{EntriesFit}
@@ -188,10 +188,10 @@ module _ (s : List ℕ) (n : ℕ) (size : length s ≡ n) (small : n ≤ end) wh
 module _ (p : List ℕ) (o : Opening) (f : OpenFacts p o) where
   -- the faults that checks 9, 10, 14 and 15 find in the whole bytes
   abbrev misfitIn : List ℕ → Fault
-  misfitIn b = misfitFault (o .layout) (o .head .metrics .at) (part (o .head .metrics) b) (o .head .metrics .count) (o .head .strings .len)
+  misfitIn b = misfitFault (o .layout) (o .head .metrics .at) (namesIn o b) (o .head .metrics .count) (o .head .strings .len)
 
   abbrev unsoundIn : List ℕ → Fault
-  unsoundIn b = unsoundFault (o .layout) (o .head .metrics .at) (part (o .head .metrics) b) (o .head .metrics .count) (part (o .head .strings) b)
+  unsoundIn b = unsoundFault (o .layout) (o .head .metrics .at) (namesIn o b) (o .head .metrics .count) (part (o .head .strings) b)
 
   abbrev volumesIn : List ℕ → Decision Unit
   volumesIn b = volumesFrom (part (o .head .volumes) b) (o .layout) (o .head .volumes .at) (o .head .volumes .count) 0

@@ -30,7 +30,7 @@ use Rattle.reader.specs.declared.verdict.Verdict.{Verdict}
 use Rattle.reader.specs.declared.verdict.Verdict.the-variants.{Accepted, Refused, Wanted}
 use Rattle.reader.specs.Verdict.{Acceptable, Reads, valuesOf, answerValues, wantedValues, bufferAfter}
 use Rattle.reader.proofs.Values.{same-values, wanted-answer}
-use Rattle.reader.specs.Checks.{nextsIn, linkAt, traceRequired, volumesRequired, namesRequired, prefixAnswer, ReadsPrefix}
+use Rattle.reader.specs.Checks.{namesIn, nextsIn, linkAt, traceRequired, volumesRequired, namesRequired, prefixAnswer, ReadsPrefix}
 use Rattle.reader.specs.Checks.{countsPlan, fitsPlan, textsPlan, tracePlan, volumesPlan, restPlan, readPlan}
 use Rattle.reader.specs.Early.{EarlyStands}
 
@@ -71,7 +71,7 @@ module _ (p : List ℕ) (o : Opening) (f : OpenFacts p o) (d : declaredSize p �
   decided-fits =
       let b = take (o .head .metrics .end) p in
       decided-reach (o .head .metrics .end) _ p (le-trans (f .metrics) d)
-      (decided-check 9 (misfitFault (o .layout) (o .head .metrics .at) (part (o .head .metrics) b) (o .head .metrics .count) (o .head .strings .len)) _ p
+      (decided-check 9 (misfitFault (o .layout) (o .head .metrics .at) (namesIn o b) (o .head .metrics .count) (o .head .strings .len)) _ p
       λ _. decided-decide _ p)
 
   decided-texts : Decided (run (textsPlan o) p)
@@ -80,7 +80,7 @@ module _ (p : List ℕ) (o : Opening) (f : OpenFacts p o) (d : declaredSize p �
       let k = namesRequired (o .layout) (o .head) in
       let b = take k p in
       decided-reach k _ p (le-trans (names-required-low p o f) d)
-      (decided-check 10 (unsoundFault (o .layout) (o .head .metrics .at) (part (o .head .metrics) b) (o .head .metrics .count) (part (o .head .strings) b)) _ p
+      (decided-check 10 (unsoundFault (o .layout) (o .head .metrics .at) (namesIn o b) (o .head .metrics .count) (part (o .head .strings) b)) _ p
       λ _. decided-decide _ p)
 
   decided-trace : Decided (run (tracePlan o) p)

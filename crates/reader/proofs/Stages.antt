@@ -1,6 +1,6 @@
 -- The stages from check 7 on, by what the calls in their code gave: each way out of a stage is a run of its plan.
 use mathlib.Core.Path.{_≡_, refl, sym, ap, _∙_}
-use mathlib.Core.List.{List}
+use mathlib.Core.List.{List, []}
 use Prim.Native.Nat.{ℕ, _*_, _≤_, _<_}
 use native.Mathlib.Decide.{ℕ-discrete}
 use native.Mathlib.Nat.{zero-mul}
@@ -27,7 +27,7 @@ use Rattle.head.specs.Opened.{OpenFacts}
 use Rattle.head.proofs.Rules.{part-length}
 use Rattle.head.proofs.Facts.{open-shapes}
 use Rattle.head.specs.declared.checks.Opening.{Opening}
-use Rattle.names.specs.Names.{misfitFault, unsoundFault}
+use Rattle.names.specs.Names.{inMetrics, misfitFault, unsoundFault}
 use Rattle.trace.specs.Links.{nexts, astrayFault, sharedFault, cyclicFault, linkChecks, chains, predecessors, linksOf, LinkAnswer, held}
 use Rattle.trace.proofs.Accepted.{trace-room}
 use Rattle.trace.proofs.Steps.{length-nexts}
@@ -39,7 +39,7 @@ use Rattle.reader.specs.declared.checks.TraceOutcome.{TraceOutcome}
 use Rattle.reader.specs.declared.checks.TraceOutcome.the-variants as outcome
 use Rattle.reader.specs.declared.verdict.Acceptance.{Acceptance}
 use Rattle.reader.specs.Verdict.{Acceptable}
-use Rattle.reader.specs.Checks.{traceRequired, namesRequired, volumesRequired, linkAt, recordOf}
+use Rattle.reader.specs.Checks.{namesIn, traceRequired, namesRequired, volumesRequired, linkAt, recordOf}
 use Rattle.reader.specs.Checks.{countsPlan, fitsPlan, textsPlan, tracePlan, volumesPlan, restPlan}
 use Rattle.reader.specs.Private.{TraceAnswer, EntriesFit}
 
@@ -71,8 +71,8 @@ module _ (o : Opening) (p : List ℕ) where
   fits-short h = reach-wants _ _ p h
 
   module _ (a : List ℕ) (h : o .head .metrics .end ≤ length p) (e : a ≡ part (o .head .metrics) (take (o .head .metrics .end) p)) (r : Fault)
-      (f : r ≡ misfitFault (o .layout) (o .head .metrics .at) a (o .head .metrics .count) (o .head .strings .len)) where
-    misfit : r ≡ misfitFault (o .layout) (o .head .metrics .at) (part (o .head .metrics) (take (o .head .metrics .end) p)) (o .head .metrics .count)
+      (f : r ≡ misfitFault (o .layout) (o .head .metrics .at) (inMetrics (o .layout) a) (o .head .metrics .count) (o .head .strings .len)) where
+    misfit : r ≡ misfitFault (o .layout) (o .head .metrics .at) (namesIn o (take (o .head .metrics .end) p)) (o .head .metrics .count)
         (o .head .strings .len)
     misfit = rw (← e) f
 
@@ -88,7 +88,7 @@ module _ (o : Opening) (p : List ℕ) where
 abbrev textsAt : ℕ → Opening → Plan Unit
 textsAt k o = do
   b ← reach k
-  check 10 (unsoundFault (o .layout) (o .head .metrics .at) (part (o .head .metrics) b) (o .head .metrics .count) (part (o .head .strings) b))
+  check 10 (unsoundFault (o .layout) (o .head .metrics .at) (namesIn o b) (o .head .metrics .count) (part (o .head .strings) b))
   done tt
 
 module _ (o : Opening) (p : List ℕ) (k : ℕ) (at : k ≡ namesRequired (o .layout) (o .head)) where
@@ -100,8 +100,8 @@ module _ (o : Opening) (p : List ℕ) (k : ℕ) (at : k ≡ namesRequired (o .la
   texts-short h = texts-are _ (reach-wants k _ p h)
 
   module _ (a b : List ℕ) (h : k ≤ length p) (e : a ≡ part (o .head .metrics) (take k p)) (g : b ≡ part (o .head .strings) (take k p)) (r : Fault)
-      (f : r ≡ unsoundFault (o .layout) (o .head .metrics .at) a (o .head .metrics .count) b) where
-    unsound : r ≡ unsoundFault (o .layout) (o .head .metrics .at) (part (o .head .metrics) (take k p)) (o .head .metrics .count)
+      (f : r ≡ unsoundFault (o .layout) (o .head .metrics .at) (inMetrics (o .layout) a) (o .head .metrics .count) b) where
+    unsound : r ≡ unsoundFault (o .layout) (o .head .metrics .at) (namesIn o (take k p)) (o .head .metrics .count)
         (part (o .head .strings) (take k p))
     unsound = rw (← e, ← g) f
 
@@ -147,7 +147,7 @@ module _ (o : Opening) (p : List ℕ) (m k : ℕ) (required : k ≡ traceRequire
 
   module _ (a : List ℕ) (h : k ≤ length p) (e : a ≡ part (o .head .trace) (take k p)) (n : ℕ) (count : n ≡ linkCount (o .layout) (o .head))
       (room : linkCount (o .layout) (o .head) ≤ m) (r : Links) (buffer : List ℕ)
-      (w : LinkAnswer a (o .head .trace .at) (traceEntry (o .layout)) n m r buffer) where
+      (w : LinkAnswer a [] (o .head .trace .at) (traceEntry (o .layout)) n m r buffer) where
     abbrev s : List ℕ
     s = nexts a (traceEntry (o .layout)) n
 

@@ -19,7 +19,7 @@ use Rattle.sections.specs.Fields.{declaredSize, storedHash, part, linkCount, pl
 use Rattle.sections.specs.declared.Head.{Head}
 use Rattle.head.specs.Checks.{openPlan}
 use Rattle.head.specs.declared.checks.Opening.{Opening}
-use Rattle.names.specs.Names.{misfitFault, unsoundFault}
+use Rattle.names.specs.Names.{Named, inMetrics, misfitFault, unsoundFault}
 use Rattle.trace.specs.Links as links
 use Rattle.volumes.specs.Volumes.{volumesFrom}
 use Rattle.reader.specs.declared.verdict.RunTimes.{RunTimes}
@@ -40,6 +40,10 @@ traceRequired l h = pick (hasNext l) (h .trace .end) (headEnd l)
 -- the reach of 14 and 15: the volumes end; with no volume H
 abbrev pub volumesRequired : Layout → Head → ℕ
 volumesRequired l h = pick (eqb (h .volumes .count) 0) (headEnd l) (h .volumes .end)
+
+-- the names of the metrics entries
+abbrev pub namesIn : Opening → List ℕ → Named
+namesIn o b = inMetrics (o .layout) (part (o .head .metrics) b)
 
 -- the next indexes of the trace section, of the entries that have one
 abbrev pub nextsIn : Opening → List ℕ → List ℕ
@@ -100,14 +104,14 @@ countsPlan m o = do
 unfoldable pub fitsPlan : Opening → Plan Unit
 fitsPlan o = do
   b ← reach (o .head .metrics .end)
-  check 9 (misfitFault (o .layout) (o .head .metrics .at) (part (o .head .metrics) b) (o .head .metrics .count) (o .head .strings .len))
+  check 9 (misfitFault (o .layout) (o .head .metrics .at) (namesIn o b) (o .head .metrics .count) (o .head .strings .len))
   done tt
 
 -- CHECK 10
 unfoldable pub textsPlan : Opening → Plan Unit
 textsPlan o = do
   b ← reach (namesRequired (o .layout) (o .head))
-  check 10 (unsoundFault (o .layout) (o .head .metrics .at) (part (o .head .metrics) b) (o .head .metrics .count) (part (o .head .strings) b))
+  check 10 (unsoundFault (o .layout) (o .head .metrics .at) (namesIn o b) (o .head .metrics .count) (part (o .head .strings) b))
   done tt
 
 -- CHECKS 11 TO 13; they give the next indexes

@@ -20,6 +20,9 @@ use incremental::Outcome;
 use incremental::Refusal;
 use trace::Links;
 
+// A file has entries and no table of pairs.
+const NO_PAIRS: [u32; 0] = [];
+
 // What checks 11 to 13 answer on a prefix: the chain count, where they pass.
 enum TraceOutcome {
     Chains(usize),
@@ -67,13 +70,14 @@ fn check_fits(file: &[u8], o: Opening) -> Outcome
 {
     let l = o.layout;
     let metrics = o.head.metrics;
+    let count = metrics.count;
     let size = o.head.strings.len;
     let required = metrics.end;
     if file.len() < required {
         return Outcome::Wanted(required);
     }
     let entries = sections::part_of(&file[..required], metrics);
-    if let Fault::At(i, at) = names::misfit_fault(entries, l, metrics.at, metrics.count, size) {
+    if let Fault::At(i, at) = names::misfit_fault(entries, &NO_PAIRS, l, metrics.at, count, size) {
         return Outcome::Refused(incremental::refuse(9, i, at));
     }
     Outcome::Passed
@@ -85,6 +89,7 @@ fn check_texts(file: &[u8], o: Opening) -> Outcome
 {
     let l = o.layout;
     let metrics = o.head.metrics;
+    let count = metrics.count;
     let strings = o.head.strings;
     let required = names_required(o);
     if file.len() < required {
@@ -92,7 +97,7 @@ fn check_texts(file: &[u8], o: Opening) -> Outcome
     }
     let entries = sections::part_of(&file[..required], metrics);
     let text = sections::part_of(&file[..required], strings);
-    if let Fault::At(i, at) = names::unsound_fault(entries, l, metrics.at, metrics.count, text) {
+    if let Fault::At(i, at) = names::unsound_fault(entries, &NO_PAIRS, l, metrics.at, count, text) {
         return Outcome::Refused(incremental::refuse(10, i, at));
     }
     Outcome::Passed
@@ -123,6 +128,7 @@ fn check_trace(file: &[u8], o: Opening, predecessors: &mut [u32]) -> TraceOutcom
     let links = sections::part_of(&file[..required], section);
     match trace::check_links(
         links,
+        &NO_PAIRS,
         section.at,
         l.trace_entry,
         sections::link_count(l, head),

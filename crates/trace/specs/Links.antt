@@ -31,6 +31,10 @@ nexts section size entries = tabulate entries (λ i. le 4 section (i * size))
 unfoldable pub firsts : List ℕ → ℕ → List ℕ
 firsts pairs entries = tabulate entries (λ i. firstOf pairs i)
 
+-- the next indexes where both are given: those of the pairs, or of the section where the table of pairs is empty
+abbrev pub nextsFrom : List ℕ → List ℕ → ℕ → ℕ → List ℕ
+nextsFrom section pairs size entries = pick (eqb (length pairs) 0) (nexts section size entries) (firsts pairs entries)
+
 -- the entry after entry i; outside the list, the end
 abbrev pub after : List ℕ → ℕ → ℕ
 after s i = getD s i end
@@ -119,6 +123,6 @@ pub record LinkDecision (d : Decision ℕ) (s : List ℕ) (m : ℕ) (r : Links) 
 abbrev pub LinkListAnswer : (ℕ → ℕ) → List ℕ → ℕ → Links → List ℕ → Type 0
 LinkListAnswer at s m r buffer = LinkDecision (traceChecks at s m) s m r buffer
 
--- the answer on a section that starts at `start` in the file
-abbrev pub LinkAnswer : List ℕ → ℕ → ℕ → ℕ → ℕ → Links → List ℕ → Type 0
-LinkAnswer section start size entries m r buffer = LinkListAnswer (entryOffset start size) (nexts section size entries) m r buffer
+-- the answer on a section, or the pairs of one, that starts at `start` in the file
+abbrev pub LinkAnswer : List ℕ → List ℕ → ℕ → ℕ → ℕ → ℕ → Links → List ℕ → Type 0
+LinkAnswer section pairs start size entries m r buffer = LinkListAnswer (entryOffset start size) (nextsFrom section pairs size entries) m r buffer

@@ -2,7 +2,7 @@
 use mathlib.Core.Path.{_≡_}
 use mathlib.Core.Bool.{Bool, true}
 use mathlib.Core.List.{List}
-use Prim.Native.Nat.{ℕ, _<_, _≤_, min}
+use Prim.Native.Nat.{ℕ, _*_, _<_, _≤_, min}
 use lib.ListN.{length, getD, set}
 use Rattle.trace.specs.Links.{end, after, InRange, astray, namers, shared, cyclic, sharedFault, cyclicFault}
 use Rattle.lists.specs.Filled.{filled}
@@ -12,10 +12,16 @@ use Rattle.lists.specs.declared.Found.{Found}
 use Rattle.lists.specs.declared.Found.the-variants.{At, Nothing}
 use Rattle.lists.specs.First.{first}
 use Rattle.lists.specs.Count.{pick}
+use Rattle.lists.specs.Pairs.{firstOf}
+use Rattle.little_endian.specs.Number.{le}
 use Rattle.incremental.specs.Decision.{Decision, accept, check, _>>_}
 use Rattle.trace.specs.declared.Links.{Links}
 use Rattle.trace.specs.declared.Pass.{Pass}
 use Rattle.trace.specs.declared.Pass.the-variants.{Astray, Shared, Clear}
+
+-- the next index of entry i: of pair i, or of the section where the table of pairs is empty
+abbrev pub nextFrom : List ℕ → List ℕ → ℕ → ℕ → ℕ
+nextFrom section pairs size i = pick (eqb (length pairs) 0) (le 4 section (i * size)) (firstOf pairs i)
 
 -- check 12 passed: no two entries name one entry
 abbrev pub Distinct : List ℕ → Type 0

@@ -2,22 +2,17 @@
 ghost use mathlib.Core.Path.{_≡_};
 ghost use mathlib.Core.Bool.{true};
 ghost use mathlib.Core.Logic.{_⊎_};
-ghost use Prim.Native.Nat.{_*_, _<_};
+ghost use Prim.Native.Nat.{_<_};
 ghost use lib.ListN.{length};
 ghost use Rattle.lists.specs.First.{foundBelow};
-ghost use Rattle.little_endian.specs.Number.{le};
 ghost use Rattle.layout.specs.Head.{entryOffset};
 ghost use Rattle.incremental.specs.Decision.{refusal};
-ghost use Rattle.trace.specs.Links.{end, nexts, predecessors, LinkAnswer};
-ghost use Rattle.trace.specs.Private.{Distinct, Forward, firstCyclic, LinkedBuffer, FilledBuffer, FilledLinked};
+ghost use Rattle.trace.specs.Links.{end, nextsFrom, predecessors, LinkAnswer};
+ghost use Rattle.trace.specs.Private.{nextFrom, Distinct, Forward, firstCyclic, LinkedBuffer, FilledBuffer, FilledLinked};
 ghost use Rattle.trace.specs.Private.{TableBuilt, Stored, Passed, CyclesAnswered, LinksAnswered};
-
-mod pairs;
-
 use incremental::Fault;
 use incremental::Refusal;
 use lists::Found;
-pub use pairs::check_pairs;
 
 const END: u32 = 4294967295;
 
@@ -35,11 +30,14 @@ enum Pass {
     Clear(usize, bool),
 }
 
-// The next index of entry i, of entries of that size.
-fn next_at(section: &[u8], size: u16, i: u32) -> u32
-    ensures { λ r. ⌜ r ≡ le 4 (now (section .entry)) (i * size) ⌝ }
+// The next index of entry i: the first number of pair i, or where no pairs are given that of a section of entries of that size.
+fn next_at(section: &[u8], pairs: &[u32], size: u16, i: u32) -> u32
+    ensures { λ r. ⌜ r ≡ nextFrom (now (section .entry)) (now (pairs .entry)) size i ⌝ }
 {
-    little_endian::u32_at(section, i as usize * (size as usize))
+    if pairs.len() == 0 {
+        return little_endian::u32_at(section, i as usize * (size as usize));
+    }
+    lists::number_at(pairs, 2 * (i as usize))
 }
 
 // What a search over the entries found that stopped at entry i, or after the last entry.
@@ -73,16 +71,22 @@ fn store_predecessor(buffer: &mut [u32], i: u32, next: u32, least: u32) -> u32
 // Checks 11 and 12: the first entry astray, or else the smallest entry that two entries name, or else the number of entries that
 // end a chain and whether every next index is above its own. All in one pass, since a large section has to come from memory each
 // time. A filled buffer becomes the table of predecessors where no entry is astray.
-fn store_predecessors(section: &[u8], size: u16, entries: u32, buffer: &mut [u32]) -> Pass
-    requires { ⌜ FilledBuffer (nexts (now section) size entries) (now buffer) ⌝ }
-    ensures { λ r. ⌜ Passed (nexts (now (section .entry)) size entries) (length (now (buffer .entry))) r (now (buffer .exit)) ⌝ }
+fn store_predecessors(
+    section: &[u8],
+    pairs: &[u32],
+    size: u16,
+    entries: u32,
+    buffer: &mut [u32],
+) -> Pass
+    requires { ⌜ FilledBuffer (nextsFrom (now section) (now pairs) size entries) (now buffer) ⌝ }
+    ensures { λ r. ⌜ Passed (nextsFrom (now (section .entry)) (now (pairs .entry)) size entries) (length (now (buffer .entry))) r (now (buffer .exit)) ⌝ }
 {
     let mut least = entries;
     let mut ends: usize = 0;
     let mut forward = true;
     let mut i = 0;
     while i < entries {
-        let next = next_at(section, size, i);
+        let next = next_at(section, pairs, size, i);
         if next == END {
             ends += 1;
         } else {
@@ -101,19 +105,19 @@ fn store_predecessors(section: &[u8], size: u16, entries: u32, buffer: &mut [u32
 }
 
 // The table of predecessors, whatever the buffer held.
-fn build_table(section: &[u8], size: u16, entries: u32, buffer: &mut [u32])
-    requires { ⌜ LinkedBuffer (nexts (now section) size entries) (now buffer) ⌝ }
-    ensures { λ _. ⌜ now (buffer .exit) ≡ predecessors (nexts (now (section .entry)) size entries) (length (now (buffer .entry))) ⌝ }
+fn build_table(section: &[u8], pairs: &[u32], size: u16, entries: u32, buffer: &mut [u32])
+    requires { ⌜ LinkedBuffer (nextsFrom (now section) (now pairs) size entries) (now buffer) ⌝ }
+    ensures { λ _. ⌜ now (buffer .exit) ≡ predecessors (nextsFrom (now (section .entry)) (now (pairs .entry)) size entries) (length (now (buffer .entry))) ⌝ }
 {
     lists::fill(buffer);
-    store_predecessors(section, size, entries, buffer);
+    store_predecessors(section, pairs, size, entries, buffer);
 }
 
 // Check 13: the smallest entry on a cycle. Each entry is walked over once: its place then holds the walk's first entry. A walk
 // that comes back to its own first entry has found the cycle; since no two entries name one, a walk meets no other entry of its own.
-fn first_cyclic(section: &[u8], size: u16, entries: u32, marks: &mut [u32]) -> Found
-    requires { ⌜ FilledLinked (nexts (now section) size entries) (now marks) × Distinct (nexts (now section) size entries) ⌝ }
-    ensures { λ r. ⌜ r ≡ firstCyclic (nexts (now (section .entry)) size entries) ⌝ }
+fn first_cyclic(section: &[u8], pairs: &[u32], size: u16, entries: u32, marks: &mut [u32]) -> Found
+    requires { ⌜ FilledLinked (nextsFrom (now section) (now pairs) size entries) (now marks) × Distinct (nextsFrom (now section) (now pairs) size entries) ⌝ }
+    ensures { λ r. ⌜ r ≡ firstCyclic (nextsFrom (now (section .entry)) (now (pairs .entry)) size entries) ⌝ }
 {
     let mut i = 0;
     'entries: while i < entries {
@@ -124,7 +128,7 @@ fn first_cyclic(section: &[u8], size: u16, entries: u32, marks: &mut [u32]) -> F
                 break;
             }
             marks[at] = i;
-            j = next_at(section, size, j);
+            j = next_at(section, pairs, size, j);
             if j == i {
                 break 'entries;
             }
@@ -135,12 +139,12 @@ fn first_cyclic(section: &[u8], size: u16, entries: u32, marks: &mut [u32]) -> F
 }
 
 // The same, whatever the buffer held.
-fn find_cycle(section: &[u8], size: u16, entries: u32, buffer: &mut [u32]) -> Found
-    requires { ⌜ LinkedBuffer (nexts (now section) size entries) (now buffer) × Distinct (nexts (now section) size entries) ⌝ }
-    ensures { λ r. ⌜ r ≡ firstCyclic (nexts (now (section .entry)) size entries) ⌝ }
+fn find_cycle(section: &[u8], pairs: &[u32], size: u16, entries: u32, buffer: &mut [u32]) -> Found
+    requires { ⌜ LinkedBuffer (nextsFrom (now section) (now pairs) size entries) (now buffer) × Distinct (nextsFrom (now section) (now pairs) size entries) ⌝ }
+    ensures { λ r. ⌜ r ≡ firstCyclic (nextsFrom (now (section .entry)) (now (pairs .entry)) size entries) ⌝ }
 {
     lists::fill(buffer);
-    first_cyclic(section, size, entries, buffer)
+    first_cyclic(section, pairs, size, entries, buffer)
 }
 
 // The refusal of a check at entry i, of entries of that size from `start`.
@@ -153,23 +157,24 @@ fn refused(number: u32, start: u32, size: u16, i: u32) -> Links
 // Check 13, and the table of predecessors built again where it passes. `ends` is the number of entries that end a chain.
 fn check_cycles(
     section: &[u8],
+    pairs: &[u32],
     start: u32,
     size: u16,
     entries: u32,
     ends: usize,
     buffer: &mut [u32],
 ) -> Links
-    requires { ⌜ TableBuilt (nexts (now section) size entries) ends (now buffer) ⌝ }
+    requires { ⌜ TableBuilt (nextsFrom (now section) (now pairs) size entries) ends (now buffer) ⌝ }
     ensures { λ r.
-        ⌜ CyclesAnswered (entryOffset start size) (nexts (now (section .entry)) size entries) (length (now (buffer .entry))) r
+        ⌜ CyclesAnswered (entryOffset start size) (nextsFrom (now (section .entry)) (now (pairs .entry)) size entries) (length (now (buffer .entry))) r
         (now (buffer .exit)) ⌝ }
 {
-    let found = find_cycle(section, size, entries, buffer);
+    let found = find_cycle(section, pairs, size, entries, buffer);
     if let Found::At(i) = found {
         lists::fill(buffer);
         return refused(13, start, size, i as u32);
     }
-    build_table(section, size, entries, buffer);
+    build_table(section, pairs, size, entries, buffer);
     Links::Chains(ends)
 }
 
@@ -177,6 +182,7 @@ fn check_cycles(
 // needed, and the table stands as it is.
 fn check_order(
     section: &[u8],
+    pairs: &[u32],
     start: u32,
     size: u16,
     entries: u32,
@@ -184,25 +190,33 @@ fn check_order(
     forward: bool,
     buffer: &mut [u32],
 ) -> Links
-    requires { ⌜ TableBuilt (nexts (now section) size entries) ends (now buffer) × (forward ≡ true → Forward (nexts (now section) size entries)) ⌝ }
+    requires { ⌜ TableBuilt (nextsFrom (now section) (now pairs) size entries) ends (now buffer)
+        × (forward ≡ true → Forward (nextsFrom (now section) (now pairs) size entries)) ⌝ }
     ensures { λ r.
-        ⌜ CyclesAnswered (entryOffset start size) (nexts (now (section .entry)) size entries) (length (now (buffer .entry))) r
+        ⌜ CyclesAnswered (entryOffset start size) (nextsFrom (now (section .entry)) (now (pairs .entry)) size entries) (length (now (buffer .entry))) r
         (now (buffer .exit)) ⌝ }
 {
     if forward {
         return Links::Chains(ends);
     }
-    check_cycles(section, start, size, entries, ends, buffer)
+    check_cycles(section, pairs, start, size, entries, ends, buffer)
 }
 
 // Checks 11 to 13 with a filled buffer.
-fn check_entries(section: &[u8], start: u32, size: u16, entries: u32, buffer: &mut [u32]) -> Links
-    requires { ⌜ FilledBuffer (nexts (now section) size entries) (now buffer) ⌝ }
+fn check_entries(
+    section: &[u8],
+    pairs: &[u32],
+    start: u32,
+    size: u16,
+    entries: u32,
+    buffer: &mut [u32],
+) -> Links
+    requires { ⌜ FilledBuffer (nextsFrom (now section) (now pairs) size entries) (now buffer) ⌝ }
     ensures { λ r.
-        ⌜ LinksAnswered (entryOffset start size) (nexts (now (section .entry)) size entries) (length (now (buffer .entry))) r
+        ⌜ LinksAnswered (entryOffset start size) (nextsFrom (now (section .entry)) (now (pairs .entry)) size entries) (length (now (buffer .entry))) r
         (now (buffer .exit)) ⌝ }
 {
-    let pass = store_predecessors(section, size, entries, buffer);
+    let pass = store_predecessors(section, pairs, size, entries, buffer);
     match pass {
         Pass::Astray(i) => {
             lists::fill(buffer);
@@ -214,6 +228,7 @@ fn check_entries(section: &[u8], start: u32, size: u16, entries: u32, buffer: &m
         }
         Pass::Clear(ends, forward) => check_order(
             section,
+            pairs,
             start,
             size,
             entries,
@@ -228,17 +243,20 @@ fn check_entries(section: &[u8], start: u32, size: u16, entries: u32, buffer: &m
 // predecessors, and else every place of it holds END.
 pub fn check_links(
     section: &[u8],
+    pairs: &[u32],
     start: u32,
     size: u16,
     entries: u32,
     predecessors: &mut [u32],
 ) -> Links
-    ensures { λ r. ⌜ LinkAnswer (now (section .entry)) start size entries (length (now (predecessors .entry))) r (now (predecessors .exit)) ⌝ }
+    ensures { λ r.
+        ⌜ LinkAnswer (now (section .entry)) (now (pairs .entry)) start size entries (length (now (predecessors .entry))) r
+        (now (predecessors .exit)) ⌝ }
 {
     let places = predecessors.len();
     lists::fill(predecessors);
     if let Fault::At(i, at) = sections::places_fault(places, entries) {
         return Links::Refused(incremental::refuse(7, i, at));
     }
-    check_entries(section, start, size, entries, predecessors)
+    check_entries(section, pairs, start, size, entries, predecessors)
 }

@@ -15,13 +15,13 @@ use Rattle.incremental.specs.declared.Checked.{Checked}
 use Rattle.incremental.specs.declared.Checked.the-variants as checked
 use Rattle.sections.specs.Fields.{placesFault, entriesFault}
 use Rattle.sections.proofs.Cases.{places-enough, entries-fit}
-use Rattle.trace.specs.Links.{firsts, linkChecks, traceChecks, linksOf, predecessors, held, LinkListAnswer}
+use Rattle.trace.specs.Links.{firsts, linkChecks, traceChecks, linksOf, predecessors, held, LinkListAnswer, LinkAnswer}
 use Rattle.trace.specs.declared.Links.{Links}
 use Rattle.trace.specs.declared.Links.the-variants as links
-use Rattle.trace.proofs.Steps.{length-firsts}
+use Rattle.trace.proofs.Steps.{length-firsts, from-pairs}
 use Rattle.volumes.specs.Volumes.{volumesFrom, volumesChecks}
 use Rattle.writer.specs.declared.Plan.{Plan}
-use Rattle.names.specs.Names.{misfitPair, unsoundPair}
+use Rattle.names.specs.Names.{inPairs, misfitFault, unsoundFault}
 use Rattle.incremental.proofs.Decision.{check-at, check-nowhere}
 use Rattle.writer.specs.declared.Given.{Given}
 use Rattle.writer.specs.LaidOut.{descriptionOf, metricsAt}
@@ -60,7 +60,10 @@ module _ (l : Layout) (p : Plan) (count : ℕ) (metrics trace strings volumes : 
     names-refused f buffer q = record { answer = rw (sym e ∙ ap checkedOf q) refl; holds = none-held f buffer }
 
     module _ (q : c ≡ checked.Passed) (room : p .trace ≤ m) (k : Links) (buffer : List ℕ)
-        (a : LinkListAnswer (entryOffset (p .«trace_at») (traceEntry l)) s m k buffer) where
+        (w : LinkAnswer [] trace (p .«trace_at») (traceEntry l) (p .trace) m k buffer) where
+      a : LinkListAnswer (entryOffset (p .«trace_at») (traceEntry l)) s m k buffer
+      a = rw from-pairs at w
+
       decided-links : linksOf k ≡ linkChecks (entryOffset (p .«trace_at») (traceEntry l)) s
       decided-links = a .answer ∙ places-passed _ s m (omega (arith, length-firsts trace (p .trace)))
 
@@ -105,8 +108,8 @@ module _ (l : Layout) (p : Plan) (g : Given) (metrics trace strings volumes : Li
       >> (check 8 (entriesFault (g .«volume_count») (volumeEntry l) (length volumes)) >> tableChecks l p (g .«volume_count») metrics trace strings volumes))
   unfolding sectionChecks tableChecks
   in-turn =
-      let nine = check 9 (misfitPair l (metricsAt l) metrics (length metrics / 2) (length strings)) in
-      let ten = check 10 (unsoundPair l (metricsAt l) metrics (length metrics / 2) strings) in
+      let nine = check 9 (misfitFault l (metricsAt l) (inPairs metrics) (length metrics / 2) (length strings)) in
+      let ten = check 10 (unsoundFault l (metricsAt l) (inPairs metrics) (length metrics / 2) strings) in
       rw plan
       (ap (λ (d : Decision ℕ). check 7 (placesFault m (length trace / 2)) >> (check 8 (entriesFault (g .«volume_count») (volumeEntry l) (length volumes)) >> d))
       (sym (regroup nine ten _)))

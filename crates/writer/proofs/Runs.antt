@@ -29,7 +29,7 @@ use Rattle.head.specs.Checks.{version, units, startPlan, openPlan}
 use Rattle.head.specs.Opened.{OpenFacts}
 use Rattle.head.specs.declared.checks.Opening.{Opening}
 use Rattle.head.proofs.Facts.{open-sound}
-use Rattle.names.specs.Names.{nameFieldAt, misfitFault, misfitPair, unsoundFault, unsoundPair}
+use Rattle.names.specs.Names.{inMetrics, inPairs, nameFieldAt, misfitFault, unsoundFault}
 use Rattle.trace.specs.Links.{astrayFault, sharedFault, cyclicFault, linkChecks, chains, predecessors}
 use Rattle.volumes.specs.Volumes.{volumesFrom}
 use Rattle.reader.specs.Verdict.{Acceptable}
@@ -173,16 +173,16 @@ module _ (v : Version) (l : Layout) (d : Description) (p : List ℕ) (m : ℕ) (
     places-same : placesFault m (linkCount l (headFor l d)) ≡ placesFault m (pairs (d .trace))
     places-same = rw (← links-all l (headFor l d) (w .linked))
 
-    misfit-same : misfitFault l (metricsAt l) (part (headFor l d .metrics) p) (pairs (d .metrics)) (length (d .strings))
-        ≡ misfitPair l (metricsAt l) (d .metrics) (pairs (d .metrics)) (length (d .strings))
-    unfolding misfitFault misfitPair
+    misfit-same : misfitFault l (metricsAt l) (inMetrics l (part (headFor l d .metrics) p)) (pairs (d .metrics)) (length (d .strings))
+        ≡ misfitFault l (metricsAt l) (inPairs (d .metrics)) (pairs (d .metrics)) (length (d .strings))
+    unfolding misfitFault
     misfit-same =
         ap (faultOf (nameFieldAt l (metricsAt l)))
         (first-same _ _ (pairs (d .metrics)) 0 (λ i a b. rw (f .name-at i (omega arith), f .name-units i (omega arith))))
 
-    unsound-same : unsoundFault l (metricsAt l) (part (headFor l d .metrics) p) (pairs (d .metrics)) (part (headFor l d .strings) p)
-        ≡ unsoundPair l (metricsAt l) (d .metrics) (pairs (d .metrics)) (d .strings)
-    unfolding unsoundFault unsoundPair
+    unsound-same : unsoundFault l (metricsAt l) (inMetrics l (part (headFor l d .metrics) p)) (pairs (d .metrics)) (part (headFor l d .strings) p)
+        ≡ unsoundFault l (metricsAt l) (inPairs (d .metrics)) (pairs (d .metrics)) (d .strings)
+    unfolding unsoundFault
     unsound-same =
         ap (faultOf (nameFieldAt l (metricsAt l)))
         (first-same _ _ (pairs (d .metrics)) 0 (λ i a b. rw (f .strings, f .name-at i (omega arith), f .name-units i (omega arith))))
@@ -198,14 +198,14 @@ module _ (v : Version) (l : Layout) (d : Description) (p : List ℕ) (m : ℕ) (
         let fit = entriesFault (d .volumeCount) (volumeEntry l) (length (d .volumes)) in
         reach-here (headEnd l) _ p (open-facts .whole) ∙ counted-lines _ fit p ∙ ap (λ (x : Fault). decided (checkNow 7 x >> checkNow 8 fit)) places-same
 
-    fits-decides : run (fitsPlan o) p ≡ decided (checkNow 9 (misfitPair l (metricsAt l) (d .metrics) (pairs (d .metrics)) (length (d .strings))))
+    fits-decides : run (fitsPlan o) p ≡ decided (checkNow 9 (misfitFault l (metricsAt l) (inPairs (d .metrics)) (pairs (d .metrics)) (length (d .strings))))
     unfolding fitsPlan check
     fits-decides =
         reach-here (headFor l d .metrics .end) _ p (reached _ (open-facts .metrics))
         ∙ last-decides _ p
         ∙ ap (λ (x : Fault). decided (checkNow 9 x)) (misfit-take p o open-facts ∙ misfit-same)
 
-    texts-decide : run (textsPlan o) p ≡ decided (checkNow 10 (unsoundPair l (metricsAt l) (d .metrics) (pairs (d .metrics)) (d .strings)))
+    texts-decide : run (textsPlan o) p ≡ decided (checkNow 10 (unsoundFault l (metricsAt l) (inPairs (d .metrics)) (pairs (d .metrics)) (d .strings)))
     unfolding textsPlan check
     texts-decide =
         reach-here (namesRequired l (headFor l d)) _ p (reached _ (names-required-low p o open-facts))

@@ -20,7 +20,7 @@ use Rattle.layout.specs.declared.Layout.{Layout}
 use Rattle.incremental.specs.Decision.{Decision, accept, check, _>>=_, _>>_}
 use Rattle.sections.specs.declared.Head.{Head}
 use Rattle.sections.specs.Fields.{sectionOf, placesFault, entriesFault}
-use Rattle.names.specs.Names.{misfitPair, unsoundPair}
+use Rattle.names.specs.Names.{inPairs, misfitFault, unsoundFault}
 use Rattle.trace.specs.Links.{linkChecks, predecessors, linksOf}
 use Rattle.trace.specs.declared.Links.{Links}
 use Rattle.trace.specs.declared.Links.the-variants.{Chains}
@@ -165,8 +165,8 @@ unfoldable pub sectionChecks : Layout → Description → ℕ → Decision ℕ
 sectionChecks l d m = do
   check 7 (placesFault m (pairs (d .trace)))
   check 8 (entriesFault (d .volumeCount) (volumeEntry l) (length (d .volumes)))
-  check 9 (misfitPair l (metricsAt l) (d .metrics) (pairs (d .metrics)) (length (d .strings)))
-  check 10 (unsoundPair l (metricsAt l) (d .metrics) (pairs (d .metrics)) (d .strings))
+  check 9 (misfitFault l (metricsAt l) (inPairs (d .metrics)) (pairs (d .metrics)) (length (d .strings)))
+  check 10 (unsoundFault l (metricsAt l) (inPairs (d .metrics)) (pairs (d .metrics)) (d .strings))
   n ← linkChecks (entryOffset (traceAt l d) (traceEntry l)) (linksIn d)
   volumesFrom (d .volumes) l (volumesAt l d) (d .volumeCount) 0
   accept n
@@ -221,7 +221,8 @@ pub record SectionsAnswered (c : Decision ℕ) (s : List ℕ) (m : ℕ) (r : Lin
 -- checks 9 and 10, and 9 to 15
 abbrev pub nameChecks : Layout → List ℕ → List ℕ → ℕ → Decision Unit
 nameChecks l metrics strings entries =
-    check 9 (misfitPair l (metricsAt l) metrics entries (length strings)) >> check 10 (unsoundPair l (metricsAt l) metrics entries strings)
+    check 9 (misfitFault l (metricsAt l) (inPairs metrics) entries (length strings))
+    >> check 10 (unsoundFault l (metricsAt l) (inPairs metrics) entries strings)
 
 unfoldable pub tableChecks : Layout → Plan → ℕ → List ℕ → List ℕ → List ℕ → List ℕ → Decision ℕ
 tableChecks l p count metrics trace strings volumes = do

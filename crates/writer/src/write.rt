@@ -26,6 +26,9 @@ use reader::RunTimes;
 use reader::Verdict;
 use trace::Links;
 
+// A description has tables of pairs and no bytes of entries.
+const NO_BYTES: [u8; 0] = [];
+
 // What a description's lengths give: a plan, or a size beyond the limit.
 enum Planned {
     Fits(Plan),
@@ -92,10 +95,17 @@ fn check_names(l: Layout, metrics: &[u32], entries: u32, strings: &[u8]) -> Chec
     ensures { λ r. ⌜ checkedOf r ≡ nameChecks l (now (metrics .entry)) (now (strings .entry)) entries ⌝ }
 {
     let start = l.first_section as u32;
-    if let Fault::At(i, at) = names::misfit_pair(metrics, l, start, entries, strings.len()) {
+    if let Fault::At(i, at) = names::misfit_fault(
+        &NO_BYTES,
+        metrics,
+        l,
+        start,
+        entries,
+        strings.len(),
+    ) {
         return Checked::Refused(incremental::refuse(9, i, at));
     }
-    if let Fault::At(i, at) = names::unsound_pair(metrics, l, start, entries, strings) {
+    if let Fault::At(i, at) = names::unsound_fault(&NO_BYTES, metrics, l, start, entries, strings) {
         return Checked::Refused(incremental::refuse(10, i, at));
     }
     Checked::Passed
@@ -120,7 +130,14 @@ fn check_tables(
     if let Checked::Refused(r) = check_names(l, metrics, p.metrics, strings) {
         return Links::Refused(r);
     }
-    let chains = match trace::check_pairs(trace, p.trace_at, l.trace_entry, p.trace, predecessors) {
+    let chains = match trace::check_links(
+        &NO_BYTES,
+        trace,
+        p.trace_at,
+        l.trace_entry,
+        p.trace,
+        predecessors,
+    ) {
         Links::Chains(n) => n,
         Links::Refused(r) => return Links::Refused(r),
     };

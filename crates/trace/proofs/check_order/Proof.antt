@@ -3,9 +3,9 @@ use mathlib.Core.Path.{refl}
 use Prim.Native.Nat.{_≤_}
 use native.Mathlib.Omega.{arith}
 use lib.ListN.{length}
-use Rattle.trace.proofs.Steps.{length-nexts}
+use Rattle.trace.proofs.Steps.{length-from}
 use Rattle.trace.proofs.Forward.{forward-acyclic}
-use Rattle.trace.specs.Links.{end, nexts}
+use Rattle.trace.specs.Links.{end, nextsFrom}
 use Rattle.trace.specs.Private.{firstCyclic}
 use Rattle.trace.proofs.Answers.{answer-chains}
 use borrow.Author.Needs.{needs}
@@ -14,9 +14,10 @@ use Rattle.trace.proofs.check_order.Tie as tie
 
 returns : tie.Need-returns
 returns c =
-    let a = c .before .before .before in
-    let s = nexts (a .args .section .now) (a .args .size) (a .args .entries) in
-    let small : length s ≤ end = omega (arith, length-nexts (a .args .section .now) (a .args .size) (a .args .entries), a .fits .entries) in
+    let a = c .before .before .before .before in
+    let s = nextsFrom (a .args .section .now) (a .args .pairs .now) (a .args .size) (a .args .entries) in
+    let small : length s ≤ end =
+    omega (arith, length-from (a .args .section .now) (a .args .pairs .now) (a .args .size) (a .args .entries), a .fits .entries) in
     let f = forward-acyclic s small (a .pre .0 .sound) (a .pre .1 (c .if1 .taken)) in
     answer-chains _ s _ _ (firstCyclic s) _ small (a .pre .0) refl f (a .pre .0 .table)
 

@@ -8,7 +8,7 @@ use Rattle.trace.proofs.find_cycle.Tie as tie
 
 first-cyclic-requires : tie.Need-first-cyclic-requires
 first-cyclic-requires c κs = let f = c .before .before .before .fill in
-    let a = c .before .before .before .before .before .before .before in
+    let a = c .before .before .before .before .before .before .before .before in
     let e : length (f .last .0) ≡ length (a .args .buffer .now) = f .kept .0 in (
       record {
         ready = record { room = omega (arith, e, a .pre .0 .room); sound = a .pre .0 .sound };

@@ -8,33 +8,33 @@ use lib.ListN.{length, length-set}
 use borrow.Author.Needs.{needs}
 use Rattle.lists.proofs.First.{Least, least-first}
 use Rattle.lists.specs.First.{foundBelow}
-use Rattle.trace.specs.Links.{end, nexts, after, cyclic}
-use Rattle.trace.proofs.Steps.{length-nexts, after-nexts}
+use Rattle.trace.specs.Links.{end, nextsFrom, after, cyclic}
+use Rattle.trace.proofs.Steps.{length-from, after-from}
 use Rattle.trace.proofs.Marks.{unmarked, Seen, Walk, seen-none, seen-all, walk-start, walk-step, walk-found, walk-end, fewer}
 use Rattle.trace.proofs.first_cyclic.Statement.{statement}
 use Rattle.trace.proofs.first_cyclic.Tie as tie
 
 abbrev Inv-loop : tie.InvT-loop
-Inv-loop section size entries marks₀ i j₀ marks j = (length marks ≡ length marks₀) × Walk (nexts section size entries) marks i j
+Inv-loop section pairs size entries marks₀ i j₀ marks j = (length marks ≡ length marks₀) × Walk (nextsFrom section pairs size entries) marks i j
 
 abbrev μ-loop : tie.MeasureT-loop
-μ-loop section size entries marks₀ i j₀ marks j = unmarked (nexts section size entries) marks
+μ-loop section pairs size entries marks₀ i j₀ marks j = unmarked (nextsFrom section pairs size entries) marks
 
 abbrev Inv-entries : tie.InvT-entries
-Inv-entries section size entries marks₀ i₀ marks i = (i ≤ entries) × (length marks ≡ length marks₀) × Seen (nexts section size entries) marks i
+Inv-entries section pairs size entries marks₀ i₀ marks i = (i ≤ entries) × (length marks ≡ length marks₀) × Seen (nextsFrom section pairs size entries) marks i
 
 abbrev μ-entries : tie.MeasureT-entries
-μ-entries section size entries marks₀ i₀ marks i = entries - i
+μ-entries section pairs size entries marks₀ i₀ marks i = entries - i
 
 -- at the outer loop: the function's entry, and the list of next indexes
 abbrev start : tie.At-entries Inv-loop μ-loop Inv-entries μ-entries → tie.Start Inv-loop μ-loop Inv-entries μ-entries
-start c = c .before .before .before
+start c = c .before .before .before .before
 
 abbrev links : tie.At-entries Inv-loop μ-loop Inv-entries μ-entries → List ℕ
-links c = nexts (start c .args .section .now) (start c .args .size) (start c .args .entries)
+links c = nextsFrom (start c .args .section .now) (start c .args .pairs .now) (start c .args .size) (start c .args .entries)
 
 size : (c : tie.At-entries Inv-loop μ-loop Inv-entries μ-entries) → length (links c) ≡ start c .args .entries
-size c = length-nexts (start c .args .section .now) (start c .args .size) (start c .args .entries)
+size c = length-from (start c .args .section .now) (start c .args .pairs .now) (start c .args .size) (start c .args .entries)
 
 small : (c : tie.At-entries Inv-loop μ-loop Inv-entries μ-entries) → length (links c) ≤ end
 small c = omega (arith, size c, start c .fits .entries)
@@ -59,7 +59,8 @@ outer c = inner c .before .before .before
 next-is : (c : Next) → c .next-at .result ≡ after (links (outer c)) (inner c .before .loop .j)
 next-is c =
     let a = start (outer c) .args in
-    c .next-at .ensures ∙ sym (after-nexts (a .section .now) (a .size) (a .entries) (inner c .before .loop .j) (omega (arith, entry (inner c), size (outer c))))
+    c .next-at .ensures
+    ∙ sym (after-from (a .section .now) (a .pairs .now) (a .size) (a .entries) (inner c .before .loop .j) (omega (arith, entry (inner c), size (outer c))))
 
 -- the two ways out: after the last entry, and from a walk that came back to its first entry
 all : (c : tie.At-entries Inv-loop μ-loop Inv-entries μ-entries) → start c .args .entries ≤ c .entries .i
@@ -74,9 +75,9 @@ found c e =
     (sym (next-is c) ∙ e)
 
 entries-holds : tie.Need-entries-holds Inv-loop μ-loop Inv-entries μ-entries
-entries-holds c = let a = c .before .before in
-    let s = nexts (a .args .section .now) (a .args .size) (a .args .entries) in
-    let n = length-nexts (a .args .section .now) (a .args .size) (a .args .entries) in
+entries-holds c = let a = c .before .before .before in
+    let s = nextsFrom (a .args .section .now) (a .args .pairs .now) (a .args .size) (a .args .entries) in
+    let n = length-from (a .args .section .now) (a .args .pairs .now) (a .args .size) (a .args .entries) in
     (omega arith, refl, rw (a .pre .0 .clear) (seen-none s (omega (arith, n, a .fits .entries)) (length (a .args .marks .now)) (a .pre .0 .ready .room)))
 
 loop-holds : tie.Need-loop-holds Inv-loop μ-loop Inv-entries μ-entries

@@ -6,40 +6,40 @@ use Prim.Native.Nat.{ℕ, _+_, _-_, _<_}
 use native.Mathlib.Omega.{arith}
 use lib.ListN.{length}
 use borrow.Author.Needs.{needs}
-use Rattle.trace.specs.Links.{end, nexts, after}
-use Rattle.trace.proofs.Steps.{length-nexts, after-nexts}
+use Rattle.trace.specs.Links.{end, nextsFrom, after}
+use Rattle.trace.proofs.Steps.{length-from, after-from}
 use Rattle.trace.proofs.Passing.{Passing, passing-none, passing-length, passing-astray, passing-more, passing-shared, passing-clear}
 use Rattle.trace.proofs.store_predecessors.Statement.{statement}
 use Rattle.trace.proofs.store_predecessors.Tie as tie
 
 abbrev Inv-loop : tie.InvT-loop
-Inv-loop section size entries buffer₀ least₀ ends₀ forward₀ i₀ buffer least ends forward i =
-    Passing (nexts section size entries) (length buffer₀) buffer least ends forward i
+Inv-loop section pairs size entries buffer₀ least₀ ends₀ forward₀ i₀ buffer least ends forward i =
+    Passing (nextsFrom section pairs size entries) (length buffer₀) buffer least ends forward i
 
 abbrev μ-loop : tie.MeasureT-loop
-μ-loop section size entries buffer₀ least₀ ends₀ forward₀ i₀ buffer least ends forward i = entries - i
+μ-loop section pairs size entries buffer₀ least₀ ends₀ forward₀ i₀ buffer least ends forward i = entries - i
 
 -- at the loop: the function's entry, and the list of next indexes
 abbrev start : tie.At-loop Inv-loop μ-loop → tie.Start Inv-loop μ-loop
-start c = c .before .before .before
+start c = c .before .before .before .before
 
 abbrev links : tie.At-loop Inv-loop μ-loop → List ℕ
-links c = nexts (start c .args .section .now) (start c .args .size) (start c .args .entries)
+links c = nextsFrom (start c .args .section .now) (start c .args .pairs .now) (start c .args .size) (start c .args .entries)
 
 count : (c : tie.At-loop Inv-loop μ-loop) → length (links c) ≡ start c .args .entries
-count c = length-nexts (start c .args .section .now) (start c .args .size) (start c .args .entries)
+count c = length-from (start c .args .section .now) (start c .args .pairs .now) (start c .args .size) (start c .args .entries)
 
 -- what was read is entry i's next index
 next-is : (c : tie.After-next-at Inv-loop μ-loop) → let b = c .before .before in c .next-at .result ≡ after (links b) (b .loop .i)
 next-is c =
     let b = c .before .before in
     let a = start b .args in
-    c .next-at .ensures ∙ sym (after-nexts (a .section .now) (a .size) (a .entries) (b .loop .i) (omega arith))
+    c .next-at .ensures ∙ sym (after-from (a .section .now) (a .pairs .now) (a .size) (a .entries) (b .loop .i) (omega arith))
 
 loop-holds : tie.Need-loop-holds Inv-loop μ-loop
 loop-holds c =
-    let a = c .before .before in
-    passing-none _ _ _ _ (length-nexts (a .args .section .now) (a .args .size) (a .args .entries)) (a .pre .clear)
+    let a = c .before .before .before in
+    passing-none _ _ _ _ (length-from (a .args .section .now) (a .args .pairs .now) (a .args .size) (a .args .entries)) (a .pre .clear)
 
 same-length : tie.Need-same-length Inv-loop μ-loop
 same-length c = passing-length (c .before .before .before .before .loop .inv)

@@ -17,13 +17,13 @@ returns-2 : tie.Need-returns-2
 returns-2 c =
     let arm = c .before .before in
     let misfit = arm .before .before in
-    let part = misfit .before in
+    let part = misfit .before .before in
     fits-refused _ _ _ (omega arith) (part .part-of .ensures .contents) _ (misfit .misfit-fault .ensures) _ _ _ (arm .i .given .1) (c .refuse .ensures)
 
 returns-3 : tie.Need-returns-3
 returns-3 c =
     let misfit = c .before .before in
-    let part = misfit .before in
+    let part = misfit .before .before in
     fits-pass _ _ _ (omega arith) (part .part-of .ensures .contents) _ (misfit .misfit-fault .ensures) (c .enum-told .given .1)
 
 pub check-fits-spec : {M : Type 1} → statement M
@@ -33,6 +33,7 @@ check-fits-spec =
     returns
     slice-aggregate-part-of
     (λ c κs. search needs)
+    (λ c. search needs)
     (λ c κs. search needs)
     (λ c. search needs)
     (λ c κs. search needs)

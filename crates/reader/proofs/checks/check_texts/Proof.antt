@@ -20,7 +20,7 @@ returns-2 : tie.Need-returns-2
 returns-2 c =
     let arm = c .before .before in
     let unsound = arm .before .before in
-    let part = unsound .before in
+    let part = unsound .before .before in
     let part-of = part .before .before in
     let names = part-of .before .before .before in
     texts-refused _ _ _ (names .names-required .ensures) _ _ (omega arith) (part-of .part-of .ensures .contents)
@@ -29,7 +29,7 @@ returns-2 c =
 returns-3 : tie.Need-returns-3
 returns-3 c =
     let unsound = c .before .before in
-    let part = unsound .before in
+    let part = unsound .before .before in
     let part-of = part .before .before in
     let names = part-of .before .before .before in
     texts-pass _ _ _ (names .names-required .ensures) _ _ (omega arith) (part-of .part-of .ensures .contents) (part .part-of2 .ensures .contents) _
@@ -45,6 +45,7 @@ check-texts-spec =
     (λ c κs. search needs)
     slice-aggregate-part-of-2
     (λ c κs. search needs)
+    (λ c. search needs)
     (λ c κs. search needs)
     (λ c. search needs)
     (λ c κs. search needs)

@@ -17,7 +17,7 @@ returns-2 : tie.Need-returns-2
 returns-2 c =
     let links = c .before .before .before .before .before in
     let count = links .before .before in
-    let part = count .before in
+    let part = count .before .before in
     let required = part .before .before .before in
     let start = required .before .before .before .before .before .before in
     trace-passed _ _ _ _ (required .trace-required .ensures) _ (omega arith) (part .part-of .ensures .contents) _ (count .link-count .ensures) (start .pre) _ _
@@ -27,7 +27,7 @@ returns-3 : tie.Need-returns-3
 returns-3 c =
     let links = c .before .before .before .before .before in
     let count = links .before .before in
-    let part = count .before in
+    let part = count .before .before in
     let required = part .before .before .before in
     let start = required .before .before .before .before .before .before in
     trace-refused _ _ _ _ (required .trace-required .ensures) _ (omega arith) (part .part-of .ensures .contents) _ (count .link-count .ensures) (start .pre) _ _
@@ -41,6 +41,7 @@ check-trace-spec =
     returns
     slice-aggregate-part-of
     (λ c κs. search needs)
+    (λ c. search needs)
     (λ c κs. search needs)
     (λ c κs. search needs)
     (λ c. search needs)
