@@ -184,7 +184,7 @@ settled =
       sections-find-form = λ l b r s p q. told formSaid formBack known-form r s (p ∙ sym q);
       head-read-start = λ bytes r s p q. told startOf startBack start r s (p ∙ sym q);
       head-read-open = λ bytes r s p q. told openOf openBack opening r s (p ∙ sym q);
-      trace-check-links = λ section at size entries m r s a b p q. (told linksOf linkBack link r s (p .answer ∙ sym (q .answer)), cc);
+      trace-check-links = λ section pairs at size entries m r s a b p q. (told linksOf linkBack link r s (p .answer ∙ sym (q .answer)), cc);
       volumes-check-volume = λ section l at i r s p q. told checkedOf checkBack check r s (p ∙ sym q);
       volumes-check-volumes = λ section l at count r s p q. told checkedOf checkBack check r s (p ∙ sym q);
       reader-read-prefix = λ bytes buffer. reads _ _;
@@ -198,6 +198,17 @@ settled =
       writer-write-file = λ version d buffer output r s a b c e p q. let h = reads _ _ r s a b (p .reads) (q .reads) in (h .0, h .1, cc);
       listing-text-list = λ bytes buffer out r s a b c d p q. let h = put out 0 _ r s c d (p .text) (q .text) in (h .0, cc, h .1);
       readings-replay = λ recording times boards work answers r s a b c d p q. (told saidOf replayBack replay r s (p .says ∙ sym (q .says)), cc, cc);
+      readings-begin = λ times boards work answers r s a b c d p q. (cc, cc, cc);
+      readings-feed = λ p piece times boards work answers r s a b x y. (cc, cc);
+      readings-finish = λ p waiting times boards work answers r s a b c d x y. (told saidOf replayBack replay r s (x .says ∙ sym (y .says)), cc, cc);
+      replay-input-take-starts = λ piece held times boards r s a b c d p q. (cc, cc, cc);
+      replay-input-take-step = λ buffer end input times boards work answers r s a b c d e f g h i j p q. (cc, cc, cc, cc, cc, cc);
+      replay-input-end-input = λ input times boards work answers r s a b c d p q. (told saidOf replayBack replay r s (p .says ∙ sym (q .says)), cc, cc);
+      replay-input-put-answers = λ answers starts from out r s a b p q.
+          let n : r .next ≡ s .next = cc in
+          let m : r .bytes ≡ s .bytes = cc in
+          (λ t. record { next = n t; bytes = m t }, cc);
+      replay-input-put-refused = λ line out. put out 0 _;
       year-year-table = λ bytes hashes answers r s p q. λ t.
           record {
             number = (p .number ∙ sym (q .number)) t;
@@ -232,6 +243,15 @@ settled =
           (h .0, h .1, cc, h .2);
       hivesaddle-hs-replay = λ recording times boards work answers out r s a b c d e f p q.
           let h = answered _ out r s e f (p .said) (q .said) in
+          (h .0, cc, cc, h .1);
+      hivesaddle-hs-replay-begin = λ times boards work answers out r s a b c d e f p q.
+          let h = answered _ out r s e f (p .said) (q .said) in
+          (h .0, cc, cc, h .1);
+      hivesaddle-hs-replay-feed = λ p piece times boards work answers out r s a b c d x y.
+          let h = answered _ out r s c d (x .said) (y .said) in
+          (h .0, cc, h .1);
+      hivesaddle-hs-replay-finish = λ p waiting times boards work answers out r s a b c d e f x y.
+          let h = answered _ out r s e f (x .said) (y .said) in
           (h .0, cc, cc, h .1);
       hivesaddle-hs-year-table = λ bytes hashes answers rows out r s a b c d p q.
           let h = answered _ out r s c d (p .said) (q .said) in

@@ -29,11 +29,19 @@ use Rattle.walk.specs.Walk.{Walks}
 use Rattle.writer.specs.LaidOut.{Description}
 use Rattle.writer.specs.Writes.{Writes}
 use Rattle.readings.specs.Replay.{Replays}
+use Rattle.readings.specs.Feeding.{Begins, Feeds, Finishes}
+use Rattle.readings.specs.declared.pieces.Progress.{Progress}
+use Rattle.replay_input.specs.Starts.{TakesStarts}
+use Rattle.replay_input.specs.Input.{refusedLine}
+use Rattle.replay_input.specs.Text.{PutsAnswers}
+use Rattle.replay_input.specs.Program.{Steps, Ends}
+use Rattle.replay_input.specs.declared.steps.Input.{Input}
 use Rattle.year.specs.Year.{Gives, RowsPut}
 use Rattle.listing_text.specs.Listing.{Listed}
 use Rattle.hivesaddle.specs.Output.{Answered, lineSaid, LineWriting, PrefixOut, FileOut, WalkOut, WriteOut, ReplayOut, YearOut}
+use Rattle.hivesaddle.specs.Output.{BeginOut, FeedOut, FinishOut}
 
--- an answer; an answer and a list; and two lists; and three
+-- an answer; an answer and a list; and two lists; three; five
 abbrev pub Settles : {R : Type 0} → (R → Type 0) → Type 0
 Settles P = (r s : _) → P r → P s → r ≡ s
 
@@ -45,6 +53,10 @@ Settles₂ P = (r s : _) (a b c d : List ℕ) → P r a c → P s b d → (r ≡
 
 abbrev pub Settles₃ : {R : Type 0} → (R → List ℕ → List ℕ → List ℕ → Type 0) → Type 0
 Settles₃ P = (r s : _) (a b c d e f : List ℕ) → P r a c e → P s b d f → (r ≡ s) × (a ≡ b) × (c ≡ d) × (e ≡ f)
+
+abbrev pub Settles₅ : {R : Type 0} → (R → List ℕ → List ℕ → List ℕ → List ℕ → List ℕ → Type 0) → Type 0
+Settles₅ P =
+    (r s : _) (a b c d e f g h i j : List ℕ) → P r a c e g i → P s b d f h j → (r ≡ s) × (a ≡ b) × (c ≡ d) × (e ≡ f) × (g ≡ h) × (i ≡ j)
 
 -- two parts that are one: the same bytes at the same place
 pub record SamePart (r s : RefT (List ℕ)) : Type 0 where
@@ -70,7 +82,7 @@ pub record Settled : Type 0 where
   pub sections-find-form : (l : Layout) (b : List ℕ) → Settles (λ r. formSaid r ≡ formIn l b)
   pub head-read-start : (file : List ℕ) → Settles (λ r. startOf r ≡ run startPlan file)
   pub head-read-open : (file : List ℕ) → Settles (λ r. openOf r ≡ run openPlan file)
-  pub trace-check-links : (section : List ℕ) (start size entries : ℕ) (m : ℕ) → Settles₁ (LinkAnswer section start size entries m)
+  pub trace-check-links : (section pairs : List ℕ) (start size entries m : ℕ) → Settles₁ (LinkAnswer section pairs start size entries m)
   pub volumes-check-volume : (section : List ℕ) (l : Layout) (start i : ℕ) → Settles (λ r. checkedOf r ≡ volumeChecks section l start i)
   pub volumes-check-volumes : (section : List ℕ) (l : Layout) (start count : ℕ) → Settles (λ r. checkedOf r ≡ volumesChecks section l start count)
   -- ---- whole files
@@ -86,6 +98,15 @@ pub record Settled : Type 0 where
   pub listing-text-list : (file buffer out : List ℕ) → Settles₂ (Listed file buffer out)
   -- ---- recordings and tables
   pub readings-replay : (recording times boards work answers : List ℕ) → Settles₂ (Replays recording times boards work answers)
+  pub readings-begin : (times boards work answers : List ℕ) → Settles₂ (Begins times boards work answers)
+  pub readings-feed : (p : Progress) (piece times boards work answers : List ℕ) → Settles₁ (Feeds p piece times boards work answers)
+  pub readings-finish : (p : Progress) (waiting : ℕ) (times boards work answers : List ℕ) → Settles₂ (Finishes p waiting times boards work answers)
+  pub replay-input-take-starts : (piece : List ℕ) (held : ℕ) (times boards : List ℕ) → Settles₂ (TakesStarts piece held times boards)
+  pub replay-input-take-step : (buffer : List ℕ) (end : ℕ) (input : Input) (times boards work answers : List ℕ)
+      → Settles₅ (Steps buffer end input times boards work answers)
+  pub replay-input-end-input : (input : Input) (times boards work answers : List ℕ) → Settles₂ (Ends input times boards work answers)
+  pub replay-input-put-answers : (answers : List ℕ) (starts from : ℕ) (out : List ℕ) → Settles₁ (PutsAnswers answers starts from out)
+  pub replay-input-put-refused : (line : ℕ) (out : List ℕ) → Settles₁ (Put out 0 (refusedLine line))
   pub year-year-table : (bytes hashes answers : List ℕ) → Settles (Gives bytes hashes answers)
   pub year-year-rows : (bytes hashes answers rows : List ℕ) → Settles₁ (RowsPut bytes hashes answers rows)
   -- ---- the library for C
@@ -108,5 +129,11 @@ pub record Settled : Type 0 where
       → Settles₃ (λ r buffer′ output′. WriteOut version d buffer output r buffer′ output′ out)
   pub hivesaddle-hs-replay : (recording times boards work answers out : List ℕ)
       → Settles₃ (λ r work′ answers′. ReplayOut recording times boards work answers r work′ answers′ out)
+  pub hivesaddle-hs-replay-begin : (times boards work answers out : List ℕ)
+      → Settles₃ (λ r work′ answers′. BeginOut times boards work answers r work′ answers′ out)
+  pub hivesaddle-hs-replay-feed : (p : Progress) (piece times boards work answers out : List ℕ)
+      → Settles₂ (λ r answers′. FeedOut p piece times boards work answers r answers′ out)
+  pub hivesaddle-hs-replay-finish : (p : Progress) (waiting : ℕ) (times boards work answers out : List ℕ)
+      → Settles₃ (λ r work′ answers′. FinishOut p waiting times boards work answers r work′ answers′ out)
   pub hivesaddle-hs-year-table : (bytes hashes answers rows out : List ℕ)
       → Settles₂ (λ r rows′. YearOut bytes hashes answers r rows rows′ out)
