@@ -31,7 +31,8 @@ use Rattle.names.specs.Names.{nameAt, nameUnits, fits, sound}
 use Rattle.names.proofs.Laws.{name-past}
 use Rattle.query.specs.Queries.{asked, bytesAt, entryShown, namePlace}
 use Rattle.path_search.specs.Search.{hashedNumbers, hashOf, matches, entryNumbers, matchesBy, leastPair, allPairs, pathFound, PathFound}
-use Rattle.path_search.specs.Search.{pathPairs, pairsIn, ListsPaths}
+use Rattle.lists.specs.Pairs.{pairsIn}
+use Rattle.path_search.specs.Search.{pathPairs, ListsPaths}
 use Rattle.query.specs.Queries.{nameSound, nameIn}
 use Rattle.path_search.specs.Private.{numbersIn, testIn, numberFor, numberIn, numberedIn, entriesIn, searched, PairsPlaced}
 use Rattle.query.proofs.Laws.{name-inside, part-there, part-low, part-bytes}

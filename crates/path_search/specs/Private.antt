@@ -13,7 +13,8 @@ use Rattle.layout.specs.declared.Layout.{Layout}
 use Rattle.layout.specs.declared.Version.{Version}
 use Rattle.query.specs.Queries.{bytesAt}
 use Rattle.query.specs.Queries.{nameSound, nameIn}
-use Rattle.path_search.specs.Search.{hashedNumbers, hashOf, numberCount, matches, leastPair, allPairs, pairsIn}
+use Rattle.lists.specs.Pairs.{pairsIn}
+use Rattle.path_search.specs.Search.{hashedNumbers, hashOf, numberCount, matches, leastPair, allPairs}
 use Rattle.path_search.specs.declared.PathAnswer.{PathAnswer}
 
 abbrev pub numbersIn : Layout → List ℕ → List ℕ → ℕ → List ℕ
@@ -49,11 +50,6 @@ pub record PairsPlaced (test : ℕ → ℕ → Bool) (m : ℕ) (before : List �
   pub pairs : after ≡ pairsIn (allPairs test m) before
 
 -- ---- where each pair goes, over any test of a number and an entry, and m entries
-
--- f 0 + f 1 + .. + f (n - 1)
-unfoldable pub sumBelow : (ℕ → ℕ) → ℕ → ℕ
-sumBelow f zero = 0
-sumBelow f (suc n) = sumBelow f n + f n
 
 -- the pairs of number n stand behind those of the lower numbers; behind all numbers that is the count of pairs
 abbrev pub startOf : (ℕ → ℕ → Bool) → ℕ → ℕ → ℕ
