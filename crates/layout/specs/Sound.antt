@@ -4,7 +4,7 @@ use Prim.Native.Nat.{_+_, _*_, _≤_}
 use Rattle.lists.specs.Count.{pick}
 use Rattle.layout.specs.declared.Layout.{Layout}
 use Rattle.layout.specs.Versions.{runTimeAt, timeCount, runCountAt, headEnd, metricsEntry, nameOffsetAt}
-use Rattle.layout.specs.Versions.{nameLengthAt, volumeEntry, traceEntry, hasNext, formRequired}
+use Rattle.layout.specs.Versions.{nameLengthAt, volumeEntry, traceEntry, hasNext, formRequired, fileReferenceAt}
 
 pub record SoundLayout (l : Layout) : Type 0 where
   -- the head's fields that every version has end by H
@@ -26,3 +26,5 @@ pub record SoundLayout (l : Layout) : Type 0 where
   pub linked : pick (hasNext l) (traceEntry l) 12 ≡ 12
   -- what tells the head form lies before the smallest H
   pub form : formRequired l ≤ 88
+  -- the file reference, where there is one, lies in the metrics entry
+  pub file-reference : fileReferenceAt l + 8 ≤ metricsEntry l

@@ -20,8 +20,9 @@ sizeLimit = 67_108_864
 
 -- one row: last run time | how many run times | run count | H | metrics entry | name offset, length in it | volume entry
 -- | trace entry | whether it has a next field | first section | how many bytes tell the head form, 0 where there is one form
-abbrev pub row : ℕ → ℕ → ℕ → ℕ → ℕ → ℕ → ℕ → ℕ → ℕ → Bool → ℕ → ℕ → Layout
-row time times runs head metrics offset length volume trace next section form =
+-- | file reference in the metrics entry (document 03, A2), 0 for none
+abbrev pub row : ℕ → ℕ → ℕ → ℕ → ℕ → ℕ → ℕ → ℕ → ℕ → Bool → ℕ → ℕ → ℕ → Layout
+row time times runs head metrics offset length volume trace next section form reference =
     record {
       «run_time_at» = time;
       «time_count» = times;
@@ -35,14 +36,15 @@ row time times runs head metrics offset length volume trace next section form =
       «has_next» = next;
       «first_section» = section;
       «form_required» = form;
+      «file_reference_at» = reference;
     }
 
 -- of a version with several head forms, the one with the smallest H
 abbrev pub layoutOf : Version → Layout
-layoutOf V17 = row 120 1 144 148 20 8 12 40 12 true 152 0
-layoutOf V23 = row 128 1 152 156 32 12 16 104 12 true 240 0
-layoutOf V26 = row 128 8 208 212 32 12 16 104 12 true 304 0
-layoutOf V30 = row 128 8 208 212 32 12 16 96 8 false 304 88
+layoutOf V17 = row 120 1 144 148 20 8 12 40 12 true 152 0 0
+layoutOf V23 = row 128 1 152 156 32 12 16 104 12 true 240 0 24
+layoutOf V26 = row 128 8 208 212 32 12 16 104 12 true 304 0 24
+layoutOf V30 = row 128 8 208 212 32 12 16 96 8 false 304 88 24
 
 -- the columns by name; H is the end of the last field read
 abbrev pub runTimeAt : Layout → ℕ
@@ -81,6 +83,9 @@ firstSection l = l .«first_section»
 
 abbrev pub formRequired : Layout → ℕ
 formRequired l = l .«form_required»
+
+abbrev pub fileReferenceAt : Layout → ℕ
+fileReferenceAt l = l .«file_reference_at»
 
 -- THE HEAD FORMS of version 30, a row each: source document 000 names one
 abbrev pub forms : List Layout

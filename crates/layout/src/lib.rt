@@ -77,6 +77,8 @@ pub struct Layout {
     pub first_section: u16,
     // How many bytes tell the head form; 0 where the version has one form.
     pub form_required: u16,
+    // The place of the file reference in a metrics entry; 0 where the version has none.
+    pub file_reference_at: u16,
 }
 
 // The layout of a head form, if it is known.
@@ -99,6 +101,7 @@ impl Layout {
         has_next: true,
         first_section: 152,
         form_required: 0,
+        file_reference_at: 0,
     };
 
     pub const V23: Layout = Layout {
@@ -114,6 +117,7 @@ impl Layout {
         has_next: true,
         first_section: 240,
         form_required: 0,
+        file_reference_at: 24,
     };
 
     pub const V26: Layout = Layout {
@@ -129,6 +133,7 @@ impl Layout {
         has_next: true,
         first_section: 304,
         form_required: 0,
+        file_reference_at: 24,
     };
 
     // The one head form of version 30 that is known: that of version 26, with entries of its own.
@@ -145,6 +150,7 @@ impl Layout {
         has_next: false,
         first_section: Layout::V26.first_section,
         form_required: 88,
+        file_reference_at: Layout::V26.file_reference_at,
     };
 
     // Of a version with several head forms, the one with the smallest H.

@@ -1,4 +1,4 @@
--- Tests over the numbers below a bound: whether one passes, and how many do.
+-- Over the numbers below a bound: whether one passes a test, how many do, and a sum.
 use mathlib.Core.Bool.{Bool, true, false}
 use Prim.Native.Nat.{ℕ, zero, suc, _+_}
 
@@ -16,3 +16,8 @@ anyBelow p (suc n) = elim (p n) [ true ↦ true | false ↦ anyBelow p n ]
 unfoldable pub count : (ℕ → Bool) → ℕ → ℕ
 count p zero = 0
 count p (suc n) = pick (p n) 1 0 + count p n
+
+-- the sum of f over the numbers below n
+unfoldable pub sumBelow : (ℕ → ℕ) → ℕ → ℕ
+sumBelow f zero = 0
+sumBelow f (suc n) = sumBelow f n + f n

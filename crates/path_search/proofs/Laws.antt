@@ -2,13 +2,12 @@
 -- and what a found path is.
 use mathlib.Core.Path.{_≡_, refl, sym, ap, _∙_}
 use mathlib.Core.Bool.{Bool, true, false, _&&_}
-use mathlib.Core.List.{List, []}
-use Prim.Native.Nat.{ℕ, _+_, _-_, _*_, _/_, _%_, _^_, _≤_, _<_}
-use native.Mathlib.Nat.{le-refl, min-zero, le-trans, le-div-iff-mul-le, div-lt-iff-lt-mul, add-mul, one-mul}
+use mathlib.Core.List.{List}
+use Prim.Native.Nat.{ℕ, _+_, _-_, _*_, _%_, _^_, _≤_, _<_}
+use native.Mathlib.Nat.{le-refl, le-trans, le-div-iff-mul-le, div-lt-iff-lt-mul, add-mul, one-mul}
 use native.Mathlib.Omega.{arith}
 use lib.Dec.{eqb}
 use lib.ListN.{length, take, drop}
-use lib.Seq.{take-nil}
 use borrow.Author.Tests.{ne-eqb, lt-ltb, le-ltb, le-leb, lt-leb}
 use Rattle.lists.specs.Count.{pick}
 use Rattle.layout.specs.Versions.{metricsEntry, sizeLimit}
@@ -21,19 +20,17 @@ use Rattle.path_search.proofs.Least.{least-same, pairs-same, least-at, 
 use Rattle.incremental.specs.Decision.{accept}
 use Rattle.incremental.specs.Plan.{decided, run}
 use Rattle.sections.specs.Fields.{storedHash, part}
-use Rattle.head.specs.Checks.{openPlan, openOf}
-use Rattle.head.specs.declared.checks.OpenAnswer.{OpenAnswer}
-use Rattle.head.specs.declared.checks.OpenAnswer.the-variants as openAnswer
+use Rattle.head.specs.Checks.{openPlan}
 use Rattle.head.specs.Opened.{OpenFacts}
 use Rattle.head.proofs.Facts.{open-sound, open-shapes}
 use Rattle.head.specs.declared.checks.Opening.{Opening}
 use Rattle.names.specs.Names.{nameAt, nameUnits, fits, sound}
 use Rattle.names.proofs.Laws.{name-past}
-use Rattle.query.specs.Queries.{asked, bytesAt, entryShown, namePlace}
+use Rattle.query.specs.Queries.{bytesAt, entryShown, namePlace}
 use Rattle.path_search.specs.Search.{hashedNumbers, hashOf, matches, entryNumbers, matchesBy, leastPair, allPairs, pathFound, PathFound}
-use Rattle.path_search.specs.Search.{pathPairs, pairsIn, ListsPaths}
+use Rattle.lists.specs.Pairs.{PairsListed}
 use Rattle.query.specs.Queries.{nameSound, nameIn}
-use Rattle.path_search.specs.Private.{numbersIn, testIn, numberFor, numberIn, numberedIn, entriesIn, searched, PairsPlaced}
+use Rattle.path_search.specs.Private.{numbersIn, testIn, numberFor, numberIn, numberedIn, entriesIn, searched}
 use Rattle.query.proofs.Laws.{name-inside, part-there, part-low, part-bytes}
 use Rattle.path_search.specs.declared.PathAnswer.{PathAnswer}
 use Rattle.path_search.specs.declared.PathAnswer.the-variants as pathAnswer
@@ -208,29 +205,13 @@ path-given o p f em es eh e =
 
 pub pairs-given : (o : Opening) (p : List ℕ) {metrics strings before after : List ℕ} {hash r : ℕ} → hash < 2 ^ 32
     → OpenFacts p o → metrics ≡ part (o .head .metrics) p → strings ≡ part (o .head .strings) p → hash ≡ storedHash p
-    → PairsPlaced (numberedIn (o .version) (o .layout) metrics strings hash) (entriesIn (o .layout) metrics) before r after
-    → PairsPlaced (matchesBy o p) (o .head .metrics .count) before r after
+    → PairsListed (allPairs (numberedIn (o .version) (o .layout) metrics strings hash) (entriesIn (o .layout) metrics)) before r after
+    → PairsListed (allPairs (matchesBy o p) (o .head .metrics .count)) before r after
 pairs-given o p b f em es eh q =
     let e = pairs-law o p f (rw eh at b) in
     let c = rw (em, es, eh, ← e) at (q .count) in
     let d = rw (em, es, eh, ← e) at (q .pairs) in
     record { count = c; pairs = d }
-
--- what is listed of a file, by what a call for its checks gave: `r` is that answer, on which the code has matched
-pub listed : (p : List ℕ) {before after : List ℕ} {r : OpenAnswer} {o : Opening} {n : ℕ} → openOf r ≡ run openPlan p → r ≡ openAnswer.Opened o
-    → PairsPlaced (matchesBy o p) (o .head .metrics .count) before n after → ListsPaths p before n after
-listed p e q w =
-    let a : run openPlan p ≡ decided (accept _) = sym e ∙ ap openOf q in
-    record { count = rw a (w .count); pairs = rw a (w .pairs) }
-
-no-pairs : (held : List ℕ) → held ≡ pairsIn [] held
-no-pairs held = rw (take-nil {A = ℕ} (2 * (length held / 2)), min-zero (2 * (length held / 2)))
-
-pub none-listed : (p : List ℕ) {held : List ℕ} {r : OpenAnswer} (x : OpenAnswer) → openOf r ≡ run openPlan p → r ≡ x
-    → asked (openOf x) [] (λ o. allPairs (matchesBy o p) (o .head .metrics .count)) ≡ [] → ListsPaths p held 0 held
-none-listed p {held} x e q h =
-    let a : pathPairs p ≡ [] = rw (← e, q) h in
-    record { count = rw a; pairs = rw a (no-pairs held) }
 
 -- ---- what a found path is
 pub path-found-law : (o : Opening) (p : List ℕ) (i n : ℕ) → run openPlan p ≡ decided (accept o) → pathFound p ≡ pathAnswer.Entry i n → PathFound o p i n

@@ -1,11 +1,10 @@
 -- The search on the bytes of the metrics and the strings: what the private functions give.
-use mathlib.Core.Path.{_≡_}
 use mathlib.Core.Bool.{Bool, _&&_}
 use mathlib.Core.List.{List}
-use Prim.Native.Nat.{ℕ, zero, suc, _+_, _*_, _/_}
+use Prim.Native.Nat.{ℕ, _+_, _*_, _/_}
 use lib.Dec.{ltb, eqb}
 use lib.ListN.{length, set}
-use Rattle.lists.specs.Count.{pick, count}
+use Rattle.lists.specs.Count.{pick, count, sumBelow}
 use Rattle.lists.specs.Table.{tabulate}
 use Rattle.path_hash.specs.Hash.{wrapSub}
 use Rattle.layout.specs.Versions.{metricsEntry}
@@ -13,7 +12,7 @@ use Rattle.layout.specs.declared.Layout.{Layout}
 use Rattle.layout.specs.declared.Version.{Version}
 use Rattle.query.specs.Queries.{bytesAt}
 use Rattle.query.specs.Queries.{nameSound, nameIn}
-use Rattle.path_search.specs.Search.{hashedNumbers, hashOf, numberCount, matches, leastPair, allPairs, pairsIn}
+use Rattle.path_search.specs.Search.{hashedNumbers, hashOf, numberCount, matches, leastPair}
 use Rattle.path_search.specs.declared.PathAnswer.{PathAnswer}
 
 abbrev pub numbersIn : Layout → List ℕ → List ℕ → ℕ → List ℕ
@@ -43,17 +42,7 @@ searched v l metrics strings stored = leastPair (testIn v l metrics strings stor
 abbrev pub numberedIn : Version → Layout → List ℕ → List ℕ → ℕ → ℕ → ℕ → Bool
 numberedIn v l metrics strings stored n i = eqb (numberIn v l metrics strings stored i) n
 
--- all pairs of m entries are counted, and those that fit are in the list
-pub record PairsPlaced (test : ℕ → ℕ → Bool) (m : ℕ) (before : List ℕ) (r : ℕ) (after : List ℕ) : Type 0 where
-  pub count : 2 * r ≡ length (allPairs test m)
-  pub pairs : after ≡ pairsIn (allPairs test m) before
-
 -- ---- where each pair goes, over any test of a number and an entry, and m entries
-
--- f 0 + f 1 + .. + f (n - 1)
-unfoldable pub sumBelow : (ℕ → ℕ) → ℕ → ℕ
-sumBelow f zero = 0
-sumBelow f (suc n) = sumBelow f n + f n
 
 -- the pairs of number n stand behind those of the lower numbers; behind all numbers that is the count of pairs
 abbrev pub startOf : (ℕ → ℕ → Bool) → ℕ → ℕ → ℕ

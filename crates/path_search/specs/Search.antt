@@ -1,12 +1,12 @@
 -- Document 01's path search, over bytes (request 102) and with numbers from 0 to 8 (request 105).
 use mathlib.Core.Bool.{Bool, true, false, _&&_}
 use mathlib.Core.List.{List, [], _∷_, _++_}
-use Prim.Native.Nat.{ℕ, zero, suc, _+_, _*_, _/_, _%_, _^_, _<_, min}
+use Prim.Native.Nat.{ℕ, zero, suc, _+_, _%_, _^_, _<_}
 use lib.Dec.{eqb}
-use lib.ListN.{length, take, drop}
 use Rattle.lists.specs.Answer.{Said}
 use Rattle.lists.specs.Count.{anyBelow}
 use Rattle.lists.specs.First.{first}
+use Rattle.lists.specs.Pairs.{PairsListed}
 use Rattle.lists.specs.Those.{those}
 use Rattle.lists.specs.declared.Found.{Found}
 use Rattle.lists.specs.declared.Found.the-variants.{At, Nothing}
@@ -84,14 +84,9 @@ pathFound p = asked (run openPlan p) pathAnswer.NoPath (λ o. leastPair (matches
 abbrev pub pathPairs : List ℕ → List ℕ
 pathPairs p = asked (run openPlan p) [] (λ o. allPairs (matchesBy o p) (o .head .metrics .count))
 
--- as many whole pairs as fit a list, and then what it held
-abbrev pub pairsIn : List ℕ → List ℕ → List ℕ
-pairsIn pairs held = take (2 * (length held / 2)) pairs ++ drop (min (2 * (length held / 2)) (length pairs)) held
-
--- THE PROMISE of the list: the full count of pairs, and what the borrowed list holds afterwards
-pub record ListsPaths (p before : List ℕ) (r : ℕ) (after : List ℕ) : Type 0 where
-  pub count : 2 * r ≡ length (pathPairs p)
-  pub pairs : after ≡ pairsIn (pathPairs p) before
+-- THE PROMISE of the list
+abbrev pub ListsPaths : List ℕ → List ℕ → ℕ → List ℕ → Type 0
+ListsPaths p before r after = PairsListed (pathPairs p) before r after
 
 -- what each case says: 1 for an entry, with its index and number, or 0 for none, with zeros
 abbrev pub pathSaid : PathAnswer → Said

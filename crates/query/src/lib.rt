@@ -5,6 +5,15 @@ ghost use Rattle.head.specs.Opened.{OpenFacts};
 ghost use Rattle.query.specs.Queries.{placeSaid, placeOf, ShownAt, programPlace, entryPlace, volumeAsked, volumeSaid, volumeValues};
 ghost use Rattle.query.specs.Queries.{referenceAsked, referenceSaid, placesNeeded, placesSaid};
 ghost use Rattle.query.specs.Private.{nameShown, entryIn, sectionShown, volumeIn, referenceIn};
+mod contents;
+mod costs;
+
+pub use contents::directories;
+pub use contents::entry_reference;
+pub use contents::references;
+pub use costs::FileCost;
+pub use costs::CostAnswer;
+pub use costs::cost;
 use head::OpenAnswer;
 use head::Opening;
 use head::StartAnswer;
@@ -40,6 +49,18 @@ pub enum VolumeAnswer {
 
 pub enum ReferenceAnswer {
     Shown(Reference),
+    NotShown,
+}
+
+// The file reference of a metrics entry (document 03, A2): whether the version has the field, 1 or 0, and both its numbers.
+pub struct EntryReference {
+    pub known: u32,
+    pub index: u64,
+    pub sequence: u16,
+}
+
+pub enum EntryReferenceAnswer {
+    Shown(EntryReference),
     NotShown,
 }
 
@@ -108,7 +129,7 @@ fn name_shown(metrics: &[u8], strings: &[u8], l: Layout, i: u32) -> PlaceAnswer
 }
 
 // Metrics entry i, where checks 1 to 6 pass. The index is below a 32-bit count before it is cast.
-fn entry_in(file: &[u8], o: Opening, i: usize) -> PlaceAnswer
+pub(crate) fn entry_in(file: &[u8], o: Opening, i: usize) -> PlaceAnswer
     requires { ⌜ OpenFacts (now file) o ⌝ }
     ensures { λ r. ⌜ r ≡ entryIn o (now (file .entry)) i ⌝ }
 {
@@ -152,7 +173,7 @@ pub fn entry_name(file: &[u8], i: usize) -> &[u8]
 }
 
 // Whether volume i can be shown, on the bytes that are there of its section.
-fn section_shown(s: Section, l: Layout, section: &[u8], i: usize) -> bool
+pub(crate) fn section_shown(s: Section, l: Layout, section: &[u8], i: usize) -> bool
     ensures { λ r. ⌜ r ≡ sectionShown s l (now (section .entry)) i ⌝ }
 {
     if let Fault::At(_, _) = sections::entries_fault(s.count, l.volume_entry, s.len) {

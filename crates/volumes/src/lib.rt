@@ -7,6 +7,7 @@ ghost use Rattle.lists.specs.Count.{pick};
 ghost use Rattle.incremental.specs.Decision.{checkedOf, refusal};
 ghost use Rattle.volumes.specs.Volumes.{stepAt, stepSaid, entryAt, volumeChecks, volumesChecks, volumeOf, referenceOf, pathFits};
 ghost use Rattle.volumes.specs.Volumes.{pathAt, pathCount, pathUnits, referenceCount, referencesFit, directoriesOf, entryChecks};
+ghost use Rattle.volumes.specs.Volumes.{directoriesAt, directoryCount};
 use incremental::Checked;
 use incremental::Fault;
 use layout::Layout;
@@ -226,6 +227,19 @@ pub fn volume_at(section: &[u8], l: Layout, i: u32) -> Volume
         path: path_start(section, entry),
         units: path_units(section, entry),
     }
+}
+
+// Where the directories of volume i start in the section, and how many it has.
+pub fn directories_at(section: &[u8], l: Layout, i: u32) -> usize
+    ensures { λ r. ⌜ r ≡ directoriesAt (now (section .entry)) (entryAt l i) ⌝ }
+{
+    little_endian::u32_at(section, entry_at(l, i) + 28) as usize
+}
+
+pub fn directory_count(section: &[u8], l: Layout, i: u32) -> u32
+    ensures { λ r. ⌜ r ≡ directoryCount (now (section .entry)) (entryAt l i) ⌝ }
+{
+    little_endian::u32_at(section, entry_at(l, i) + 32)
 }
 
 // Reference k of volume i: eight bytes each, behind the eight that start the list.
