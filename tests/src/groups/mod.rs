@@ -17,6 +17,8 @@ mod replay_points;
 pub mod replay_program;
 mod replays;
 mod version_30;
+mod volume_list_points;
+mod volume_lists;
 mod volumes;
 mod walks;
 mod write_points;
@@ -51,6 +53,7 @@ pub const GROUPS: &[Group] = &[
     ("links", links::run),
     ("volumes", volumes::run),
     ("queries", queries::run),
+    ("volume_lists", volume_lists::run),
     ("version_30", version_30::run),
     ("walks", walks::run),
     ("writes", writes::run),
