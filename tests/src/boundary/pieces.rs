@@ -22,7 +22,7 @@ pub struct PieceLists<'a> {
     pub boards: &'a [u8],
     pub work: Guarded<u32>,
     pub answers: Guarded<u64>,
-    out: Guarded<u64>,
+    pub out: Guarded<u64>,
 }
 
 impl<'a> PieceLists<'a> {

@@ -4,9 +4,14 @@ use crate::random::Random;
 use crate::tally::Tally;
 
 mod catalogue;
+mod costs;
 mod hashes;
 mod links;
 pub mod listing;
+mod path_from;
+mod path_from_points;
+mod piece_points;
+mod pieces;
 mod powers;
 mod prefixes;
 mod queries;
@@ -54,10 +59,13 @@ pub const GROUPS: &[Group] = &[
     ("volumes", volumes::run),
     ("queries", queries::run),
     ("volume_lists", volume_lists::run),
+    ("path_from", path_from::run),
+    ("costs", costs::run),
     ("version_30", version_30::run),
     ("walks", walks::run),
     ("writes", writes::run),
     ("replays", replays::run),
+    ("pieces", pieces::run),
     ("years", years::run),
     ("listing", listing::run),
 ];
