@@ -85,7 +85,7 @@ enum hs_reader_out {
     HS_READER_OUT = 22 /* length of an out that holds them all */
 };
 
-/* In a slot of predecessors: no entry. In every place of the replay's work afterwards, in pieces behind the last. */
+/* In a slot of predecessors: no entry. In every place of the replay's work at its end. */
 #define HS_NONE 4294967295u
 
 uint32_t hs_read_prefix(const uint8_t *file, size_t length, uint32_t *predecessors, size_t places, uint64_t *out,

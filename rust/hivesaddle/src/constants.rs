@@ -47,7 +47,7 @@ pub const HS_WALK_TOTAL: usize = 4;
 pub const HS_WALK_OUT: usize = 5;
 
 /// In a slot of `predecessors`: no entry. In every place of the replay's `work`
-/// afterwards.
+/// at its end.
 pub const HS_NONE: u32 = 4294967295;
 
 /// Bytes of a line with its line feed: as it is written, and as old ones are.
