@@ -27,6 +27,12 @@
 extern "C" {
 #endif
 
+/* The number of this interface, which grows with every change of it. hs_interface gives that of the header that the library
+ * was made with: where the two differ, header and library do not belong together. */
+#define HS_INTERFACE 1
+
+uint32_t hs_interface(void);
+
 /* ---- The readers ----
  *
  * hs_read_prefix looks at the first bytes of a file, as many as there are so far. What it accepts or refuses stands,
@@ -79,7 +85,7 @@ enum hs_reader_out {
     HS_READER_OUT = 22 /* length of an out that holds them all */
 };
 
-/* In a slot of predecessors: no entry. In every place of the replay's work afterwards. */
+/* In a slot of predecessors: no entry. In every place of the replay's work at its end. */
 #define HS_NONE 4294967295u
 
 uint32_t hs_read_prefix(const uint8_t *file, size_t length, uint32_t *predecessors, size_t places, uint64_t *out,
@@ -134,7 +140,7 @@ uint32_t hs_places(const uint8_t *file, size_t length, uint64_t *out, size_t out
  *  18                hs_catalogue_read and hs_year_table only: not a catalogue line
  *  19                hs_catalogue_write only: fields that form no line, or an output below 27 bytes
  *  20                hs_write_file only: output is shorter than the file                  0                    0
- *  22                hs_replay only: a line of the recording is no reading
+ *  22                hs_replay and hs_replay_finish only: a line of the recording is no reading
  *  23                hs_walk only: order has fewer places than there are trace entries    0                    0
  *  24                hs_year_table only: a 1,025th stored hash
  *  25                hs_hash_swap and hs_hash_swap_bytes only: p exceeds the length of old
@@ -239,6 +245,24 @@ uint32_t hs_volume(const uint8_t *file, size_t length, uint64_t i, uint64_t *out
  * out: entry index (48 bits), sequence number (16 bits). */
 uint32_t hs_reference(const uint8_t *file, size_t length, uint64_t i, uint64_t k, uint64_t *out, size_t out_length);
 
+/* The NTFS file reference of the file that metrics entry i names, 8 bytes at 24 of the entry in versions 23, 26 and 30.
+ * Version 17 has no such field. Yes exactly when hs_entry_name says yes. The numbers are given as they stand; both are 0 in
+ * an entry whose reference is not set.
+ * out: 1 where the version has the field and 0 where it has not, entry index (48 bits), sequence number (16 bits). */
+uint32_t hs_entry_reference(const uint8_t *file, size_t length, uint64_t i, uint64_t *out, size_t out_length);
+
+/* All directories of a volume, and all its file references, in their order. Each gives how many there are, however many
+ * fit: the numbers that hs_volume has, and 0 where it says no. The volume is checked once and then listed in one pass, so
+ * a list of n takes no n checks as n calls of hs_reference do. To learn the count alone, hand over a list of length 0.
+ *
+ * A directory is the file offset of its first unit and the number of its units without the last zero; its bytes in the
+ * file are twice as many. One without a unit has an offset too, two behind the start of its length field as any other's.
+ * pairs of hs_directories: offset, units, offset, units, .., as many whole pairs as fit.
+ * pairs of hs_references: entry index (48 bits), sequence number (16 bits), .., as many whole pairs as fit.
+ * All else of both is left alone, an odd last number too, and all of it after a count of 0. */
+uint64_t hs_directories(const uint8_t *file, size_t length, uint64_t volume, uint32_t *pairs, size_t pairs_length);
+uint64_t hs_references(const uint8_t *file, size_t length, uint64_t volume, uint64_t *pairs, size_t pairs_length);
+
 /* The path search. Windows adds the number of a program's /prefetch switch to the hash of its path, and 1 to 8 have an
  * effect. So a metrics entry matches with a number from 0 to 8 where it can be shown and the hash of its name plus that
  * number, mod 2 to the 32, is the stored hash. The hash is taken over the bytes of the name: XP for version 17, with its
@@ -254,6 +278,36 @@ uint32_t hs_find_path(const uint8_t *file, size_t length, uint64_t *out, size_t 
  * pairs: entry, number, entry, number, .., as many whole pairs as fit. All else of it is left alone, an odd last number
  * too. */
 uint64_t hs_list_paths(const uint8_t *file, size_t length, uint32_t *pairs, size_t pairs_length);
+
+/* The path search from another start. Windows 10 writes names that begin with \VOLUME{..} and takes the hash over the same
+ * path with \DEVICE\HARDDISKVOLUME2, or another number, in place of that; hs_find_path finds none there.
+ *
+ * start is what stands in place of the volume's path: bytes as a name has them (UTF-16, low byte first), of any length, odd
+ * or none. A metrics entry takes part exactly when it can be shown, the volume can be shown with a path of at least one
+ * unit, and the name begins with that path, followed by nothing or by a backslash (5C 00): a volume whose path ends in 1
+ * takes no part in names that have 10 there. It matches with a number from 0 to 8 where the hash of start followed by what
+ * stands in the name behind the volume's path, plus that number, mod 2 to the 32, is the stored hash.
+ *
+ * The least number with which an entry matches, and the first entry that matches with it, by its index in the file. No where
+ * there is none, or where checks 1 to 6 do not pass. With the volume's own path for start that is the answer of hs_find_path
+ * over the entries that take part. Every name is looked at anew, as by hs_find_path: hs_cost says how much that can be.
+ * out: entry, number. */
+uint32_t hs_find_path_from(const uint8_t *file, size_t length, uint64_t volume, const uint8_t *start, size_t start_length,
+                           uint64_t *out, size_t out_length);
+
+/* What it takes to look at a file. Many entries may name the same text and many volumes may list the same directories, and
+ * each is looked at anew: a file of 4 MB made on purpose keeps a reader busy for seconds or a minute, one of 64 MiB for
+ * hours.
+ *
+ * Names: bytes of all names with their zero units, of the metrics entries that lie whole in these bytes and whose name
+ * passes check 9, also where the strings are not there yet. Directories: for each volume entry that lies whole in these bytes
+ * and in its section, as far as the volume count goes, 4 times its directory count or the volumes size, whichever is less.
+ * Where no two names of an accepted file share a byte, the first is at most the strings size, and where no two directories
+ * do, the second is at most the volumes size: more than that says that they do.
+ *
+ * Yes exactly when checks 1 to 6 pass. One pass over the entries, so quick whatever the numbers are; no sum wraps.
+ * out: names, directories. */
+uint32_t hs_cost(const uint8_t *file, size_t length, uint64_t *out, size_t out_length);
 
 /* ---- Path hashes ----
  *
@@ -331,6 +385,50 @@ uint32_t hs_catalogue_write(uint32_t size, uint32_t stored_hash, uint32_t run_co
 uint32_t hs_replay(const uint8_t *recording, size_t length, const uint64_t *times, size_t times_length,
                    const uint8_t *boards, size_t boards_length, uint32_t *work, size_t work_length, uint64_t *answers,
                    size_t answers_length, uint64_t *out, size_t out_length);
+
+/* ---- The replay of a recording in pieces ----
+ *
+ * hs_replay for a recording of any length that comes in pieces, cut anywhere, without a list that holds all of it. For the
+ * starts served, begin, feeds and finish leave in answers what one hs_replay on the whole recording leaves, and finish
+ * gives what it gives.
+ *
+ *     uint64_t state[3] = {0}, line = 0, waiting = 0;
+ *     hs_replay_begin(times, .., work, .., answers, .., state, 3);
+ *     for each piece, the bytes that were not used before it in front:
+ *         hs_replay_feed(state[0], state[1], piece, length, times, .., work, .., answers, .., state, 3);
+ *         waiting = length - state[2];
+ *     hs_replay_finish(state[0], state[1], waiting, times, .., work, .., answers, .., &line, 1);
+ *
+ * Nothing is kept between the calls but in the caller's lists: times, boards, work and answers are handed to each of them, as
+ * they are after the call before, and lines and bad are the first two numbers of its out. Served are as many starts as the
+ * least of times_length, boards_length, work_length, answers_length / HS_ANSWER_LENGTH and 4,294,967,295, taken anew from the
+ * lengths of each call; other starts have no answer, and their numbers are left alone. Line numbers count modulo 2 to the 64.
+ *
+ * hs_replay_begin puts the starts served in order: so many places of work hold their indexes in the order of board, time and
+ * index. Their answers are none, four zeros each. All else of both lists is left alone.
+ * Gives 0. out: lines (0), first bad line (0), starts served.
+ *
+ * hs_replay_feed takes in the lines of a piece, HS_READING_LINE_LENGTH bytes each. A rest of fewer bytes is not used and comes
+ * first in the next piece, so at most 22 bytes wait. So many bytes that are no reading are a bad line: all of the piece is
+ * then used, and from then on, with bad not 0, every piece is used and nothing else changes. work is not changed. Where one
+ * of its served places is not below the number of starts served, answers is left alone, and lines, bad line and bytes used
+ * are as ever. Each call looks at all these places first, so pieces should not be short beside the number of starts.
+ * Gives 0. out: lines, first bad line or 0, bytes of the piece that need not come again.
+ *
+ * hs_replay_finish ends it. waiting is the number of bytes that were not used. The line number is bad where that is not 0,
+ * whatever waits, else lines + 1 where something waits, since that line has lost its line feed. Each place of work holds
+ * HS_NONE afterwards, served or not.
+ * Gives 22 with the line number, and then all answers served are none; else 0, and the answers stay.
+ * out: line number, 0 where all lines are good. */
+uint32_t hs_replay_begin(const uint64_t *times, size_t times_length, const uint8_t *boards, size_t boards_length,
+                         uint32_t *work, size_t work_length, uint64_t *answers, size_t answers_length, uint64_t *out,
+                         size_t out_length);
+uint32_t hs_replay_feed(uint64_t lines, uint64_t bad, const uint8_t *piece, size_t length, const uint64_t *times,
+                        size_t times_length, const uint8_t *boards, size_t boards_length, const uint32_t *work,
+                        size_t work_length, uint64_t *answers, size_t answers_length, uint64_t *out, size_t out_length);
+uint32_t hs_replay_finish(uint64_t lines, uint64_t bad, uint64_t waiting, const uint64_t *times, size_t times_length,
+                          const uint8_t *boards, size_t boards_length, uint32_t *work, size_t work_length,
+                          uint64_t *answers, size_t answers_length, uint64_t *out, size_t out_length);
 
 /* ---- The table at year's end ----
  *

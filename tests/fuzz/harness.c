@@ -17,9 +17,13 @@
  *   28     length of the output for a line, 0 to 39
  *   29     low four bits: length of the list of pairs, 0 to 15; high four: places for the order of a walk, chosen
  *          as the slots are, with bytes 4, 5 for any, or numbers for the answers of a replay or the rows of a table
- *   30     2 bytes: how many of the file's last bytes are the start of a swap, or the starts of a replay, nine for each;
- *          what stands before them is its recording. Bits 0, 1 of i: 2, 3: half as many boards, or times. Or the starts of
- *          a year's table, five for each, behind its lines; i says how many more it has, and whether before them
+ *   30     2 bytes: how many of the file's last bytes are the start of a swap or of a path search, or the starts of a
+ *          replay, nine for each; what stands before them is its recording. Bits 0, 1 of i: 2, 3: half as many boards, or
+ *          times. Or the starts of a year's table, five for each, behind its lines; i says how many more it has, and
+ *          whether before them
+ *
+ * Of a replay in pieces k says how long they are, low byte first and then again, 0 for a piece of 256; bits 2, 3 of i: 1: one
+ * place of work is put out of order before the last piece, 2: lines begin just below 2 to the 64, 3: with a bad line.
  *
  * A file is written from what the file says: the fields of its head, and of its sections what lies in its bytes.
  */
@@ -60,19 +64,31 @@ uint32_t judge_catalogue_read(const uint8_t *, size_t, uint64_t *, size_t);
 uint32_t judge_catalogue_write(uint32_t, uint32_t, uint32_t, uint32_t, uint8_t *, size_t);
 uint32_t judge_replay(const uint8_t *, size_t, const uint64_t *, size_t, const uint8_t *, size_t, uint32_t *, size_t,
                       uint64_t *, size_t, uint64_t *, size_t);
+uint64_t judge_directories(const uint8_t *, size_t, uint64_t, uint32_t *, size_t);
+uint64_t judge_references(const uint8_t *, size_t, uint64_t, uint64_t *, size_t);
+uint32_t judge_entry_reference(const uint8_t *, size_t, uint64_t, uint64_t *, size_t);
+uint32_t judge_find_path_from(const uint8_t *, size_t, uint64_t, const uint8_t *, size_t, uint64_t *, size_t);
+uint32_t judge_cost(const uint8_t *, size_t, uint64_t *, size_t);
+uint32_t judge_replay_begin(const uint64_t *, size_t, const uint8_t *, size_t, uint32_t *, size_t, uint64_t *, size_t,
+                            uint64_t *, size_t);
+uint32_t judge_replay_feed(uint64_t, uint64_t, const uint8_t *, size_t, const uint64_t *, size_t, const uint8_t *, size_t,
+                           const uint32_t *, size_t, uint64_t *, size_t, uint64_t *, size_t);
+uint32_t judge_replay_finish(uint64_t, uint64_t, uint64_t, const uint64_t *, size_t, const uint8_t *, size_t, uint32_t *,
+                             size_t, uint64_t *, size_t, uint64_t *, size_t);
 uint32_t judge_year_table(const uint8_t *, size_t, const uint32_t *, size_t, const uint64_t *, size_t, uint64_t *, size_t,
                           uint64_t *, size_t);
 
 enum call {
     READ_PREFIX, READ_FILE, PROGRAM_NAME, ENTRY_NAME, VOLUME, REFERENCE, FIND_PATH, HASH_XP, HASH_VISTA, HASH_2008,
     HASH_XP_BYTES, HASH_VISTA_BYTES, HASH_2008_BYTES, CATALOGUE_READ, CATALOGUE_WRITE, PLACES, LIST_PATHS,
-    HASH_POWERS, HASH_POWERS_BYTES, HASH_SWAP, HASH_SWAP_BYTES, WALK, WRITE_FILE, REPLAY, YEAR_TABLE, CALLS
+    HASH_POWERS, HASH_POWERS_BYTES, HASH_SWAP, HASH_SWAP_BYTES, WALK, WRITE_FILE, REPLAY, YEAR_TABLE, DIRECTORIES,
+    REFERENCES, ENTRY_REFERENCE, FIND_PATH_FROM, COST, REPLAY_PIECES, CALLS
 };
 static const char *const names[CALLS] = {
     "read_prefix", "read_file", "program_name", "entry_name", "volume", "reference", "find_path", "hash_xp", "hash_vista",
     "hash_2008", "hash_xp_bytes", "hash_vista_bytes", "hash_2008_bytes", "catalogue_read", "catalogue_write", "places",
     "list_paths", "hash_powers", "hash_powers_bytes", "hash_swap", "hash_swap_bytes", "walk", "write_file", "replay",
-    "year_table"
+    "year_table", "directories", "references", "entry_reference", "find_path_from", "cost", "replay_pieces"
 };
 
 /* ---- What has been seen, as the library answered ---- */
@@ -80,14 +96,17 @@ static const char *const names[CALLS] = {
 /* The greatest refusal number of the readers is 21, that of the walk 23. */
 enum { CODES = 27, REFUSALS = 24 };
 static uint64_t calls[CALLS], answers[CALLS][CODES], refusals[2][REFUSALS], accepted[2][32], numbers_found[9];
+static uint64_t numbers_found_from[9];
 static uint64_t walk_refusals[REFUSALS], large_totals, write_refusals[REFUSALS], written[32], readings_found, bad_later;
 
 static void count(enum call call, uint64_t code, const uint64_t *out, size_t out_length) {
     calls[call]++;
     if ((call >= HASH_XP && call <= HASH_2008_BYTES) || call == HASH_POWERS || call == HASH_POWERS_BYTES) return;
-    if (call == LIST_PATHS && code >= CODES) code = CODES - 1; /* that many pairs, or more */
+    int lists_pairs = call == LIST_PATHS || call == DIRECTORIES || call == REFERENCES;
+    if (lists_pairs && code >= CODES) code = CODES - 1; /* that many pairs, or more */
     answers[call][code]++;
     if (call == FIND_PATH && code == 1 && out_length > 1) numbers_found[out[1]]++;
+    if (call == FIND_PATH_FROM && code == 1 && out_length > 1) numbers_found_from[out[1]]++;
     if (call == WALK && code == HS_REFUSED && out_length > HS_WALK_NUMBER) walk_refusals[out[HS_WALK_NUMBER]]++;
     if (call == WALK && out_length > HS_WALK_TOTAL) large_totals += out[HS_WALK_TOTAL] > UINT32_MAX;
     if (call == WRITE_FILE && code == HS_REFUSED && out_length > HS_NUMBER) write_refusals[out[HS_NUMBER]]++;
@@ -98,6 +117,7 @@ static void count(enum call call, uint64_t code, const uint64_t *out, size_t out
 }
 
 static void report_year(void);
+static void report_pieces(void);
 
 static void report(void) {
     for (int call = 0; call < CALLS; call++) {
@@ -127,7 +147,10 @@ static void report(void) {
     report_year();
     fprintf(stderr, "seen: find_path: by number");
     for (int number = 0; number <= 8; number++) fprintf(stderr, ", %d: %lu", number, numbers_found[number]);
+    fprintf(stderr, "\nseen: find_path_from: by number");
+    for (int number = 0; number <= 8; number++) fprintf(stderr, ", %d: %lu", number, numbers_found_from[number]);
     fputc('\n', stderr);
+    report_pieces();
     if (!instruction_count) return;
     fprintf(stderr, "seen: %zu of %zu instructions of the library\n", reached_count, instruction_count);
     for (size_t i = 0; i < instruction_count; i++)
@@ -313,6 +336,7 @@ static void replay_both(const struct input *in, uint64_t i, uint64_t *given, uin
     for (size_t k = 0; k < starts && 4 * k + 3 < numbers; k++) readings_found += ((uint64_t *)lists[ANSWERS].start)[4 * k];
 }
 
+#include "pieces.h"
 #include "year.h"
 
 static void one_call(enum call call, const struct input *in, uint64_t i, uint64_t k) {
@@ -322,6 +346,7 @@ static void one_call(enum call call, const struct input *in, uint64_t i, uint64_
     lay_pair(OUT, JUDGE_OUT, 8 * in->out_length, flags & 4);
     lay_pair(LINE, JUDGE_LINE, line, flags & 4);
     lay_pair(PAIRS, JUDGE_PAIRS, 4 * pairs, flags & 2);
+    lay_pair(WIDE_PAIRS, JUDGE_WIDE_PAIRS, 8 * pairs, flags & 2);
     lay_pair(ORDER, JUDGE_ORDER, call == WALK ? 4 * in->order_length : 0, flags & 4);
     lay_pair(OUTPUT, JUDGE_OUTPUT, 0, flags & 4);
     size_t start_length = in->start_length, start_count = start_length / 4;
@@ -426,6 +451,27 @@ static void one_call(enum call call, const struct input *in, uint64_t i, uint64_
     case WRITE_FILE: write_both(in, &given, &expected); break;
     case REPLAY: replay_both(in, i, &given, &expected); break;
     case YEAR_TABLE: year_both(in, i, &given, &expected); break;
+    case DIRECTORIES:
+        given = hs_directories(file, n, i, pointer(&lists[PAIRS]), pairs);
+        expected = judge_directories(file, n, i, pointer(&lists[JUDGE_PAIRS]), pairs);
+        break;
+    case REFERENCES:
+        given = hs_references(file, n, i, pointer(&lists[WIDE_PAIRS]), pairs);
+        expected = judge_references(file, n, i, pointer(&lists[JUDGE_WIDE_PAIRS]), pairs);
+        break;
+    case ENTRY_REFERENCE:
+        given = hs_entry_reference(file, n, i, out, o);
+        expected = judge_entry_reference(file, n, i, judge_out, o);
+        break;
+    case FIND_PATH_FROM:
+        given = hs_find_path_from(file, n, i, pointer(&lists[START]), start_length, out, o);
+        expected = judge_find_path_from(file, n, i, pointer(&lists[START]), start_length, judge_out, o);
+        break;
+    case COST:
+        given = hs_cost(file, n, out, o);
+        expected = judge_cost(file, n, judge_out, o);
+        break;
+    case REPLAY_PIECES: pieces_both(in, i, k, &given, &expected); break;
     default: abort();
     }
     if (given != expected) {
@@ -436,6 +482,7 @@ static void one_call(enum call call, const struct input *in, uint64_t i, uint64_
     same_list(call, "predecessors", TABLE, JUDGE_TABLE);
     same_list(call, "line", LINE, JUDGE_LINE);
     same_list(call, "pairs", PAIRS, JUDGE_PAIRS);
+    same_list(call, "wide pairs", WIDE_PAIRS, JUDGE_WIDE_PAIRS);
     same_list(call, "order", ORDER, JUDGE_ORDER);
     same_list(call, "output", OUTPUT, JUDGE_OUTPUT);
     if (n && memcmp(lists[FILE_LIST].start, in->bytes, n)) differ(call, "the file was changed");
@@ -455,7 +502,8 @@ static void all_calls(const struct input *in) {
             one_call(call, in, length, in->k);
             one_call(call, in, length + 1, in->k);
         }
-        if (call < ENTRY_NAME || call > REFERENCE) continue;
+        int of_the_new = call >= DIRECTORIES && call <= FIND_PATH_FROM;
+        if ((call < ENTRY_NAME || call > REFERENCE) && !of_the_new) continue;
         for (size_t a = 0; a < sizeof indexes / sizeof *indexes; a++) {
             one_call(call, in, indexes[a], in->k);
             if (call == REFERENCE) one_call(call, in, in->k % 4, indexes[a]);

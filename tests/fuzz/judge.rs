@@ -10,15 +10,17 @@ mod numbers;
 #[path = "../src/reference/mod.rs"]
 mod reference;
 
-use numbers::{numbers_of, replay_numbers, walk_numbers, year_numbers};
+use numbers::{answer_numbers, numbers_of, replay_numbers, walk_numbers, year_numbers};
 use reference::catalogue::{self, Fields};
 use reference::head::{section, VOLUMES};
+use reference::path_from::find_path_from;
 use reference::readers::{read_file, read_prefix, Answer};
-use reference::replay::{replay, starts_of};
+use reference::replay::{replay, signed, starts_of, Reading};
 use reference::search::{find_path, list_paths};
+use reference::volume_lists::{directories, references};
 use reference::walk::walk;
 use reference::writer::{self, Description};
-use reference::{hashes, queries, year};
+use reference::{cost, hashes, pieces, queries, year};
 
 unsafe fn list<'a, T>(pointer: *const T, length: usize) -> &'a [T] {
     match length {
@@ -235,6 +237,77 @@ pub unsafe extern "C" fn judge_list_paths(
     found.len() as u64
 }
 
+/// As many whole pairs as fit.
+#[no_mangle]
+pub unsafe extern "C" fn judge_directories(
+    file: *const u8,
+    length: usize,
+    volume: u64,
+    pairs: *mut u32,
+    pairs_length: usize,
+) -> u64 {
+    let listed = directories(list(file, length), volume);
+    let fitting = listed.iter().take(pairs_length / 2);
+    let numbers: Vec<u32> = fitting.flat_map(|d| [d.offset as u32, d.units as u32]).collect();
+    write(pairs, pairs_length, &numbers);
+    listed.len() as u64
+}
+
+/// As many whole pairs as fit.
+#[no_mangle]
+pub unsafe extern "C" fn judge_references(
+    file: *const u8,
+    length: usize,
+    volume: u64,
+    pairs: *mut u64,
+    pairs_length: usize,
+) -> u64 {
+    let listed = references(list(file, length), volume);
+    let fitting = listed.iter().take(pairs_length / 2);
+    let numbers: Vec<u64> = fitting.flat_map(|r| [r.entry_index, r.sequence_number]).collect();
+    write(pairs, pairs_length, &numbers);
+    listed.len() as u64
+}
+
+#[no_mangle]
+pub unsafe extern "C" fn judge_entry_reference(
+    file: *const u8,
+    length: usize,
+    i: u64,
+    out: *mut u64,
+    out_length: usize,
+) -> u32 {
+    let reference = queries::entry_reference(list(file, length), i);
+    let numbers =
+        reference.map(|field| field.map_or([0; 3], |r| [1, r.entry_index, r.sequence_number]));
+    tell(numbers, out, out_length)
+}
+
+#[no_mangle]
+pub unsafe extern "C" fn judge_find_path_from(
+    file: *const u8,
+    length: usize,
+    volume: u64,
+    start: *const u8,
+    start_length: usize,
+    out: *mut u64,
+    out_length: usize,
+) -> u32 {
+    let found = find_path_from(list(file, length), volume, list(start, start_length));
+    tell(found.map(|found| [found.entry, found.number]), out, out_length)
+}
+
+#[no_mangle]
+pub unsafe extern "C" fn judge_cost(
+    file: *const u8,
+    length: usize,
+    out: *mut u64,
+    out_length: usize,
+) -> u32 {
+    let cost = cost::cost(list(file, length));
+    tell(cost.map(|cost| [cost.names, cost.directories]), out, out_length)
+}
+
 #[no_mangle]
 pub unsafe extern "C" fn judge_hash_xp(numbers: *const u32, count: usize) -> u32 {
     hashes::hash_xp(list(numbers, count))
@@ -376,6 +449,95 @@ pub unsafe extern "C" fn judge_replay(
     write(answers, answers_length / 4 * 4, &numbers);
     write(out, out_length, &line);
     code
+}
+
+#[no_mangle]
+pub unsafe extern "C" fn judge_replay_begin(
+    times: *const u64,
+    times_length: usize,
+    boards: *const u8,
+    boards_length: usize,
+    work: *mut u32,
+    work_length: usize,
+    answers: *mut u64,
+    answers_length: usize,
+    out: *mut u64,
+    out_length: usize,
+) -> u32 {
+    let served = pieces::served(times_length, boards_length, work_length, answers_length);
+    let starts = starts_of(list(times, served), list(boards, served));
+    write(work, work_length, &pieces::order(&starts));
+    write(answers, answers_length, &vec![0; 4 * served]);
+    write(out, out_length, &[0, 0, served as u64]);
+    0
+}
+
+/// The answers are those of a call before, and so is the order or it has a place that is none.
+#[no_mangle]
+pub unsafe extern "C" fn judge_replay_feed(
+    lines: u64,
+    bad: u64,
+    piece: *const u8,
+    length: usize,
+    times: *const u64,
+    times_length: usize,
+    boards: *const u8,
+    boards_length: usize,
+    work: *const u32,
+    work_length: usize,
+    answers: *mut u64,
+    answers_length: usize,
+    out: *mut u64,
+    out_length: usize,
+) -> u32 {
+    let served = pieces::served(times_length, boards_length, work_length, answers_length);
+    let starts = starts_of(list(times, served), list(boards, served));
+    let so_far = list(answers.cast_const(), 4 * served).chunks_exact(4).map(|answer| {
+        (answer[0] != 0).then(|| Reading {
+            time: answer[1],
+            board: answer[2] as u8,
+            temperature: signed(answer[3]),
+        })
+    });
+    let so_far: Vec<Option<Reading>> = so_far.collect();
+    let (piece, order) = (list(piece, length), list(work, served));
+    let fed = pieces::feed((lines, bad), piece, &starts, order, &so_far);
+    if let Some(new) = fed.answers {
+        let numbers: Vec<u64> = new.iter().flat_map(answer_numbers).collect();
+        write(answers, answers_length, &numbers);
+    }
+    write(out, out_length, &[fed.lines, fed.bad, fed.used]);
+    0
+}
+
+#[no_mangle]
+pub unsafe extern "C" fn judge_replay_finish(
+    lines: u64,
+    bad: u64,
+    waiting: u64,
+    _times: *const u64,
+    times_length: usize,
+    _boards: *const u8,
+    boards_length: usize,
+    work: *mut u32,
+    work_length: usize,
+    answers: *mut u64,
+    answers_length: usize,
+    out: *mut u64,
+    out_length: usize,
+) -> u32 {
+    let served = pieces::served(times_length, boards_length, work_length, answers_length);
+    let line = pieces::finish(lines, bad, waiting);
+    if line.is_some() {
+        write(answers, answers_length, &vec![0; 4 * served]);
+    }
+    write(work, work_length, &vec![constants::HS_NONE; work_length]);
+    write(out, out_length, &[line.unwrap_or(0)]);
+    if line.is_some() {
+        22
+    } else {
+        0
+    }
 }
 
 /// As many whole rows as fit.

@@ -2,12 +2,14 @@
 //!
 //! Writes inputs for the fuzzer to start from: the files given, and of each version sound files, a file damaged for
 //! each check that it can fail, and cuts; chains to walk; files to write; lines; lists around the end of the table of
-//! powers; recordings with starts; and lines and starts for a year's table. The same bytes every time.
+//! powers; recordings with starts, whole and in pieces; lines and starts for a year's table; and names that begin with
+//! a volume's path, with a start to put in its place. The same bytes every time.
 
 use compare::generate::bare::with_blocks;
 use compare::generate::cuts::cuts;
 use compare::generate::damage::{aims_of, damage};
 use compare::generate::recordings::{any_case, spoil, Case};
+use compare::generate::rooted;
 use compare::generate::years;
 use compare::generate::{sound_of, Counts, Sample};
 use compare::random::Random;
@@ -26,6 +28,8 @@ const WALK: u8 = 21;
 const WRITE_FILE: u8 = 22;
 const REPLAY: u8 = 23;
 const YEAR_TABLE: u8 = 24;
+const FIND_PATH_FROM: u8 = 28;
+const REPLAY_PIECES: u8 = 30;
 /// Slots as the trace count says, or one fewer; above them the same for the places of a walk's order.
 const EXACT: u8 = 0;
 const FEWER: u8 = 3;
@@ -37,6 +41,16 @@ const OUTPUT_MORE: u8 = 4 << 4;
 const ODD_NUMBERS: u8 = 3 << 5;
 /// The recording as bytes, or the catalogue lines.
 const AS_BYTES: u8 = 1 << 7;
+
+/// The choices of a replay, whole or in pieces.
+#[derive(Clone, Copy)]
+struct Replay {
+    call: u8,
+    places: u8,
+    i: u64,
+    k: u64,
+    form: u8,
+}
 
 struct Seeds {
     folder: PathBuf,
@@ -184,32 +198,48 @@ impl Seeds {
                     let time = reading.time.to_be_bytes().to_vec();
                     [time, vec![reading.board], reading.temperature.to_be_bytes().to_vec()].concat()
                 });
-                self.replay(places, i, AS_BYTES, readings.collect(), &case)?;
+                let whole = Replay { call: REPLAY, places, i, k: 0, form: 0 };
+                let bytes: Vec<u8> = readings.collect();
+                self.replay(Replay { form: AS_BYTES, ..whole }, bytes.clone(), &case)?;
+                // The pieces; and i also says what is odd about them.
+                let (i, k) = (i | random.next() << 2, random.next());
+                let pieces = Replay { call: REPLAY_PIECES, i, k, ..whole };
+                self.replay(Replay { form: AS_BYTES, ..pieces }, bytes, &case)?;
                 let mut recording = case.recording();
-                self.replay(places, i, 0, recording.clone(), &case)?;
+                self.replay(whole, recording.clone(), &case)?;
+                self.replay(pieces, recording.clone(), &case)?;
                 spoil(random, &mut recording);
-                self.replay(places, i, 0, recording, &case)?;
+                self.replay(whole, recording.clone(), &case)?;
+                self.replay(pieces, recording, &case)?;
             }
         }
         Ok(())
     }
 
-    fn replay(
-        &mut self,
-        places: u8,
-        i: u64,
-        form: u8,
-        mut bytes: Vec<u8>,
-        case: &Case,
-    ) -> io::Result<()> {
+    fn replay(&mut self, replay: Replay, mut bytes: Vec<u8>, case: &Case) -> io::Result<()> {
+        let Replay { call, places, i, k, form } = replay;
         for start in &case.starts {
             bytes.extend(start.time.to_be_bytes());
             bytes.push(start.board);
         }
-        let mut input = self.input(REPLAY, places, i, 0, &bytes);
+        let mut input = self.input(call, places, i, k, &bytes);
         input[1] |= form;
         input[30..32].copy_from_slice(&(9 * case.starts.len() as u16).to_le_bytes());
         self.save(input)
+    }
+
+    /// Files of every version, each with its start behind it.
+    fn other_starts(&mut self, random: &mut Random) -> io::Result<()> {
+        for layout in &LAYOUTS {
+            for _ in 0..12 {
+                let rooted::Rooted { mut bytes, volume, start } = rooted::any_of(random, layout);
+                bytes.extend(&start);
+                let mut input = self.input(FIND_PATH_FROM, EXACT, volume, 0, &bytes);
+                input[30..32].copy_from_slice(&(start.len() as u16).to_le_bytes());
+                self.save(input)?;
+            }
+        }
+        Ok(())
     }
 
     /// Lines as text and as bytes, spoilt ones, and as many hashes as a table has and one more.
@@ -269,5 +299,6 @@ fn main() -> io::Result<()> {
     seeds.lines()?;
     seeds.powers(&mut Random::new(2))?;
     seeds.replays(&mut Random::new(4))?;
-    seeds.years(&mut Random::new(5))
+    seeds.years(&mut Random::new(5))?;
+    seeds.other_starts(&mut Random::new(6))
 }

@@ -6,6 +6,7 @@ pub mod cuts;
 pub mod damage;
 pub mod misread;
 pub mod recordings;
+pub mod rooted;
 pub mod shapes;
 mod strings;
 mod volumes;

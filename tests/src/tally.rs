@@ -54,6 +54,44 @@ impl Tally {
     }
 }
 
+/// How often each kind of case has come up, of the kinds that have to.
+pub struct Kinds {
+    group: &'static str,
+    counts: Vec<(String, u64)>,
+}
+
+impl Kinds {
+    pub fn new(group: &'static str, kinds: &[&str]) -> Kinds {
+        Kinds { group, counts: kinds.iter().map(|kind| (kind.to_string(), 0)).collect() }
+    }
+
+    /// The same kind for each of these.
+    pub fn with_each(mut self, kind: &str, each: impl IntoIterator<Item = u64>) -> Kinds {
+        self.counts.extend(each.into_iter().map(|one| (format!("{kind} {one}"), 0)));
+        self
+    }
+
+    /// One more, where it is of that kind.
+    pub fn note(&mut self, kind: &str, is_so: bool) {
+        let known = self.counts.iter_mut().find(|(name, _)| name == kind);
+        known.unwrap_or_else(|| panic!("no kind {kind}")).1 += u64::from(is_so);
+    }
+
+    pub fn note_each(&mut self, kind: &str, one: u64) {
+        self.note(&format!("{kind} {one}"), true);
+    }
+
+    /// Each kind has to have come up so often.
+    pub fn report(&self, tally: &mut Tally, least: u64) {
+        let shown = self.counts.iter().map(|(name, count)| format!("{name}: {count}"));
+        println!("{}: {}", self.group, shown.collect::<Vec<String>>().join(", "));
+        for (name, count) in &self.counts {
+            let what = format!("{}: {name} has come up often", self.group);
+            tally.named(&what, &true, &(*count >= least));
+        }
+    }
+}
+
 fn cut(mut text: String) -> String {
     if text.len() > 2 * HEX_LIMIT {
         text.truncate(2 * HEX_LIMIT);

@@ -20,6 +20,7 @@ static size_t length, places;
 static uint32_t *predecessors, *order;
 static uint64_t out[HS_READER_OUT];
 static uint32_t numbers[1000], pairs[64];
+static uint64_t wide_pairs[64];
 static uint8_t line[HS_CATALOGUE_LINE_LENGTH];
 static const uint16_t name[] = {65, 66, 67};
 static uint32_t *metrics, *trace;
@@ -94,6 +95,12 @@ static void program_name(void) { answer = hs_program_name(file, length, out, HS_
 static void entry_name(void) { answer = hs_entry_name(file, length, 1, out, HS_READER_OUT); }
 static void volume(void) { answer = hs_volume(file, length, 1, out, HS_READER_OUT); }
 static void reference(void) { answer = hs_reference(file, length, 1, 0, out, HS_READER_OUT); }
+static void entry_reference(void) { answer = hs_entry_reference(file, length, 1, out, HS_READER_OUT); }
+static void directories(void) { answer = (uint32_t)hs_directories(file, length, 0, pairs, 64); }
+static void references(void) { answer = (uint32_t)hs_references(file, length, 0, wide_pairs, 64); }
+static void find_path_from(void) { answer = hs_find_path_from(file, length, 0, (const uint8_t *)name, 6, out, HS_READER_OUT); }
+static void cost(void) { answer = hs_cost(file, length, out, HS_READER_OUT); }
+static void interface(void) { answer = hs_interface(); }
 static void hash_xp(void) { answer = hs_hash_xp(numbers, 1000); }
 static void hash_vista(void) { answer = hs_hash_vista(numbers, 1000); }
 static void hash_2008(void) { answer = hs_hash_2008(numbers, 1000); }
@@ -113,6 +120,22 @@ static void replay_in_blocks(void)
 {
     answer = hs_replay(recording, recording_length, times, STARTS, boards, STARTS, work, STARTS / 7, answers,
                        HS_ANSWER_LENGTH * STARTS, out, HS_READER_OUT);
+}
+static void replay_begin(void)
+{
+    answer = hs_replay_begin(times, STARTS, boards, STARTS, work, STARTS, answers, HS_ANSWER_LENGTH * STARTS, out,
+                             HS_READER_OUT);
+}
+/* Behind hs_replay_begin, and before hs_replay_finish, as the table has them. */
+static void replay_feed(void)
+{
+    answer = hs_replay_feed(0, 0, recording, recording_length, times, STARTS, boards, STARTS, work, STARTS, answers,
+                            HS_ANSWER_LENGTH * STARTS, out, HS_READER_OUT);
+}
+static void replay_finish(void)
+{
+    answer = hs_replay_finish(0, 0, recording_length % HS_READING_LINE_LENGTH, times, STARTS, boards, STARTS, work, STARTS,
+                              answers, HS_ANSWER_LENGTH * STARTS, out, HS_READER_OUT);
 }
 static void year_table(void)
 {
@@ -139,6 +162,12 @@ static struct {
     {"hs_reference", reference, 0},
     {"hs_find_path", find_path, 0},
     {"hs_list_paths", list_paths, 0},
+    {"hs_entry_reference", entry_reference, 0},
+    {"hs_directories", directories, 0},
+    {"hs_references", references, 0},
+    {"hs_find_path_from", find_path_from, 0},
+    {"hs_cost", cost, 0},
+    {"hs_interface", interface, 0},
     {"hs_hash_xp", hash_xp, 0},
     {"hs_hash_vista", hash_vista, 0},
     {"hs_hash_2008", hash_2008, 0},
@@ -151,6 +180,9 @@ static struct {
     {"hs_hash_swap_bytes", hash_swap_bytes, 0},
     {"hs_replay", replay, 0},
     {"hs_replay with fewer places", replay_in_blocks, 0},
+    {"hs_replay_begin", replay_begin, 0},
+    {"hs_replay_feed", replay_feed, 0},
+    {"hs_replay_finish", replay_finish, 0},
     {"hs_year_table", year_table, 0},
     {"hs_catalogue_write", catalogue_write, 0},
     {"hs_catalogue_read", catalogue_read, 0},

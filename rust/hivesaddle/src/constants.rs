@@ -1,6 +1,10 @@
 //! The numbers of `include/hivesaddle.h`, under the names that they have
 //! there; `tests/header.rs` holds the two together.
 
+/// The number of the interface, which grows with every change of it. That of
+/// the library linked is what `hs_interface` gives.
+pub const HS_INTERFACE: u32 = 1;
+
 /// What both readers give back, and the walk and the writer the first two of
 /// them.
 pub const HS_ACCEPTED: u32 = 0;
@@ -43,7 +47,7 @@ pub const HS_WALK_TOTAL: usize = 4;
 pub const HS_WALK_OUT: usize = 5;
 
 /// In a slot of `predecessors`: no entry. In every place of the replay's `work`
-/// afterwards.
+/// at its end.
 pub const HS_NONE: u32 = 4294967295;
 
 /// Bytes of a line with its line feed: as it is written, and as old ones are.

@@ -5,14 +5,15 @@
 //!
 //! Every function takes any bytes, any index and any buffer length and comes
 //! to an end. Nothing is allocated, but by [`read_file_alloc`],
-//! [`list_paths_alloc`], [`write_file_alloc`], [`TestFile`], [`DescribedFile`],
-//! [`replay()`], [`Replay`] and [`year_table`].
+//! [`list_paths_alloc`], [`directories`], [`references`], [`write_file_alloc`],
+//! [`TestFile`], [`DescribedFile`], [`replay()`], [`Replay`] and [`year_table`].
 //!
 //! Numbers in a file are little-endian. A text is UTF-16 units kept as they
 //! stand, and is handed over as bytes, low byte first.
 
 mod catalogue;
 mod constants;
+mod cost;
 mod description;
 mod hashes;
 mod queries;
@@ -20,6 +21,7 @@ pub mod raw;
 mod readers;
 mod replay;
 mod test_file;
+mod volume_lists;
 mod walk;
 mod writer;
 mod year;
@@ -28,24 +30,38 @@ pub use catalogue::{
     catalogue_read, catalogue_write, CatalogueFields, CATALOGUE_LINE_LENGTH,
     CATALOGUE_OLD_LINE_LENGTH,
 };
+pub use cost::{cost, Cost};
 pub use description::{DescribedFile, DescriptionError};
 pub use hashes::{
     hash_2008, hash_2008_bytes, hash_powers, hash_powers_bytes, hash_swap, hash_swap_bytes,
     hash_vista, hash_vista_bytes, hash_xp, hash_xp_bytes,
 };
 pub use queries::{
-    entry_name, find_path, list_paths, list_paths_alloc, places, program_name, reference, volume,
-    FoundPath, Reference, Volume,
+    entry_name, entry_reference, find_path, find_path_from, list_paths, list_paths_alloc, places,
+    program_name, reference, volume, EntryReference, FoundPath, Reference, Volume,
 };
 pub use readers::{read_file, read_file_alloc, read_prefix, FileContents, Record, Verdict};
-pub use replay::{replay, replay_into, BadLine, Reading, Replay, Start};
+pub use replay::{replay, replay_into, BadLine, Reading, Replay, ReplayInto, Start};
 pub use test_file::{TestFile, TestVolume};
+pub use volume_lists::{directories, directories_into, references, references_into};
 pub use walk::{walk, Walk};
 pub use writer::{write_file, write_file_alloc, Description};
 pub use year::{
     year_table, year_table_into, Readings, YearRefusal, YearRow, YearStart, YEAR_MOST_LINES,
     YEAR_MOST_ROWS, YEAR_MOST_STARTS, YEAR_ROW_LENGTH,
 };
+
+/// The number of the interface that the crate was written for.
+pub const INTERFACE: u32 = raw::HS_INTERFACE;
+
+/// The number of the interface of the library that is linked.
+///
+/// ```
+/// assert_eq!(hivesaddle::interface(), hivesaddle::INTERFACE);
+/// ```
+pub fn interface() -> u32 {
+    unsafe { raw::hs_interface() }
+}
 
 /// What a slot of `predecessors` holds where it has no entry, and every slot
 /// after an answer that is no acceptance; and each place of `work` after a

@@ -24,6 +24,14 @@ pub struct Reference {
     pub sequence_number: u16,
 }
 
+/// What a metrics entry says of its file beside the name.
+#[derive(Clone, Copy, Debug, PartialEq, Eq)]
+pub struct EntryReference {
+    /// The reference as it stands, both numbers 0 where it is not set; none in
+    /// version 17, whose entries have no such field.
+    pub reference: Option<Reference>,
+}
+
 /// A metrics entry whose name has the stored hash, once the number is added.
 #[derive(Clone, Copy, Debug, PartialEq, Eq)]
 pub struct FoundPath {
@@ -113,6 +121,36 @@ pub fn entry_name(file: &[u8], i: u64) -> Option<&[u8]> {
     yes(answer).then(|| part(file, out[0], out[1]))
 }
 
+/// The NTFS file reference of metrics entry i. None where [`entry_name`] gives
+/// none.
+///
+/// ```
+/// use hivesaddle::{entry_reference, EntryReference, Reference};
+/// // Version 23: one metrics entry at 156, and the strings "A" at 188.
+/// let mut file = [0; 192];
+/// file[0] = 23;
+/// file[4..8].copy_from_slice(b"SCCA");
+/// file[12] = 192;
+/// (file[84], file[88]) = (156, 1);
+/// (file[100], file[104]) = (188, 4);
+/// file[156 + 16] = 1;
+/// file[156 + 24..156 + 32].copy_from_slice(&[1, 2, 0, 0, 0, 0, 3, 0]);
+/// file[188] = b'A';
+/// let reference = Some(Reference { entry_index: 0x0201, sequence_number: 3 });
+/// assert_eq!(entry_reference(&file, 0), Some(EntryReference { reference }));
+/// assert_eq!(entry_reference(&file, 1), None);
+/// assert_eq!(entry_reference(&file[..191], 0), None);
+/// ```
+pub fn entry_reference(file: &[u8], i: u64) -> Option<EntryReference> {
+    let mut out = [0; 3];
+    let answer = unsafe {
+        raw::hs_entry_reference(file.as_ptr(), file.len(), i, out.as_mut_ptr(), out.len())
+    };
+    let [has_field, entry_index, sequence_number] = out;
+    let reference = || Reference { entry_index, sequence_number: sequence_number as u16 };
+    yes(answer).then(|| EntryReference { reference: (has_field != 0).then(reference) })
+}
+
 /// Volume i.
 ///
 /// ```
@@ -195,6 +233,53 @@ pub fn find_path(file: &[u8]) -> Option<FoundPath> {
     yes(answer).then(|| FoundPath { entry: out[0], number: out[1] as u32 })
 }
 
+/// The path search from another start. Windows 10 writes names that begin with
+/// `\VOLUME{..}` and takes the hash over the same path with
+/// `\DEVICE\HARDDISKVOLUME2`, or another number, in place of that;
+/// [`find_path`] finds none there.
+///
+/// `start` stands in place of the path of that volume: bytes as a name has
+/// them, of any length. An entry takes part where it can be shown, the volume
+/// can be shown with a path of at least one unit, and the name begins with that
+/// path, followed by nothing or by a backslash. Of the entries that take part,
+/// the answer is as of [`find_path`]: the least number from 0 to 8, and then the
+/// first entry.
+///
+/// ```
+/// use hivesaddle::{find_path, find_path_from, volume, TestFile, TestVolume};
+/// let file = TestFile::new(23)
+///     .hash_of(r"\DEVICE\HARDDISKVOLUME2\A.EXE")
+///     .file(r"\VOLUME{01}\A.EXE")
+///     .volume(TestVolume { path: r"\VOLUME{01}".into(), ..TestVolume::default() })
+///     .write()
+///     .unwrap();
+/// let utf16 = |text: &str| text.encode_utf16().flat_map(u16::to_le_bytes).collect::<Vec<u8>>();
+/// assert_eq!(find_path(&file), None);
+/// let found = find_path_from(&file, 0, &utf16(r"\DEVICE\HARDDISKVOLUME2")).unwrap();
+/// assert_eq!((found.entry, found.number), (0, 0));
+/// assert_eq!(find_path_from(&file, 0, &utf16(r"\DEVICE\HARDDISKVOLUME3")), None);
+/// // There is no second volume.
+/// assert_eq!(find_path_from(&file, 1, &utf16(r"\DEVICE\HARDDISKVOLUME2")), None);
+/// // With the volume's own path the names are taken as they stand.
+/// let own = volume(&file, 0).unwrap().path;
+/// assert_eq!(find_path_from(&file, 0, own), None);
+/// ```
+pub fn find_path_from(file: &[u8], volume: u64, start: &[u8]) -> Option<FoundPath> {
+    let mut out = [0; 2];
+    let answer = unsafe {
+        raw::hs_find_path_from(
+            file.as_ptr(),
+            file.len(),
+            volume,
+            start.as_ptr(),
+            start.len(),
+            out.as_mut_ptr(),
+            out.len(),
+        )
+    };
+    yes(answer).then(|| FoundPath { entry: out[0], number: out[1] as u32 })
+}
+
 /// All entries that match, as [`find_path`] says it, ordered by number and
 /// then by entry. Gives how many there are. `pairs` takes entry and number of
 /// each, as many whole pairs as fit; all else of it stays as it was.
@@ -247,7 +332,7 @@ pub fn list_paths_alloc(file: &[u8]) -> Vec<FoundPath> {
     pairs.chunks_exact(2).map(found).collect()
 }
 
-fn yes(answer: u32) -> bool {
+pub(crate) fn yes(answer: u32) -> bool {
     match answer {
         0 => false,
         1 => true,
@@ -255,6 +340,6 @@ fn yes(answer: u32) -> bool {
     }
 }
 
-fn part(file: &[u8], offset: u64, length: u64) -> &[u8] {
+pub(crate) fn part(file: &[u8], offset: u64, length: u64) -> &[u8] {
     &file[offset as usize..][..length as usize]
 }

@@ -6,6 +6,12 @@
 pub use crate::constants::*;
 
 extern "C" {
+    /// The number [`HS_INTERFACE`] of the header that the library was made
+    /// with.
+    pub fn hs_interface() -> u32;
+}
+
+extern "C" {
     pub fn hs_hash_xp(numbers: *const u32, count: usize) -> u32;
     pub fn hs_hash_vista(numbers: *const u32, count: usize) -> u32;
     pub fn hs_hash_2008(numbers: *const u32, count: usize) -> u32;
@@ -148,8 +154,29 @@ extern "C" {
         out: *mut u64,
         out_length: usize,
     ) -> u32;
+    /// `out`: 1 where the version has the field and 0 where it has not, entry
+    /// index, sequence number.
+    pub fn hs_entry_reference(
+        file: *const u8,
+        length: usize,
+        i: u64,
+        out: *mut u64,
+        out_length: usize,
+    ) -> u32;
     /// `out`: entry index, number.
     pub fn hs_find_path(file: *const u8, length: usize, out: *mut u64, out_length: usize) -> u32;
+    /// `out`: entry index, number.
+    pub fn hs_find_path_from(
+        file: *const u8,
+        length: usize,
+        volume: u64,
+        start: *const u8,
+        start_length: usize,
+        out: *mut u64,
+        out_length: usize,
+    ) -> u32;
+    /// `out`: names, directories.
+    pub fn hs_cost(file: *const u8, length: usize, out: *mut u64, out_length: usize) -> u32;
 }
 
 extern "C" {
@@ -161,6 +188,24 @@ extern "C" {
         pairs: *mut u32,
         pairs_length: usize,
     ) -> u64;
+    /// The full count. `pairs`: offset in the file, units, and so on, as many
+    /// whole pairs as fit.
+    pub fn hs_directories(
+        file: *const u8,
+        length: usize,
+        volume: u64,
+        pairs: *mut u32,
+        pairs_length: usize,
+    ) -> u64;
+    /// The full count. `pairs`: entry index, sequence number, and so on, as
+    /// many whole pairs as fit.
+    pub fn hs_references(
+        file: *const u8,
+        length: usize,
+        volume: u64,
+        pairs: *mut u64,
+        pairs_length: usize,
+    ) -> u64;
 }
 
 extern "C" {
@@ -169,6 +214,58 @@ extern "C" {
     pub fn hs_replay(
         recording: *const u8,
         length: usize,
+        times: *const u64,
+        times_length: usize,
+        boards: *const u8,
+        boards_length: usize,
+        work: *mut u32,
+        work_length: usize,
+        answers: *mut u64,
+        answers_length: usize,
+        out: *mut u64,
+        out_length: usize,
+    ) -> u32;
+}
+
+// The replay in pieces.
+extern "C" {
+    /// 0. `out`: lines (0), first bad line (0), starts served. `work` takes
+    /// their order.
+    pub fn hs_replay_begin(
+        times: *const u64,
+        times_length: usize,
+        boards: *const u8,
+        boards_length: usize,
+        work: *mut u32,
+        work_length: usize,
+        answers: *mut u64,
+        answers_length: usize,
+        out: *mut u64,
+        out_length: usize,
+    ) -> u32;
+    /// 0. `out`: lines, first bad line or 0, bytes of the piece that need not
+    /// come again.
+    pub fn hs_replay_feed(
+        lines: u64,
+        bad: u64,
+        piece: *const u8,
+        length: usize,
+        times: *const u64,
+        times_length: usize,
+        boards: *const u8,
+        boards_length: usize,
+        work: *const u32,
+        work_length: usize,
+        answers: *mut u64,
+        answers_length: usize,
+        out: *mut u64,
+        out_length: usize,
+    ) -> u32;
+    /// 0 or 22. `out`: line number.
+    pub fn hs_replay_finish(
+        lines: u64,
+        bad: u64,
+        waiting: u64,
         times: *const u64,
         times_length: usize,
         boards: *const u8,

@@ -84,7 +84,7 @@ pub struct BadLine {
 /// carriage return or a lowercase digit, and a last one without its line feed.
 ///
 /// This allocates. [`replay_into`] is the same with borrowed buffers, and
-/// [`Replay`] takes the recording in pieces.
+/// [`Replay`] and [`ReplayInto`] take the recording in pieces.
 ///
 /// ```
 /// use hivesaddle::{replay, BadLine, Reading, Start};
@@ -186,23 +186,198 @@ impl Lists {
         replay_into(recording, &self.times, &self.boards, &mut self.work, &mut self.answers)
     }
 
+    fn borrowed(&mut self) -> Borrowed<'_> {
+        Borrowed {
+            times: &self.times,
+            boards: &self.boards,
+            work: &mut self.work,
+            answers: &mut self.answers,
+        }
+    }
+
     fn readings(&self) -> impl Iterator<Item = Option<Reading>> + '_ {
         self.answers.chunks_exact(HS_ANSWER_LENGTH).map(Reading::from_answer)
     }
 }
 
-/// Fewest readings that are gathered before they are replayed.
+/// Where a replay in pieces has got to.
+#[derive(Clone, Copy, Debug, Default, PartialEq, Eq)]
+struct Progress {
+    lines: u64,
+    /// The first bad line, or 0.
+    bad: u64,
+}
+
+impl Progress {
+    fn bad_line(&self) -> Option<BadLine> {
+        (self.bad != 0).then_some(BadLine { line: self.bad })
+    }
+}
+
+/// The lists that each call takes, as they are after the call before.
+struct Borrowed<'a> {
+    times: &'a [u64],
+    boards: &'a [u8],
+    work: &'a mut [u32],
+    answers: &'a mut [u64],
+}
+
+impl Borrowed<'_> {
+    /// Also how many starts are served.
+    fn begin(&mut self) -> (Progress, u64) {
+        let mut out = [0; 3];
+        let answer = unsafe {
+            hs_replay_begin(
+                self.times.as_ptr(),
+                self.times.len(),
+                self.boards.as_ptr(),
+                self.boards.len(),
+                self.work.as_mut_ptr(),
+                self.work.len(),
+                self.answers.as_mut_ptr(),
+                self.answers.len(),
+                out.as_mut_ptr(),
+                out.len(),
+            )
+        };
+        assert_eq!(answer, 0, "no such answer");
+        let [lines, bad, served] = out;
+        (Progress { lines, bad }, served)
+    }
+
+    /// Also the bytes of the piece that need not come again.
+    fn feed(&mut self, Progress { lines, bad }: Progress, piece: &[u8]) -> (Progress, usize) {
+        let mut out = [0; 3];
+        let answer = unsafe {
+            hs_replay_feed(
+                lines,
+                bad,
+                piece.as_ptr(),
+                piece.len(),
+                self.times.as_ptr(),
+                self.times.len(),
+                self.boards.as_ptr(),
+                self.boards.len(),
+                self.work.as_ptr(),
+                self.work.len(),
+                self.answers.as_mut_ptr(),
+                self.answers.len(),
+                out.as_mut_ptr(),
+                out.len(),
+            )
+        };
+        assert_eq!(answer, 0, "no such answer");
+        let [lines, bad, used] = out;
+        (Progress { lines, bad }, used as usize)
+    }
+
+    fn finish(&mut self, Progress { lines, bad }: Progress, waiting: usize) -> Result<(), BadLine> {
+        let mut line = 0;
+        let answer = unsafe {
+            hs_replay_finish(
+                lines,
+                bad,
+                waiting as u64,
+                self.times.as_ptr(),
+                self.times.len(),
+                self.boards.as_ptr(),
+                self.boards.len(),
+                self.work.as_mut_ptr(),
+                self.work.len(),
+                self.answers.as_mut_ptr(),
+                self.answers.len(),
+                &mut line,
+                1,
+            )
+        };
+        match answer {
+            0 => Ok(()),
+            22 => Err(BadLine { line }),
+            other => unreachable!("no such answer: {other}"),
+        }
+    }
+}
+
+/// [`replay_into`] for a recording that comes in pieces: without a heap, in the
+/// caller's lists. However it is cut, the answers are those of the whole.
+///
+/// Start k is `times[k]` and `boards[k]`. A start is served where it has a place
+/// in each of the four lists, four in `answers`; the others get no answer, and
+/// their numbers stay as they were.
+///
+/// ```
+/// use hivesaddle::{Reading, ReplayInto, NONE};
+/// let recording = b"000000000000000503FF38\n0000000000000007030514\n";
+/// let (mut work, mut answers) = ([0; 2], [7; 9]);
+/// let mut replay = ReplayInto::new(&[6, 4], &[3, 3], &mut work, &mut answers);
+/// assert_eq!(replay.served(), 2);
+/// // A line that has not come whole comes again.
+/// assert_eq!(replay.feed(&recording[..30]), 23);
+/// assert_eq!(replay.feed(&recording[23..]), 23);
+/// assert_eq!(replay.finish(0), Ok(()));
+/// assert_eq!(work, [NONE; 2]);
+/// assert_eq!(answers, [1, 5, 3, 0xFF38, 0, 0, 0, 0, 7]);
+/// ```
+pub struct ReplayInto<'a> {
+    lists: Borrowed<'a>,
+    served: u64,
+    progress: Progress,
+}
+
+impl<'a> ReplayInto<'a> {
+    /// `work` takes the order of the starts served, and must stay as it is; their
+    /// answers are none.
+    pub fn new(
+        times: &'a [u64],
+        boards: &'a [u8],
+        work: &'a mut [u32],
+        answers: &'a mut [u64],
+    ) -> ReplayInto<'a> {
+        let mut lists = Borrowed { times, boards, work, answers };
+        let (progress, served) = lists.begin();
+        ReplayInto { lists, served, progress }
+    }
+
+    /// How many starts are served, the first of the lists.
+    pub fn served(&self) -> u64 {
+        self.served
+    }
+
+    /// The next bytes of the recording. Gives how many of them were used: the
+    /// others have to come first in the next piece, and at most 22 wait so.
+    /// Behind a bad line all are used.
+    ///
+    /// Each call looks at every place of `work` first, so pieces should not be
+    /// short beside the number of starts.
+    pub fn feed(&mut self, piece: &[u8]) -> usize {
+        let (progress, used) = self.lists.feed(self.progress, piece);
+        self.progress = progress;
+        used
+    }
+
+    /// The first bad line, if it has been met: what follows changes nothing.
+    pub fn bad_line(&self) -> Option<BadLine> {
+        self.progress.bad_line()
+    }
+
+    /// The end of the recording, with so many bytes that were not used: those of
+    /// a line without its line feed, which is bad. After a bad line every answer
+    /// served is none. Each place of `work` holds [`crate::NONE`] afterwards.
+    pub fn finish(mut self, waiting: usize) -> Result<(), BadLine> {
+        self.lists.finish(self.progress, waiting)
+    }
+}
+
+/// Fewest readings that are gathered before they are fed.
 const GATHERED: usize = 4_096;
 
 /// [`replay`] for a recording that comes in pieces. However it is cut, the
 /// answers are those of the whole.
 ///
-/// Readings are gathered until there are as many as starts, and 4,096 at least;
-/// each such run is replayed, and of its answer and the one before the better is
-/// kept. So there is room for as many readings as that and no more, however long
-/// the recording is. The replay of a run is the proved one. That the gathering
-/// and the choice between two answers come to the same as one replay of the
-/// whole is tested and not proved.
+/// Bytes are gathered until there are as many readings as starts, and 4,096 at
+/// least, and then fed to the library. So there is room for as many readings as
+/// that and no more, however long the recording is. [`ReplayInto`] does it with
+/// borrowed lists and gathers nothing.
 ///
 /// ```
 /// use hivesaddle::{Reading, Replay, Start};
@@ -216,38 +391,36 @@ const GATHERED: usize = 4_096;
 #[derive(Clone, Debug)]
 pub struct Replay {
     lists: Lists,
-    /// The best of the runs so far.
-    best: Vec<Option<Reading>>,
-    /// What has come since.
+    progress: Progress,
+    /// What has come and was not used yet.
     gathered: Vec<u8>,
-    /// The length at which it is replayed.
+    /// The length at which it is fed.
     enough: usize,
-    /// Lines of the runs so far.
-    lines: u64,
-    bad: Option<BadLine>,
 }
 
 impl Replay {
     pub fn new(starts: &[Start]) -> Replay {
+        let mut lists = Lists::new(starts);
+        let (progress, served) = lists.borrowed().begin();
+        assert_eq!(served, starts.len() as u64, "more starts than can be served");
         Replay {
-            lists: Lists::new(starts),
-            best: vec![None; starts.len()],
+            lists,
+            progress,
             gathered: Vec::new(),
             enough: HS_READING_LINE_LENGTH * starts.len().max(GATHERED),
-            lines: 0,
-            bad: None,
         }
     }
 
     /// The next bytes of the recording. Behind a bad line they are not looked
     /// at.
     pub fn feed(&mut self, mut piece: &[u8]) {
-        while !piece.is_empty() && self.bad.is_none() {
+        while !piece.is_empty() && self.progress.bad == 0 {
             let (now, later) = piece.split_at(piece.len().min(self.enough - self.gathered.len()));
             self.gathered.extend_from_slice(now);
             piece = later;
             if self.gathered.len() == self.enough {
-                self.replay_run();
+                self.feed_gathered();
+                assert!(self.gathered.len() < self.enough, "a line waits that has come whole");
             }
         }
     }
@@ -261,41 +434,21 @@ impl Replay {
     /// assert_eq!(replay.bad_line().map(|bad| bad.line), Some(1));
     /// ```
     pub fn bad_line(&self) -> Option<BadLine> {
-        self.bad
+        self.progress.bad_line()
     }
 
     /// The answers, once all has been fed. A line that has begun and not ended
     /// is bad.
     pub fn finish(mut self) -> Result<Vec<Option<Reading>>, BadLine> {
-        if self.bad.is_none() {
-            self.replay_run();
-        }
-        match self.bad {
-            Some(bad) => Err(bad),
-            None => Ok(self.best),
-        }
+        self.feed_gathered();
+        self.lists.borrowed().finish(self.progress, self.gathered.len())?;
+        Ok(self.lists.readings().collect())
     }
 
-    /// What has been gathered, and it is gathered no longer. Before the end it
-    /// is as long as so many readings: it ends with a line, or has a line that is
-    /// bad whatever follows.
-    fn replay_run(&mut self) {
-        match self.lists.replay(&self.gathered) {
-            Ok(()) => {
-                self.lines += (self.gathered.len() / HS_READING_LINE_LENGTH) as u64;
-                self.keep_better();
-            }
-            Err(bad) => self.bad = Some(BadLine { line: self.lines + bad.line }),
-        }
-        self.gathered.clear();
-    }
-
-    /// Readings of the last run are later in the recording than all before.
-    fn keep_better(&mut self) {
-        for (best, reading) in self.best.iter_mut().zip(self.lists.readings()) {
-            if reading.is_some_and(|new| best.is_none_or(|old| old.time <= new.time)) {
-                *best = reading;
-            }
-        }
+    /// What was not used stays gathered.
+    fn feed_gathered(&mut self) {
+        let (progress, used) = self.lists.borrowed().feed(self.progress, &self.gathered);
+        self.progress = progress;
+        self.gathered.drain(..used);
     }
 }

@@ -149,3 +149,48 @@ fn bad_lines_in_pieces() {
         }
     }
 }
+
+/// Bytes that were not used come first in the next piece.
+fn into_lists(
+    recording: &[u8],
+    (times, boards): (&[u64], &[u8]),
+    length: usize,
+    work: &mut [u32],
+    answers: &mut [u64],
+) -> (u64, Result<(), BadLine>) {
+    let mut replay = ReplayInto::new(times, boards, work, answers);
+    let mut waiting = Vec::new();
+    for piece in recording.chunks(length) {
+        waiting.extend(piece);
+        let used = replay.feed(&waiting);
+        waiting.drain(..used);
+        assert!(waiting.len() < 23);
+    }
+    (replay.served(), replay.finish(waiting.len()))
+}
+
+#[test]
+fn borrowed_lists_in_pieces() {
+    let (times, boards) = ([9, 5, 0, 6, 5], [1, 1, 2, 2]);
+    let whole = [[1, 9, 1, 0x0514], [1, 5, 1, 0xFFFF], [0; 4], [0; 4]].concat();
+    for (recording, given) in
+        [(chamber(), Ok(())), (chamber()[..50].to_vec(), Err(BadLine { line: 3 }))]
+    {
+        for (work_length, answers_length) in (0..7).flat_map(|work| (0..20).map(move |a| (work, a)))
+        {
+            for length in [1, 22, 23, 24, 100, 1_000] {
+                let (mut work, mut answers) = (vec![7; work_length], vec![7; answers_length]);
+                let lists = (&times[..], &boards[..]);
+                let (served, finished) =
+                    into_lists(&recording, lists, length, &mut work, &mut answers);
+                let written = 4 * work_length.min(answers_length / 4).min(4);
+                assert_eq!((4 * served as usize, finished), (written, given));
+                assert_eq!(work, vec![NONE; work_length]);
+                let zeros = vec![0; written];
+                let expected = if given.is_ok() { &whole[..written] } else { &zeros[..] };
+                assert_eq!(&answers[..written], expected);
+                assert!(answers[written..].iter().all(|&number| number == 7));
+            }
+        }
+    }
+}

@@ -73,7 +73,7 @@ pub fn replay_numbers(replayed: &Replayed, starts: usize) -> (u32, [u64; 1], Vec
     }
 }
 
-fn answer_numbers(answer: &Option<Reading>) -> [u64; HS_ANSWER_LENGTH] {
+pub fn answer_numbers(answer: &Option<Reading>) -> [u64; HS_ANSWER_LENGTH] {
     match *answer {
         None => [0; HS_ANSWER_LENGTH],
         Some(Reading { time, board, temperature }) => {

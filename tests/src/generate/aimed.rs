@@ -7,8 +7,18 @@ const PRIME: u32 = 1_000_000_007;
 /// Four units with this hash by the version's function, and no byte zero. XP
 /// never gives 1000000007 and above.
 pub fn text_with_hash(random: &mut Random, version: u32, hash: u32) -> Option<[u8; 8]> {
+    tail_with_hash(random, version, &[], hash)
+}
+
+/// Four such units that give a text of these bytes the hash, with them behind it.
+pub fn tail_with_hash(
+    random: &mut Random,
+    version: u32,
+    front: &[u8],
+    hash: u32,
+) -> Option<[u8; 8]> {
     if version != 17 {
-        return Some(text_with_sum(random, hash.wrapping_sub(sum_of_start())));
+        return Some(text_with_sum(random, hash.wrapping_sub(sum_of_front(314_159, front))));
     }
     if hash >= PRIME {
         return None;
@@ -16,12 +26,14 @@ pub fn text_with_hash(random: &mut Random, version: u32, hash: u32) -> Option<[u
     // All four come to the same hash in XP's end step.
     let positive = *random.pick(&[hash, hash + PRIME]);
     let after = *random.pick(&[positive, positive.wrapping_neg()]);
-    Some(text_with_sum(random, after.wrapping_mul(inverse(314_159_269))))
+    let sum = after.wrapping_mul(inverse(314_159_269));
+    Some(text_with_sum(random, sum.wrapping_sub(sum_of_front(0, front))))
 }
 
-/// What the start of Vista and 2008 adds behind eight steps.
-fn sum_of_start() -> u32 {
-    (0..8).fold(314_159, |sum: u32, _| sum.wrapping_mul(37))
+/// What a hash's start and the bytes of a front add behind eight more steps.
+fn sum_of_front(start: u32, front: &[u8]) -> u32 {
+    let step = |sum: u32, &byte: &u8| sum.wrapping_mul(37).wrapping_add(byte.into());
+    [front, &[0; 8]].concat().iter().fold(start, step)
 }
 
 /// Eight bytes that the plain step takes from 0 to this number. The first is
@@ -62,8 +74,12 @@ mod points {
         for version in [17, 23, 26, 30] {
             for round in 0..5_000 {
                 let hash = *random.pick(&[0, 1, PRIME - 1, PRIME, u32::MAX, round, u32::MAX / 7]);
-                match text_with_hash(&mut random, version, hash) {
-                    Some(text) => assert_eq!(hash_of(version, &bytes(&text)), hash),
+                let front = random.bytes(round as usize % 40);
+                match tail_with_hash(&mut random, version, &front, hash) {
+                    Some(tail) => {
+                        let text = [&front[..], &tail].concat();
+                        assert_eq!(hash_of(version, &bytes(&text)), hash);
+                    }
                     None => assert!(version == 17 && hash >= PRIME),
                 }
             }

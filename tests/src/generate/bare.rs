@@ -142,3 +142,32 @@ pub fn with_path(version: u32, path: &str, stored_hash: u32) -> Vec<u8> {
     set_32(&mut file, 76, stored_hash);
     file
 }
+
+/// Metrics entries with these names, and behind all a volume for each path.
+/// Other fields of the volumes are 0.
+pub fn with_volumes(version: u32, names: &[&str], paths: &[&str], stored_hash: u32) -> Vec<u8> {
+    let ended = |text: &str| -> Vec<u8> {
+        text.encode_utf16().chain([0]).flat_map(u16::to_le_bytes).collect()
+    };
+    let (mut strings, mut places) = (Vec::new(), Vec::new());
+    for name in names {
+        places.push((strings.len() as u32, name.encode_utf16().count() as u32));
+        strings.extend(ended(name));
+    }
+    let mut file = with_names(version, &places, &strings);
+    let (start, entry) = (file.len(), volume_entry(version) as usize);
+    file.resize(start + entry * paths.len(), 0);
+    for (i, path) in paths.iter().enumerate() {
+        let offset = (file.len() - start) as u32;
+        set_32(&mut file, start + i * entry, offset);
+        set_32(&mut file, start + i * entry + 4, path.encode_utf16().count() as u32);
+        file.extend(ended(path));
+    }
+    let size = file.len() as u32;
+    set_32(&mut file, 12, size);
+    set_32(&mut file, 76, stored_hash);
+    set_32(&mut file, 108, start as u32);
+    set_32(&mut file, 112, paths.len() as u32);
+    set_32(&mut file, 116, size - start as u32);
+    file
+}

@@ -26,14 +26,32 @@ pub fn section(random: &mut Random, layout: &Layout, volumes: usize) -> Vec<u8> 
     section
 }
 
+/// A volume for each path, of units as they are to stand there.
+pub fn with_paths(random: &mut Random, layout: &Layout, paths: &[Vec<u16>]) -> Vec<u8> {
+    let entry = layout.volume_entry as usize;
+    let mut section = random.bytes(paths.len() * entry);
+    for (i, path) in paths.iter().enumerate() {
+        references(random, &mut section, i * entry);
+        gap(random, &mut section);
+        put_path(random, &mut section, i * entry, path);
+        directories(random, &mut section, i * entry);
+    }
+    gap(random, &mut section);
+    section
+}
+
 fn path(random: &mut Random, section: &mut Vec<u8>, entry: usize) {
     let units = *random.pick(&[0, 0, 1, 2, 5, 12]);
+    let path: Vec<u16> = (0..units).map(|_| maybe_zero(random)).collect();
+    put_path(random, section, entry, &path);
+}
+
+fn put_path(random: &mut Random, section: &mut Vec<u8>, entry: usize, path: &[u16]) {
+    let units = path.len() as u32;
     let offset = place(random, section, units);
     set_32(section, entry, offset);
     set_32(section, entry + 4, units);
-    for _ in 0..units {
-        section.extend(maybe_zero(random).to_le_bytes());
-    }
+    section.extend(path.iter().flat_map(|unit| unit.to_le_bytes()));
 }
 
 fn references(random: &mut Random, section: &mut Vec<u8>, entry: usize) {

@@ -4,9 +4,14 @@ use crate::random::Random;
 use crate::tally::Tally;
 
 mod catalogue;
+mod costs;
 mod hashes;
 mod links;
 pub mod listing;
+mod path_from;
+mod path_from_points;
+mod piece_points;
+mod pieces;
 mod powers;
 mod prefixes;
 mod queries;
@@ -17,6 +22,8 @@ mod replay_points;
 pub mod replay_program;
 mod replays;
 mod version_30;
+mod volume_list_points;
+mod volume_lists;
 mod volumes;
 mod walks;
 mod write_points;
@@ -51,10 +58,14 @@ pub const GROUPS: &[Group] = &[
     ("links", links::run),
     ("volumes", volumes::run),
     ("queries", queries::run),
+    ("volume_lists", volume_lists::run),
+    ("path_from", path_from::run),
+    ("costs", costs::run),
     ("version_30", version_30::run),
     ("walks", walks::run),
     ("writes", writes::run),
     ("replays", replays::run),
+    ("pieces", pieces::run),
     ("years", years::run),
     ("listing", listing::run),
 ];

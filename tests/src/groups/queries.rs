@@ -2,7 +2,7 @@
 //! beside the reference.
 
 use super::Run;
-use crate::boundary::{guarded_u32, guarded_u64};
+use crate::boundary::{compare_pairs, compare_query, Asked};
 use crate::generate::cuts::{cuts, query_cuts};
 use crate::generate::damage::{damage, edits, AIMS};
 use crate::generate::{any, rich, Sample};
@@ -143,23 +143,17 @@ impl Queries<'_> {
         });
     }
 
-    /// The full count, the pairs that fit a list of any length, and all else
-    /// of it as it was.
+    /// Into a list of any length.
     fn list_paths(&mut self, file: &[u8]) {
         let found = list_paths(file);
         self.seen.list(&found);
-        let numbers: Vec<u32> =
-            found.iter().flat_map(|found| [found.entry as u32, found.number as u32]).collect();
-        let length = self.random.below(numbers.len() + 4);
-        let mut pairs = guarded_u32(&mut self.random, length);
-        let fitting = numbers.len().min(length / 2 * 2);
-        let expected = pairs.after_writing(&numbers[..fitting]);
-        let list = pairs.inner();
-        let count =
-            unsafe { raw::hs_list_paths(file.as_ptr(), file.len(), list.as_mut_ptr(), list.len()) };
-        let expected = (found.len() as u64, &expected[..]);
-        let input = || format!("{length} numbers for {}", hex(file));
-        self.tally.same("list of paths", &expected, &(count, pairs.all()), input);
+        let pairs: Vec<[u32; 2]> =
+            found.iter().map(|found| [found.entry as u32, found.number as u32]).collect();
+        let length = self.random.below(2 * pairs.len() + 4);
+        let asked = Asked { what: "list of paths", input: || hex(file) };
+        compare_pairs(&mut self.random, self.tally, asked, &pairs, length, |list| unsafe {
+            raw::hs_list_paths(file.as_ptr(), file.len(), list.as_mut_ptr(), list.len())
+        });
     }
 
     /// One query: 1 and the numbers, or 0 and as many zeros.
@@ -171,16 +165,8 @@ impl Queries<'_> {
         numbers: Option<[u64; N]>,
         call: impl FnOnce(&mut [u64]) -> u32,
     ) {
-        let out_length = match self.random.one_in(8) {
-            true => self.random.below(N + 4),
-            false => N,
-        };
-        let mut out = guarded_u64(&mut self.random, out_length);
-        let expected = out.after_writing(&numbers.unwrap_or([0; N]));
-        let code = call(out.inner());
-        let given = (code, out.all());
-        let input = || format!("{which} of {}", hex(file));
-        self.tally.same(what, &(u32::from(numbers.is_some()), &expected[..]), &given, input);
+        let asked = Asked { what, input: || format!("{which} of {}", hex(file)) };
+        compare_query(&mut self.random, self.tally, asked, numbers, call);
     }
 
     /// The safe calls hand back the very bytes of the file.
@@ -238,7 +224,7 @@ impl Queries<'_> {
 }
 
 /// A count from the head, where the bytes have got that far.
-fn count(file: &[u8], field: fn(&[u8]) -> u64) -> u64 {
+pub fn count(file: &[u8], field: fn(&[u8]) -> u64) -> u64 {
     if file.len() < 120 {
         return 1;
     }
@@ -247,7 +233,7 @@ fn count(file: &[u8], field: fn(&[u8]) -> u64) -> u64 {
 
 /// The first few, those around the count, and some that would come back to
 /// the first ones in 32 bits or in a product of 64.
-fn indexes(count: u64) -> Vec<u64> {
+pub fn indexes(count: u64) -> Vec<u64> {
     let mut list: Vec<u64> = (0..count.min(6)).collect();
     list.extend([count.saturating_sub(1), count, count + 1, 1 << 32, u64::MAX]);
     list.extend([20, 32, 40, 96, 104, 8].map(|entry| u64::MAX / entry + 1));

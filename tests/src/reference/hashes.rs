@@ -72,6 +72,18 @@ pub fn hash_swap(old_hash: u32, old: &[u32], p: u64, start: &[u32]) -> Option<u3
     Some(hash.rem_euclid(MODULUS) as u32)
 }
 
+/// The hash of two lists behind each other by the version's function, from each
+/// on its own: the steps of the second take any h to h times 37 raised to its
+/// length, and add what they make of 0.
+pub fn hash_joined(version: u32, first: &[u32], second: &[u32]) -> u32 {
+    let from = if version == 17 { 0 } else { START };
+    let h = plain_steps(from, first) * power(second.len()) + plain_steps(0, second);
+    match version {
+        17 => xp_end_step((h % MODULUS * 314159269).rem_euclid(MODULUS)),
+        _ => (h % MODULUS) as u32,
+    }
+}
+
 fn plain_steps(start: i128, numbers: &[u32]) -> i128 {
     numbers.iter().fold(start, |h, &c| (37 * h + c as i128) % MODULUS)
 }
@@ -137,6 +149,18 @@ mod points {
             let swapped = hash_swap(hash_vista(old), old, p as u64, start);
             assert_eq!(swapped, Some(hash_vista(&joined)));
             assert_eq!(hash_swap(0, old, length as u64 + 1, start), None);
+        }
+    }
+
+    #[test]
+    fn joined_lists_are_one_list() {
+        use crate::reference::search::hash_of;
+        let numbers: Vec<u32> = (0..90u32).map(|i| i.wrapping_mul(0x9E37_79B9) >> 24).collect();
+        for version in [17, 23, 26, 30] {
+            for (first, last) in [(0, 0), (0, 1), (1, 1), (7, 9), (8, 24), (46, 90), (90, 90)] {
+                let joined = hash_joined(version, &numbers[..first], &numbers[first..last]);
+                assert_eq!(joined, hash_of(version, &numbers[..last]));
+            }
         }
     }
 

@@ -16,6 +16,8 @@ pub struct Layout {
     pub metrics_entry: u64,
     pub name_offset: usize,
     pub name_length: usize,
+    /// Where a metrics entry has its file reference, if it has one.
+    pub file_reference: Option<usize>,
     pub trace_entry: u64,
     /// Whether a trace entry has a next index. It is then the first field, and
     /// the block count follows; otherwise the block count is the first.
@@ -35,6 +37,7 @@ pub const LAYOUTS: [Layout; 4] = [
         metrics_entry: 20,
         name_offset: 8,
         name_length: 12,
+        file_reference: None,
         trace_entry: 12,
         has_next: true,
         volume_entry: 40,
@@ -49,6 +52,7 @@ pub const LAYOUTS: [Layout; 4] = [
         metrics_entry: 32,
         name_offset: 12,
         name_length: 16,
+        file_reference: Some(24),
         trace_entry: 12,
         has_next: true,
         volume_entry: 104,
@@ -63,6 +67,7 @@ pub const LAYOUTS: [Layout; 4] = [
         metrics_entry: 32,
         name_offset: 12,
         name_length: 16,
+        file_reference: Some(24),
         trace_entry: 12,
         has_next: true,
         volume_entry: 104,
@@ -79,6 +84,7 @@ pub const LAYOUTS: [Layout; 4] = [
         metrics_entry: 32,
         name_offset: 12,
         name_length: 16,
+        file_reference: Some(24),
         trace_entry: 8,
         has_next: false,
         volume_entry: 96,

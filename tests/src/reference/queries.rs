@@ -74,6 +74,20 @@ pub fn name_of_shown_entry(file: &[u8], i: u64) -> Option<Part> {
     name_is_sound(file, &name).then_some(part)
 }
 
+/// Of an entry that can be shown: the reference, or nothing where the version
+/// has no such field.
+pub fn entry_reference(file: &[u8], i: u64) -> Option<Option<Reference>> {
+    entry_name(file, i)?;
+    let at = |field| entry_start(file, i) as usize + field;
+    Some(known_layout(file).file_reference.map(|field| split(number(file, at(field), 8))))
+}
+
+/// The low 48 bits and the 16 above them.
+pub fn split(reference: u64) -> Reference {
+    const INDEXES: u64 = 1 << 48;
+    Reference { entry_index: reference % INDEXES, sequence_number: reference / INDEXES }
+}
+
 pub fn volume(file: &[u8], i: u64) -> Option<Volume> {
     if !volume_can_be_shown(file, i) {
         return None;

@@ -5,7 +5,7 @@ use super::head::*;
 use super::queries::{head_and_sections_pass, name_of_shown_entry};
 
 /// The numbers of the /prefetch switch that have an effect, and none.
-const NUMBERS: std::ops::RangeInclusive<u64> = 0..=8;
+pub const NUMBERS: std::ops::RangeInclusive<u64> = 0..=8;
 
 #[derive(Clone, Copy, Debug, PartialEq, Eq)]
 pub struct Found {
