@@ -40,7 +40,7 @@ use Rattle.reader.specs.declared.verdict.FileVerdict.the-variants as file
 use Rattle.reader.specs.Verdict.{Acceptable, Reads, verdictIn}
 use Rattle.reader.specs.Checks.{ReadsOpened}
 use Rattle.reader.proofs.Values.{same-values}
-use Rattle.path_search.specs.Search.{ListsPaths}
+use Rattle.lists.specs.Pairs.{PairsListed}
 use Rattle.walk.specs.Walk.{Values, valuesOf}
 use Rattle.walk.specs.declared.WalkAnswer.{WalkAnswer}
 use Rattle.walk.specs.declared.WalkAnswer.the-variants as walkAnswer
@@ -148,8 +148,8 @@ read-out answer m out r s a b c d p q =
     let h = answered _ out r s c d (p .said) (q .said) in
     (h .0, p .places ∙ sym (q .places), h .1)
 
-paths : (p pairs : List ℕ) → Settles₁ (ListsPaths p pairs)
-paths p pairs r s a b x y = (omega (arith, x .count, y .count), cc)
+pairs : (all held : List ℕ) → Settles₁ (PairsListed all held)
+pairs all held r s a b x y = (omega (arith, x .count, y .count), cc)
 
 -- the opening that an acceptance comes with is the one that the checks give
 opened : (p buffer : List ℕ) → Settles₁ (ReadsOpened p buffer)
@@ -184,7 +184,7 @@ settled =
       sections-find-form = λ l b r s p q. told formSaid formBack known-form r s (p ∙ sym q);
       head-read-start = λ bytes r s p q. told startOf startBack start r s (p ∙ sym q);
       head-read-open = λ bytes r s p q. told openOf openBack opening r s (p ∙ sym q);
-      trace-check-links = λ section pairs at size entries m r s a b p q. (told linksOf linkBack link r s (p .answer ∙ sym (q .answer)), cc);
+      trace-check-links = λ section table at size entries m r s a b p q. (told linksOf linkBack link r s (p .answer ∙ sym (q .answer)), cc);
       volumes-check-volume = λ section l at i r s p q. told checkedOf checkBack check r s (p ∙ sym q);
       volumes-check-volumes = λ section l at count r s p q. told checkedOf checkBack check r s (p ∙ sym q);
       reader-read-prefix = λ bytes buffer. reads _ _;
@@ -193,7 +193,9 @@ settled =
       query-program-name = λ bytes. part bytes _ _;
       query-entry-name = λ bytes i. part bytes _ _;
       query-volume-path = λ bytes i. part bytes _ _;
-      path-search-list-paths = paths;
+      query-directories = λ bytes i held. pairs _ held;
+      query-references = λ bytes i held. pairs _ held;
+      path-search-list-paths = λ bytes held. pairs _ held;
       walk-walk = λ bytes buffer order r s a b c d p q. (told valuesOf walkBack walk r s (p .answer ∙ sym (q .answer)), cc, cc);
       writer-write-file = λ version d buffer output r s a b c e p q. let h = reads _ _ r s a b (p .reads) (q .reads) in (h .0, h .1, cc);
       listing-text-list = λ bytes buffer out r s a b c d p q. let h = put out 0 _ r s c d (p .text) (q .text) in (h .0, cc, h .1);
@@ -231,10 +233,15 @@ settled =
       hivesaddle-hs-entry-name = λ bytes i out. answered _ out;
       hivesaddle-hs-volume = λ bytes i out. answered _ out;
       hivesaddle-hs-reference = λ bytes i k out. answered _ out;
+      hivesaddle-hs-directories = λ bytes i held. pairs _ held;
+      hivesaddle-hs-references = λ bytes i held. pairs _ held;
+      hivesaddle-hs-entry-reference = λ bytes i out. answered _ out;
+      hivesaddle-hs-cost = λ bytes out. answered _ out;
+      hivesaddle-hs-find-path-from = λ bytes v new out. answered _ out;
       hivesaddle-hs-find-path = λ bytes out. answered _ out;
       hivesaddle-hs-catalogue-read = λ line out. answered _ out;
       hivesaddle-hs-catalogue-write = λ f out r s a b p q. (cc, cc);
-      hivesaddle-hs-list-paths = paths;
+      hivesaddle-hs-list-paths = λ bytes held. pairs _ held;
       hivesaddle-hs-read-prefix = λ bytes buffer out. read-out _ _ out;
       hivesaddle-hs-read-file = λ bytes buffer out. read-out _ _ out;
       hivesaddle-hs-walk = λ bytes buffer order out r s a b c d e f p q. let h = answered _ out r s e f (p .said) (q .said) in (h .0, cc, cc, h .1);

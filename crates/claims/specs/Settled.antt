@@ -24,7 +24,10 @@ use Rattle.volumes.specs.Volumes.{volumeChecks, volumesChecks}
 use Rattle.reader.specs.Checks.{ReadsPrefix, ReadsFile, ReadsOpened}
 use Rattle.query.specs.Queries.{ShownAt, placesNeeded, placesSaid, placeOf, placeSaid, programPlace, entryPlace}
 use Rattle.query.specs.Queries.{volumeAsked, volumeValues, volumeSaid, referenceAsked, referenceSaid}
+use Rattle.query.specs.Contents.{ListsDirectories, ListsReferences, entryReferenceAsked, entryReferenceSaid}
+use Rattle.query.specs.Cost.{costAsked, costSaid}
 use Rattle.path_search.specs.Search.{pathFound, pathSaid, ListsPaths}
+use Rattle.path_search.specs.From.{pathFoundFrom}
 use Rattle.walk.specs.Walk.{Walks}
 use Rattle.writer.specs.LaidOut.{Description}
 use Rattle.writer.specs.Writes.{Writes}
@@ -92,6 +95,8 @@ pub record Settled : Type 0 where
   pub query-program-name : (file : RefT (List ℕ)) → SettlesPart (ShownAt file (placeOf (programPlace (now file))))
   pub query-entry-name : (file : RefT (List ℕ)) (i : ℕ) → SettlesPart (ShownAt file (placeOf (entryPlace (now file) i)))
   pub query-volume-path : (file : RefT (List ℕ)) (i : ℕ) → SettlesPart (ShownAt file (volumeValues (volumeAsked (now file) i) .path))
+  pub query-directories : (file : List ℕ) (i : ℕ) (pairs : List ℕ) → Settles₁ (ListsDirectories file i pairs)
+  pub query-references : (file : List ℕ) (i : ℕ) (pairs : List ℕ) → Settles₁ (ListsReferences file i pairs)
   pub path-search-list-paths : (file pairs : List ℕ) → Settles₁ (ListsPaths file pairs)
   pub walk-walk : (file buffer order : List ℕ) → Settles₂ (Walks file buffer order)
   pub writer-write-file : (version : ℕ) (d : Description) (buffer output : List ℕ) → Settles₂ (Writes version d buffer output)
@@ -118,6 +123,12 @@ pub record Settled : Type 0 where
   pub hivesaddle-hs-entry-name : (file : List ℕ) (i : ℕ) (out : List ℕ) → Settles₁ (λ r. Answered (placeSaid (entryPlace file i)) r out)
   pub hivesaddle-hs-volume : (file : List ℕ) (i : ℕ) (out : List ℕ) → Settles₁ (λ r. Answered (volumeSaid (volumeAsked file i)) r out)
   pub hivesaddle-hs-reference : (file : List ℕ) (i k : ℕ) (out : List ℕ) → Settles₁ (λ r. Answered (referenceSaid (referenceAsked file i k)) r out)
+  pub hivesaddle-hs-directories : (file : List ℕ) (i : ℕ) (pairs : List ℕ) → Settles₁ (ListsDirectories file i pairs)
+  pub hivesaddle-hs-references : (file : List ℕ) (i : ℕ) (pairs : List ℕ) → Settles₁ (ListsReferences file i pairs)
+  pub hivesaddle-hs-entry-reference : (file : List ℕ) (i : ℕ) (out : List ℕ)
+      → Settles₁ (λ r. Answered (entryReferenceSaid (entryReferenceAsked file i)) r out)
+  pub hivesaddle-hs-cost : (file out : List ℕ) → Settles₁ (λ r. Answered (costSaid (costAsked file)) r out)
+  pub hivesaddle-hs-find-path-from : (file : List ℕ) (v : ℕ) (start out : List ℕ) → Settles₁ (λ r. Answered (pathSaid (pathFoundFrom file v start)) r out)
   pub hivesaddle-hs-find-path : (file out : List ℕ) → Settles₁ (λ r. Answered (pathSaid (pathFound file)) r out)
   pub hivesaddle-hs-catalogue-read : (line out : List ℕ) → Settles₁ (λ r. Answered (lineSaid (reading line)) r out)
   pub hivesaddle-hs-catalogue-write : (f : Fields) (out : List ℕ) → Settles₁ (LineWriting f out)
