@@ -1,4 +1,5 @@
 pub mod Least
+pub mod Begins
 pub mod Laws
 pub mod Places
 pub mod Counters

@@ -1,9 +1,8 @@
 -- Document 01's path search, over bytes (request 102) and with numbers from 0 to 8 (request 105).
 use mathlib.Core.Bool.{Bool, true, false, _&&_}
 use mathlib.Core.List.{List, [], _∷_, _++_}
-use Prim.Native.Nat.{ℕ, zero, suc, _+_, _*_, _/_, _%_, _^_, _<_, min}
+use Prim.Native.Nat.{ℕ, zero, suc, _+_, _%_, _^_, _<_}
 use lib.Dec.{eqb}
-use lib.ListN.{length, take, drop}
 use Rattle.lists.specs.Answer.{Said}
 use Rattle.lists.specs.Count.{anyBelow}
 use Rattle.lists.specs.First.{first}
