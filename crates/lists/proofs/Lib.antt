@@ -1,8 +1,10 @@
 pub mod Answers
 pub mod Count
 pub mod First
+pub mod Pairs
 pub mod Parts
 pub mod Pigeon
+pub mod Sum
 pub mod Table
 pub mod Tests
 pub mod Those

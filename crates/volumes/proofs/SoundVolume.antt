@@ -62,7 +62,7 @@ is-references s e (inr r) =
 -- ---- directories
 
 -- a step that goes on has passed a directory string
-step-is : (s : List ℕ) (at : ℕ) (next : Cursor) → stepAt s at ≡ Next next → SoundDirectory s at × (next .at ≡ at + 2 + 2 * le 2 s at + 2)
+pub step-is : (s : List ℕ) (at : ℕ) (next : Cursor) → stepAt s at ≡ Next next → SoundDirectory s at × (next .at ≡ at + 2 + 2 * le 2 s at + 2)
 unfolding stepAt
 step-is s at next = go (ltb (length s) (at + 2)) (ltb (length s) (at + 4 + 2 * le 2 s at)) (zeroUnit s (at + 2 + 2 * le 2 s at)) refl refl
   where
@@ -77,7 +77,7 @@ step-is s at next = go (ltb (length s) (at + 2)) (ltb (length s) (at + 4 + 2 * l
     go false true c q x e = let z : _≡_ {A = ℕ} 0 1 = cc in absurd (omega arith)
     go true b c q x e = let z : _≡_ {A = ℕ} 0 1 = cc in absurd (omega arith)
 
-is-step : (s : List ℕ) (at : ℕ) → SoundDirectory s at → stepAt s at ≡ Next (record { at = at + 2 + 2 * le 2 s at + 2 })
+pub is-step : (s : List ℕ) (at : ℕ) → SoundDirectory s at → stepAt s at ≡ Next (record { at = at + 2 + 2 * le 2 s at + 2 })
 unfolding stepAt
 is-step s at d =
     let n : at + 2 + 2 * le 2 s at + 2 ≡ at + 4 + 2 * le 2 s at = omega arith in
