@@ -4,11 +4,10 @@ use mathlib.Core.Path.{_≡_, refl, sym, ap, _∙_}
 use mathlib.Core.Bool.{Bool, true, false, _&&_}
 use mathlib.Core.List.{List, []}
 use Prim.Native.Nat.{ℕ, _+_, _-_, _*_, _/_, _%_, _^_, _≤_, _<_}
-use native.Mathlib.Nat.{le-refl, min-zero, le-trans, le-div-iff-mul-le, div-lt-iff-lt-mul, add-mul, one-mul}
+use native.Mathlib.Nat.{le-trans, le-div-iff-mul-le, div-lt-iff-lt-mul, add-mul, one-mul}
 use native.Mathlib.Omega.{arith}
 use lib.Dec.{eqb}
 use lib.ListN.{length, take, drop}
-use lib.Seq.{take-nil}
 use borrow.Author.Tests.{ne-eqb, lt-ltb, le-ltb, le-leb, lt-leb}
 use Rattle.lists.specs.Count.{pick}
 use Rattle.layout.specs.Versions.{metricsEntry, sizeLimit}
@@ -32,7 +31,7 @@ use Rattle.names.proofs.Laws.{name-past}
 use Rattle.query.specs.Queries.{asked, bytesAt, placeOf, entryShown, namePlace, volumeShown, volumeFacts, pathPlace}
 use Rattle.query.specs.declared.PlaceAnswer.the-variants as placeAnswer
 use Rattle.path_search.specs.Search.{matchesBy, leastPair, allPairs, pathFound, PathFound}
-use Rattle.lists.specs.Pairs.{pairsIn}
+use Rattle.lists.proofs.Pairs as lists
 use Rattle.path_search.specs.Search.{pathPairs, ListsPaths}
 use Rattle.query.specs.Queries.{nameSound, nameIn}
 use Rattle.path_search.specs.From.{beginsWith, fromStart, pathOf, nameOf, takesPart, matchesFrom}
@@ -281,14 +280,11 @@ listed p e q w =
     let a : run openPlan p ≡ decided (accept _) = sym e ∙ ap openOf q in
     record { count = rw a (w .count); pairs = rw a (w .pairs) }
 
-no-pairs : (held : List ℕ) → held ≡ pairsIn [] held
-no-pairs held = rw (take-nil {A = ℕ} (2 * (length held / 2)), min-zero (2 * (length held / 2)))
-
 pub none-listed : (p : List ℕ) {held : List ℕ} {r : OpenAnswer} (x : OpenAnswer) → openOf r ≡ run openPlan p → r ≡ x
     → asked (openOf x) [] (λ o. allPairs (matchesBy o p) (o .head .metrics .count)) ≡ [] → ListsPaths p held 0 held
 none-listed p {held} x e q h =
     let a : pathPairs p ≡ [] = rw (← e, q) h in
-    record { count = rw a; pairs = rw a (no-pairs held) }
+    rw a (lists.none-listed held)
 
 -- ---- what a found path is
 pub path-found-law : (o : Opening) (p : List ℕ) (i n : ℕ) → run openPlan p ≡ decided (accept o) → pathFound p ≡ pathAnswer.Entry i n → PathFound o p i n

@@ -473,8 +473,13 @@ part-within file s r a n b m p l q =
     size = ap length (p .contents) ∙ simp (length-take, length-drop)
 
     start : (t : Bool) → leb a (length (now file)) ≡ t → startIn a (now file) + b ≡ startIn (a + b) (now file)
-    start true e = rw (e, le-leb (a + b) (length (now file)) (omega (arith, size, leb-true _ _ e)))
-    start false e = rw (e, lt-leb (a + b) (length (now file)) (omega (arith, leb-false _ _ e))) (omega (arith, size, leb-false _ _ e))
+    start true e = let h = leb-true a (length (now file)) e in rw (e, le-leb (a + b) (length (now file)) (omega (arith, size)))
+    start false e = let h = leb-false a (length (now file)) e in rw (e, lt-leb (a + b) (length (now file)) (omega arith)) (omega (arith, size))
+
+-- the path of a volume that is shown lies in the section
+pub path-of-section : (s : Section) (l : Layout) (b : List ℕ) (i : ℕ) {t : Bool} {v : Volume} → t ≡ sectionShown s l b i → not t ≡ false
+    → v ≡ volumeOf b (entryAt l i) → v .path + 2 * v .units ≤ length b
+path-of-section s l b i e q ev = rw ev (path-inside b (entryAt l i) (section-met s l b i e q .sound))
 
 pub path-shown : (o : Opening) (i : ℕ) (file s r : RefT (List ℕ)) {t : Bool} {v : Volume} → IsPart file (o .head .volumes .at) (o .head .volumes .len) s
     → t ≡ sectionShown (o .head .volumes) (o .layout) (now s) i → not t ≡ false → v ≡ volumeOf (now s) (entryAt (o .layout) i)
@@ -482,6 +487,5 @@ pub path-shown : (o : Opening) (i : ℕ) (file s r : RefT (List ℕ)) {t : Bool}
 unfolding volumeShown sectionShown volumeFacts
 path-shown o i file s r {t} {v} p e q ev h =
     let n : sectionShown (o .head .volumes) (o .layout) (now s) i ≡ true = sym e ∙ not-false t q in
-    let m = section-shown-law (o .head .volumes) (o .layout) (now s) i .0 n in
-    let l : v .path + 2 * v .units ≤ length (now s) = rw ev (path-inside (now s) (entryAt (o .layout) i) (m .sound)) in
+    let l = path-of-section (o .head .volumes) (o .layout) (now s) i e q ev in
     rw (← p .contents, n, ← ev) (part-within file s r (o .head .volumes .at) (o .head .volumes .len) (v .path) (2 * v .units) p l h)
