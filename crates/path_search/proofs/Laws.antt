@@ -7,9 +7,10 @@ use Prim.Native.Nat.{ℕ, _+_, _-_, _*_, _/_, _%_, _^_, _≤_, _<_}
 use native.Mathlib.Nat.{le-trans, le-div-iff-mul-le, div-lt-iff-lt-mul, add-mul, one-mul}
 use native.Mathlib.Omega.{arith}
 use lib.Dec.{eqb}
-use lib.ListN.{length, take, drop}
+use lib.ListN.{length, getD, take, drop}
 use borrow.Author.Tests.{ne-eqb, lt-ltb, le-ltb, le-leb, lt-leb}
 use Rattle.lists.specs.Count.{pick}
+use Rattle.little_endian.proofs.Number.{le-lt}
 use Rattle.layout.specs.Versions.{metricsEntry, sizeLimit}
 use Rattle.layout.specs.Sound.{SoundLayout}
 use Rattle.layout.specs.declared.Version.{Version}
@@ -170,7 +171,8 @@ module _ (o : Opening) (p : List ℕ) (f : OpenFacts p o) where
     whole-entry : (n i : ℕ) → n < 9 → i < entriesOn o p → matchesOn o p path from n i ≡ numberedOn o p path from n i
     unfolding entryShown numberIn nameSound
     whole-entry n i h l =
-        rw (lt-ltb _ _ (omega (arith, entries-few)), le-leb _ _ (entry-whole (o .layout) (open-sound p o f) (metricsOf o p) i l))
+        let c : i < o .head .metrics .count = omega (arith, entries-few) in
+        rw (lt-ltb _ _ c, le-leb _ _ (entry-whole (o .layout) (open-sound p o f) (metricsOf o p) i l))
         (go (nameSound (o .layout) (metricsOf o p) (stringsOf o p) i) refl)
       where
         here : List ℕ
@@ -230,6 +232,9 @@ pub sections-given : (o : Opening) (p path : List ℕ) (from : ℕ) {metrics str
     → r ≡ searched q path (o .layout) metrics strings → r ≡ searchedOn o p path from
 sections-given o p path from em es eq e = rw (em, es, eq) at e
 
+pub stored-low : (p : List ℕ) → ((k : ℕ) → getD p k 0 < 256) → storedHash p < 2 ^ 32
+stored-low p h = le-lt 4 p _ h
+
 pub path-given : (o : Opening) (p : List ℕ) {path : List ℕ} {from : ℕ} {r : PathAnswer} → OpenFacts p o → from < 2 ^ 32 → storedHash p < 2 ^ 32
     → path ≡ [] → from ≡ hashStart (o .version) → r ≡ searchedOn o p path from → r ≡ leastPair (matchesBy o p) (o .head .metrics .count)
 path-given o p {path} {from} f a b ep ef e =
@@ -246,10 +251,10 @@ pairs-given o p {path} {from = from} f a b ep ef em es eq w =
     record { count = c; pairs = d }
 
 -- from another start: `path` is what the query for the volume's path gave
-pub from-given : (o : Opening) (p : List ℕ) (v : ℕ) {path start : List ℕ} {h from : ℕ} {r : PathAnswer} → OpenFacts p o → from < 2 ^ 32
+pub from-given : (o : Opening) (p : List ℕ) (v : ℕ) (start : List ℕ) {path : List ℕ} {h from : ℕ} {r : PathAnswer} → OpenFacts p o → from < 2 ^ 32
     → storedHash p < 2 ^ 32 → path ≡ bytesAt (pathPlace o p v) p → (length path ≡ 0 → ⊥) → h ≡ hashStart (o .version) → from ≡ plain h start
     → r ≡ searchedOn o p path from → r ≡ leastPair (matchesFrom o p v start) (o .head .metrics .count)
-from-given o p v {path} {start} {h} {from} f a b ep n eh ef e = go (volumeShown o p v) refl ep
+from-given o p v start {path} {h} {from} {r} f a b ep n eh ef e = go (volumeShown o p v) refl ep
   where
     go : (s : Bool) → volumeShown o p v ≡ s → path ≡ bytesAt (pick s (volumeFacts o p v .path) (placeOf placeAnswer.NotShown)) p
         → r ≡ leastPair (matchesFrom o p v start) (o .head .metrics .count)
@@ -269,7 +274,6 @@ from-none o p v start {path} ep z = sym (least-none (matchesFrom o p v start) (o
 
     go : (s : Bool) → volumeShown o p v ≡ s → path ≡ bytesAt (pick s (volumeFacts o p v .path) (placeOf placeAnswer.NotShown)) p
         → (n i : ℕ) → matchesFrom o p v start n i ≡ false
-    unfolding takesPart
     go true s w n i = rw (s, le-ltb 0 (length (pathOf o p v)) (omega (arith, ap length w))) (never (entryShown o p i) _)
     go false s w n i = rw s (never (entryShown o p i) _)
 

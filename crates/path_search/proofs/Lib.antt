@@ -1,5 +1,5 @@
 pub mod Least
-pub mod Begins
+pub mod Same
 pub mod Laws
 pub mod Places
 pub mod Counters

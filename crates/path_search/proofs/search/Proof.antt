@@ -19,14 +19,14 @@ abbrev μ-loop : tie.MeasureT-loop
 μ-loop metrics strings path l sought entries least₀ index₀ i₀ least index i = entries - i
 
 div-entries : tie.Need-div-entries Inv-loop μ-loop
-div-entries c = metric-some _ (c .before .before .before .pre .1)
+div-entries c = metric-some _ (c .before .before .before .before .pre .1)
 
 loop-holds : tie.Need-loop-holds Inv-loop μ-loop
 loop-holds c = (omega arith, omega arith, lowest-start _)
 
 cast-entry-number : tie.Need-cast-entry-number Inv-loop μ-loop
 cast-entry-number c =
-    let start = c .before .before .before .before .before in
+    let start = c .before .before .before .before .before .before in
     omega (arith, start .pre .0, div-le-self (length (start .args .metrics .now)) (start .args .l .«metrics_entry»))
 
 returns : tie.Need-returns Inv-loop μ-loop
@@ -37,7 +37,7 @@ returns c =
 
 add-i : tie.Need-add-i Inv-loop μ-loop
 add-i c =
-    let start = c .before .before .before .before .before .before .before .before in
+    let start = c .before .before .before .before .before .before .before .before .before in
     omega (arith, start .pre .0, div-le-self (length (start .args .metrics .now)) (start .args .l .«metrics_entry»))
 
 loop-again : tie.Need-loop-again Inv-loop μ-loop

@@ -64,6 +64,10 @@ le-same (suc w) s t a b hs ht e (suc i) l =
     ∙ le-same w s t (a + 1) (b + 1) hs ht y i (le-of-suc-le-suc l)
     ∙ ap (λ (k : ℕ). getD t k 0) (omega arith)
 
+-- what would be the unit behind the path
+abbrev behind : List ℕ → List ℕ → List ℕ
+behind path name = take 2 (drop (length path) name)
+
 module _ (path name : List ℕ) where
   pub agree-eight : (i : ℕ) → Bytes path → Bytes name → Agree path name i → le 8 path i ≡ le 8 name i → Agree path name (i + 8)
   agree-eight i hp hn g e k l = go (decLt k i)
@@ -102,12 +106,9 @@ module _ (path name : List ℕ) where
       go true = refl
       go false = refl
 
-  behind : List ℕ
-  behind = take 2 (drop (length path) name)
-
-  begins-not : (length name ≡ length path → ⊥) → same behind (0x5C ∷ 0 ∷ []) ≡ false → false ≡ beginsWith path name
+  begins-not : (length name ≡ length path → ⊥) → same (behind path name) (0x5C ∷ 0 ∷ []) ≡ false → false ≡ beginsWith path name
   unfolding beginsWith
-  begins-not e q = rw (ne-eqb _ _ e, q) (go _)
+  begins-not e q = rw (ne-eqb _ _ e, q) (go (same (take (length path) name) path))
     where
       go : (b : Bool) → false ≡ (b && false)
       go true = refl
@@ -119,11 +120,11 @@ module _ (path name : List ℕ) where
       begins-not e
       (same-no _ _
       (λ q.
-      let n : length behind ≡ 2 = ap length q in
-      let d : length behind ≡ min 2 (length name - length path) = simp (length-take, length-drop) in
+      let n : length (behind path name) ≡ 2 = ap length q in
+      let d : length (behind path name) ≡ min 2 (length name - length path) = simp (length-take, length-drop) in
       omega arith))
 
-  behind-at : (k : ℕ) → k < 2 → getD behind k 0 ≡ getD name (length path + k) 0
+  behind-at : (k : ℕ) → k < 2 → getD (behind path name) k 0 ≡ getD name (length path + k) 0
   behind-at k h = getD-take 2 (drop (length path) name) k 0 h ∙ getD-drop (length path) name k 0
 
   pub begins-other : (length name ≡ length path → ⊥) → (le 2 name (length path) ≡ 0x5C → ⊥) → false ≡ beginsWith path name
@@ -134,21 +135,21 @@ module _ (path name : List ℕ) where
       (λ q.
       let a : getD name (length path + 0) 0 ≡ 0x5C = sym (behind-at 0 (omega arith)) ∙ ap (λ (s : List ℕ). getD s 0 0) q in
       let b : getD name (length path + 1) 0 ≡ 0 = sym (behind-at 1 (omega arith)) ∙ ap (λ (s : List ℕ). getD s 1 0) q in
-      n (rw (add-zero (length path)) at a)))
+      let a′ : getD name (length path) 0 ≡ 0x5C = rw (add-zero (length path)) at a in
+      n (omega arith)))
 
   pub begins-below : {r : Bool} → Bytes name → (length name ≡ length path → ⊥) → length path + 2 ≤ length name → le 2 name (length path) ≡ 0x5C
       → r ≡ same (take (length path) name) path → r ≡ beginsWith path name
   unfolding beginsWith le
   begins-below {r} hn e l u q =
-      let n : length behind ≡ 2 = simp (length-take, length-drop) (omega arith) in
-      rw (← q, ne-eqb _ _ e, same-yes behind (0x5C ∷ 0 ∷ []) (ext-getD 0 behind (0x5C ∷ 0 ∷ []) n (λ k h. at k (omega arith)))) (go r)
+      let n : length (behind path name) ≡ 2 = simp (length-take, length-drop) (omega arith) in
+      rw (← q, ne-eqb _ _ e, same-yes (behind path name) (0x5C ∷ 0 ∷ []) (ext-getD 0 (behind path name) (0x5C ∷ 0 ∷ []) n (λ k h. at k (omega arith)))) (go r)
     where
       go : (b : Bool) → b ≡ (b && true)
       go true = refl
       go false = refl
 
-      at : (k : ℕ) → k < 2 → getD behind k 0 ≡ getD (0x5C ∷ 0 ∷ []) k 0
-      unfolding le
+      at : (k : ℕ) → k < 2 → getD (behind path name) k 0 ≡ getD (0x5C ∷ 0 ∷ []) k 0
       at zero h = behind-at 0 h ∙ rw (add-zero (length path)) (omega (arith, hn (length path), hn (length path + 1)))
       at (suc zero) h = behind-at 1 h ∙ omega (arith, hn (length path), hn (length path + 1))
       at (suc (suc k)) h = absurd (omega arith)
@@ -168,8 +169,8 @@ unfolding belongs beginsWith
 belongs-long path name e = go (eqb (length path) 0) refl e
   where
     go : (b : Bool) → eqb (length path) 0 ≡ b → (b || beginsWith path name) ≡ true → length path ≤ length name
-    unfolding beginsWith
-    go true q h = omega (arith, eqb-true _ _ q)
+    go true q h = omega (arith, eqb-true (length path) 0 q)
     go false q h =
-        let z = same-eq _ _ (both _ _ h .0) in
-        omega (arith, simp length-take at (ap length z))
+        let z : take (length path) name ≡ path = same-eq _ _ (both _ _ h .0) in
+        let n : length (take (length path) name) ≡ length path = ap length z in
+        omega (arith, length-take (length path) name)
