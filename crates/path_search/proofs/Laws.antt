@@ -2,12 +2,12 @@
 -- and what a found path is.
 use mathlib.Core.Path.{_≡_, refl, sym, ap, _∙_}
 use mathlib.Core.Bool.{Bool, true, false, _&&_}
-use mathlib.Core.List.{List, []}
+use mathlib.Core.List.{List, [], _++_}
 use Prim.Native.Nat.{ℕ, _+_, _-_, _*_, _/_, _%_, _^_, _≤_, _<_}
-use native.Mathlib.Nat.{le-trans, le-div-iff-mul-le, div-lt-iff-lt-mul, add-mul, one-mul}
+use native.Mathlib.Nat.{le-refl, le-trans, le-div-iff-mul-le, div-lt-iff-lt-mul, add-mul, one-mul}
 use native.Mathlib.Omega.{arith}
 use lib.Dec.{eqb}
-use lib.ListN.{length, getD, take, drop}
+use lib.ListN.{length, getD, take, drop, take-append-drop}
 use borrow.Author.Tests.{ne-eqb, lt-ltb, le-ltb, le-leb, lt-leb}
 use Rattle.lists.specs.Count.{pick}
 use Rattle.little_endian.proofs.Number.{le-lt}
@@ -31,15 +31,16 @@ use Rattle.names.specs.Names.{nameAt, nameUnits, fits, sound}
 use Rattle.names.proofs.Laws.{name-past}
 use Rattle.query.specs.Queries.{asked, bytesAt, placeOf, entryShown, namePlace, volumeShown, volumeFacts, pathPlace}
 use Rattle.query.specs.declared.PlaceAnswer.the-variants as placeAnswer
-use Rattle.path_search.specs.Search.{matchesBy, leastPair, allPairs, pathFound, PathFound}
+use Rattle.path_search.specs.Search.{matches, matchesBy, leastPair, allPairs, pathFound, PathFound}
 use Rattle.lists.proofs.Pairs as lists
 use Rattle.path_search.specs.Search.{pathPairs, ListsPaths}
 use Rattle.query.specs.Queries.{nameSound, nameIn}
-use Rattle.path_search.specs.From.{beginsWith, fromStart, pathOf, nameOf, takesPart, matchesFrom}
+use Rattle.path_search.specs.From.{beginsWith, fromStart, pathOf, nameOf, takesPart, matchesFrom, pathFoundFrom}
 use Rattle.path_search.specs.Private.{hashStart, hashEnd, hashFrom, belongs, numberFor, numberOf, numberIn, numberedIn, entriesIn}
 use Rattle.path_search.specs.Private.{searched, soughtOn, searchedOn, PairsPlaced}
+use Rattle.path_search.proofs.Same.{same-eq}
 use Rattle.path_search.specs.declared.Sought.{Sought}
-use Rattle.query.proofs.Laws.{name-inside, part-there, part-low, part-bytes}
+use Rattle.query.proofs.Laws.{name-inside, part-there, part-low, part-bytes, both}
 use Rattle.path_search.specs.declared.PathAnswer.{PathAnswer}
 use Rattle.path_search.specs.declared.PathAnswer.the-variants as pathAnswer
 
@@ -308,3 +309,30 @@ pub path-not-found-law : (o : Opening) (p : List ℕ) → run openPlan p ≡ dec
 path-not-found-law o p a e =
     let g : leastPair (matchesBy o p) (o .head .metrics .count) ≡ pathAnswer.NoPath = rw a at e in
     least-not (matchesBy o p) (o .head .metrics .count) g
+
+-- ---- FROM THE VOLUME'S OWN PATH the path is the name: it begins with that path
+own-name : (path name : List ℕ) → beginsWith path name ≡ true → fromStart path path name ≡ name
+unfolding beginsWith
+own-name path name e =
+    let z : take (length path) name ≡ path = same-eq _ _ (both _ _ e .0) in
+    ap (λ (s : List ℕ). s ++ drop (length path) name) (sym z) ∙ take-append-drop (length path) name
+
+own-matches : (o : Opening) (p : List ℕ) (v n i : ℕ) → matchesFrom o p v (pathOf o p v) n i ≡ (takesPart o p v i && matchesBy o p n i)
+unfolding takesPart
+own-matches o p v n i = go (takesPart o p v i) refl
+  where
+    go : (t : Bool) → takesPart o p v i ≡ t
+        → (t && matches (o .version) (fromStart (pathOf o p v) (pathOf o p v) (nameOf o p i)) (storedHash p) n) ≡ (t && matchesBy o p n i)
+    go true e =
+        let shown = both (entryShown o p i) _ e in
+        let volume = both (volumeShown o p v) _ (shown .1) in
+        let begins = both _ (beginsWith (pathOf o p v) (nameOf o p i)) (volume .1) .1 in
+        rw (shown .0) (ap (λ (s : List ℕ). matches (o .version) s (storedHash p) n) (own-name (pathOf o p v) (nameOf o p i) begins))
+    go false e = refl
+
+pub own-path-law : (o : Opening) (p : List ℕ) (v : ℕ) → run openPlan p ≡ decided (accept o)
+    → pathFoundFrom p v (pathOf o p v) ≡ leastPair (λ n i. takesPart o p v i && matchesBy o p n i) (o .head .metrics .count)
+own-path-law o p v a =
+    rw a
+    (least-same (matchesFrom o p v (pathOf o p v)) (λ n i. takesPart o p v i && matchesBy o p n i) (o .head .metrics .count) (o .head .metrics .count)
+    (le-refl (o .head .metrics .count)) (λ n i h l. own-matches o p v n i) (λ n i h l b. absurd (omega arith)))

@@ -1,9 +1,9 @@
 // The path search: the first name that can be shown and whose hash is the stored one.
 mod begins;
+mod from_start;
 mod pairs;
 
 ghost use mathlib.Core.Path.{_≡_};
-ghost use mathlib.Core.List.{[]};
 ghost use Prim.Native.Nat.{_≤_};
 ghost use lib.ListN.{length};
 ghost use Rattle.lists.specs.Answer.{Answers};
@@ -11,8 +11,8 @@ ghost use Rattle.layout.specs.Versions.{sizeLimit};
 ghost use Rattle.layout.specs.Sound.{SoundLayout};
 ghost use Rattle.head.specs.Opened.{OpenFacts};
 ghost use Rattle.path_search.specs.Search.{matchesBy, leastPair, pathFound, pathSaid, ListsPaths};
-ghost use Rattle.path_search.specs.From.{matchesFrom, pathFoundFrom};
 ghost use Rattle.path_search.specs.Private.{hashStart, hashEnd, numberFor, numberOf, numberIn, soughtOn, searched, searchedOn, PairsPlaced};
+pub use from_start::find_path_from;
 use head::OpenAnswer;
 use head::Opening;
 use layout::Layout;
@@ -183,31 +183,6 @@ pub fn find_path(file: &[u8]) -> PathAnswer
 {
     match head::read_open(file) {
         OpenAnswer::Opened(o) => path_in(file, o),
-        OpenAnswer::Refused(_) => PathAnswer::NoPath,
-        OpenAnswer::Wanted(_) => PathAnswer::NoPath,
-    }
-}
-
-// The search over the names below a volume's path, whose place the start takes. A volume that can't be shown has no path.
-fn path_from_in(file: &[u8], o: Opening, volume: usize, start: &[u8]) -> PathAnswer
-    requires { ⌜ OpenFacts (now file) o ⌝ }
-    ensures { λ r.
-        ⌜ r ≡ leastPair (matchesFrom o (now (file .entry)) volume (now (start .entry))) (o .head .metrics .count) ⌝ }
-{
-    let path = query::path_in(file, o, volume);
-    if path.len() == 0 {
-        return PathAnswer::NoPath;
-    }
-    let version = o.version;
-    search_in(file, o, path, path_hash::carry_bytes(hash_start(version), start))
-}
-
-// The same for the names that begin with a volume's path, with a start in place of it.
-pub fn find_path_from(file: &[u8], volume: usize, start: &[u8]) -> PathAnswer
-    ensures { λ r. ⌜ Answers pathSaid (pathFoundFrom (now (file .entry)) volume (now (start .entry))) r ⌝ }
-{
-    match head::read_open(file) {
-        OpenAnswer::Opened(o) => path_from_in(file, o, volume, start),
         OpenAnswer::Refused(_) => PathAnswer::NoPath,
         OpenAnswer::Wanted(_) => PathAnswer::NoPath,
     }

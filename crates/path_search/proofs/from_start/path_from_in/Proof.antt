@@ -2,8 +2,8 @@
 use native.Mathlib.Omega.{arith}
 use Rattle.path_search.proofs.Laws.{stored-low, from-none, from-given}
 use borrow.Author.Needs.{needs}
-use Rattle.path_search.proofs.path_from_in.Statement.{statement}
-use Rattle.path_search.proofs.path_from_in.Tie as tie
+use Rattle.path_search.proofs.from_start.path_from_in.Statement.{statement}
+use Rattle.path_search.proofs.from_start.path_from_in.Tie as tie
 
 returns : tie.Need-returns
 returns c =
