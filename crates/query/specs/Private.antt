@@ -18,6 +18,9 @@ use Rattle.query.specs.declared.VolumeAnswer.{VolumeAnswer}
 use Rattle.query.specs.declared.VolumeAnswer.the-variants as volumeAnswer
 use Rattle.query.specs.declared.ReferenceAnswer.{ReferenceAnswer}
 use Rattle.query.specs.declared.ReferenceAnswer.the-variants as referenceAnswer
+use Rattle.query.specs.declared.EntryReferenceAnswer.{EntryReferenceAnswer}
+use Rattle.query.specs.declared.EntryReferenceAnswer.the-variants as entryReferenceAnswer
+use Rattle.query.specs.Contents.{directoriesIn, referencesIn, fileReferenceOf}
 
 -- ---- where checks 1 to 6 pass
 abbrev pub entryIn : Opening → List ℕ → ℕ → PlaceAnswer
@@ -31,6 +34,17 @@ referenceIn o p i k =
     pick (referenceShown o p i k)
     (referenceAnswer.Shown (referenceOf (part (o .head .volumes) p) (entryAt (o .layout) i) k))
     referenceAnswer.NotShown
+
+-- document 03
+abbrev pub directoriesShown : Opening → List ℕ → ℕ → List ℕ
+directoriesShown o p i = pick (volumeShown o p i) (directoriesIn o p i) []
+
+abbrev pub referencesShown : Opening → List ℕ → ℕ → List ℕ
+referencesShown o p i = pick (volumeShown o p i) (referencesIn o p i) []
+
+abbrev pub entryReferenceIn : Opening → List ℕ → ℕ → EntryReferenceAnswer
+entryReferenceIn o p i =
+    pick (entryShown o p i) (entryReferenceAnswer.Shown (fileReferenceOf (o .layout) (part (o .head .metrics) p) i)) entryReferenceAnswer.NotShown
 
 -- ---- the name of an entry that lies in the metrics
 abbrev pub nameShown : Layout → List ℕ → List ℕ → ℕ → PlaceAnswer

@@ -5,6 +5,15 @@ ghost use Rattle.head.specs.Opened.{OpenFacts};
 ghost use Rattle.query.specs.Queries.{placeSaid, placeOf, ShownAt, programPlace, entryPlace, volumeAsked, volumeSaid, volumeValues};
 ghost use Rattle.query.specs.Queries.{pathPlace, referenceAsked, referenceSaid, placesNeeded, placesSaid};
 ghost use Rattle.query.specs.Private.{nameShown, entryIn, sectionShown, volumeIn, referenceIn};
+mod contents;
+mod cost;
+
+pub use contents::directories;
+pub use contents::entry_reference;
+pub use contents::references;
+pub use cost::Cost;
+pub use cost::CostAnswer;
+pub use cost::cost;
 use head::OpenAnswer;
 use head::Opening;
 use head::StartAnswer;
