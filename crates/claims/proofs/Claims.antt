@@ -14,6 +14,7 @@ use Rattle.path_search.proofs.Laws.{path-found-law, found-path-law, path-not-fo
 use Rattle.text.proofs.Decimal.{decimal-law, decimal-only}
 use Rattle.claims.proofs.Buffer.{not-accepted-filled, allowed-linked}
 use Rattle.claims.proofs.Search.{path-not-open}
+use Rattle.claims.proofs.Contents.{contents}
 use Rattle.claims.proofs.EveryName.{every-name}
 use Rattle.claims.proofs.Offsets.{offsets}
 use Rattle.claims.proofs.Numbers.{numbers}
@@ -76,6 +77,7 @@ claims =
       name-placed = λ o p i e. name-placed o p i (open-facts p .holds o e);
       volume-shown = λ o p i e. volume-shown-law o p i (open-sound p o (open-facts p .holds o e));
       path-placed = λ o p i e. path-placed o p i (open-facts p .holds o e);
+      contents = contents;
       writes = writers-say;
       empty-programs = empty-programs;
       examples = examples;

@@ -9,8 +9,9 @@ use native.Mathlib.Omega.{arith}
 use borrow.Author.Tests.{eqb-true}
 use lib.Dec.{eqb}
 use lib.ListN.{length}
-use Rattle.lists.specs.Count.{pick, count}
+use Rattle.lists.specs.Count.{count}
 use Rattle.lists.proofs.Count.{true-false, count-zero, count-no}
+use Rattle.lists.proofs.Sum.{none-summed, once-counted}
 use Rattle.incremental.specs.Decision.{accept, refuse}
 use Rattle.incremental.specs.Plan.{Answer, decided, wants, run}
 use Rattle.sections.specs.Fields.{storedHash}
@@ -20,7 +21,7 @@ use Rattle.query.specs.Queries.{entryShown}
 use Rattle.path_search.specs.declared.PathAnswer.{PathAnswer}
 use Rattle.path_search.specs.declared.PathAnswer.the-variants.{Entry, NoPath}
 use Rattle.path_search.specs.Search.{hashOf, entryNumbers, matchesBy, leastPair, allPairs, pathFound, pathPairs}
-use Rattle.path_search.specs.Private.{sumBelow, startOf}
+use Rattle.path_search.specs.Private.{startOf}
 use Rattle.path_search.proofs.Least.{least-is, least-not}
 use Rattle.path_search.proofs.Places.{length-pairs, pair-there, pair-at}
 use Rattle.claims.specs.Numbers.{PairAt, Numbers}
@@ -29,11 +30,6 @@ use Rattle.claims.specs.Numbers.{PairAt, Numbers}
 none-counted : (p : ℕ → Bool) (n : ℕ) → ((k : ℕ) → k < n → p k ≡ false) → count p n ≡ 0
 none-counted p zero h = count-zero p
 none-counted p (suc n) h = count-no p n (h n (le-refl (suc n))) ∙ none-counted p n (λ k l. h k (omega arith))
-
-none-summed : (f : ℕ → ℕ) (n : ℕ) → ((k : ℕ) → k < n → f k ≡ 0) → sumBelow f n ≡ 0
-unfolding sumBelow
-none-summed f zero h = refl
-none-summed f (suc n) h = omega (arith, none-summed f n (λ k l. h k (omega arith)), h n (le-refl (suc n)))
 
 no-length : (s : List ℕ) → length s ≡ 0 → s ≡ []
 no-length [] e = refl
@@ -74,39 +70,6 @@ module _ (test : ℕ → ℕ → Bool) (m : ℕ) where
           let z : length (allPairs test m) ≡ 0 = ap length e in
           absurd (omega arith)
       go NoPath q = q
-
--- numbers of which at most one passes are counted once at most
-one-summed : (t : ℕ → Bool) (b : ℕ) → ((k n : ℕ) → k < b → n < b → t k ≡ true → t n ≡ true → k ≡ n) → sumBelow (λ n. pick (t n) 1 0) b ≤ 1
-unfolding sumBelow
-one-summed t zero h = omega arith
-one-summed t (suc b) h = go (t b) refl (one-summed t b (λ k n l j. h k n (omega arith) (omega arith)))
-  where
-    below : t b ≡ true → (k : ℕ) → k < b → t k ≡ false
-    below e k l = other (t k) refl
-      where
-        other : (x : Bool) → t k ≡ x → t k ≡ false
-        other true q = let z = h k b (omega arith) (le-refl (suc b)) q e in absurd (omega arith)
-        other false q = q
-
-    go : (x : Bool) → t b ≡ x → sumBelow (λ n. pick (t n) 1 0) b ≤ 1 → sumBelow (λ n. pick (t n) 1 0) b + pick (t b) 1 0 ≤ 1
-    go true e ih = rw e (omega (arith, none-summed (λ n. pick (t n) 1 0) b (λ k l. ap (λ (x : Bool). pick x 1 0) (below e k l))))
-    go false e ih = rw e (omega arith)
-
-sum-added : (f g : ℕ → ℕ) (n : ℕ) → sumBelow (λ k. f k + g k) n ≡ sumBelow f n + sumBelow g n
-unfolding sumBelow
-sum-added f g zero = refl
-sum-added f g (suc n) = omega (arith, sum-added f g n)
-
-few-pairs : (test : ℕ → ℕ → Bool) (m : ℕ) → ((i k n : ℕ) → k < 9 → n < 9 → test k i ≡ true → test n i ≡ true → k ≡ n) → startOf test m 9 ≤ m
-unfolding count
-few-pairs test zero h = omega (arith, none-summed (λ n. count (test n) 0) 9 (λ k l. refl))
-few-pairs test (suc m) h =
-    omega (
-      arith,
-      sum-added (λ n. pick (test n m) 1 0) (λ n. count (test n) m) 9,
-      one-summed (λ n. test n m) 9 (h m),
-      few-pairs test m h,
-    )
 
 -- ---- on a file
 difference : (h k n stored : ℕ) → k < 9 → n < 9 → (h + k) % 2 ^ 32 ≡ stored → (h + n) % 2 ^ 32 ≡ stored → k ≡ n
@@ -162,5 +125,5 @@ numbers =
       one-number = one-number;
       few = λ o p a.
           rw a
-          (omega (arith, length-pairs (matchesBy o p) (o .head .metrics .count) 9, few-pairs (matchesBy o p) (o .head .metrics .count) (one-number o p)));
+          (omega (arith, length-pairs (matchesBy o p) (o .head .metrics .count) 9, once-counted (matchesBy o p) 9 (o .head .metrics .count) (one-number o p)));
     }

@@ -37,6 +37,7 @@ use Rattle.path_search.specs.From.{pathOf, takesPart, pathFoundFrom}
 use Rattle.text.specs.Decimal.{decimal, IsDecimal}
 use Rattle.year.specs.Facts.{YearFacts}
 use Rattle.claims.specs.NameStops.{NameStops}
+use Rattle.claims.specs.Contents.{Contents}
 use Rattle.claims.specs.EveryName.{EveryName}
 use Rattle.claims.specs.Offsets.{Offsets}
 use Rattle.claims.specs.Numbers.{Numbers}
@@ -167,6 +168,9 @@ pub record Claims : Type 1 where
   pub path-placed : (o : Opening) (p : List ℕ) (i : ℕ) → Opens p o → VolumeShown o p i
       → (volumeFacts o p i .path .at + volumeFacts o p i .path .len ≤ o .head .volumes .end)
       × (volumeFacts o p i .path .at + volumeFacts o p i .path .len ≤ length p)
+  -- Document 03, A1 and A4: in an accepted file every directory and every reference of every volume is listed, as many as are counted;
+  -- where no byte is in two names, or in directories of two volumes, the cost is no more than the section's size.
+  pub contents : Contents
   -- ---- test files on demand
   -- Request 101: after a success the place has the laid-out file and then what it held, the whole-file reader gives the same record and
   -- working buffer on it, its program name and its metrics entries are shown as they were given; what the reader refuses is refused alike.

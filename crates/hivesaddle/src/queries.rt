@@ -2,6 +2,8 @@
 ghost use mathlib.Core.Path.{_≡_};
 ghost use Rattle.query.specs.Queries.{placeSaid, programPlace, entryPlace, volumeAsked, volumeList, volumeSaid};
 ghost use Rattle.query.specs.Queries.{referenceAsked, referenceSaid, placesNeeded, placesSaid};
+ghost use Rattle.query.specs.Contents.{ListsDirectories, ListsReferences, entryReferenceAsked, entryReferenceSaid};
+ghost use Rattle.query.specs.Cost.{costAsked, costSaid};
 ghost use Rattle.path_search.specs.From.{pathFoundFrom};
 ghost use Rattle.path_search.specs.Search.{pathFound, pathSaid, ListsPaths};
 ghost use Rattle.hivesaddle.specs.Output.{Answered};
@@ -9,8 +11,11 @@ ghost use Rattle.hivesaddle.specs.Private.{saidBy, saying};
 use crate::replies::Reply;
 use crate::replies::one;
 use crate::replies::put_reply;
+use crate::replies::three;
 use crate::replies::two;
 use path_search::PathAnswer;
+use query::CostAnswer;
+use query::EntryReferenceAnswer;
 use query::Place;
 use query::PlaceAnswer;
 use query::PlacesAnswer;
@@ -121,6 +126,58 @@ pub extern "C" fn hs_reference(file: &[u8], i: u64, k: u64, out: &mut [u64]) -> 
 {
     let answer = query::reference(file, i as usize, k as usize);
     put_reply(reference_reply(answer), out)
+}
+
+// All directories of a volume, each the file offset of its first unit and its units without the last zero: their count, and as many
+// whole pairs as fit.
+#[no_mangle]
+pub extern "C" fn hs_directories(file: &[u8], volume: u64, pairs: &mut [u32]) -> u64
+    ensures { λ r. ⌜ ListsDirectories (now (file .entry)) volume (now (pairs .entry)) r (now (pairs .exit)) ⌝ }
+{
+    query::directories(file, volume as usize, pairs) as u64
+}
+
+// All references of a volume, each its entry index and its sequence number, in the same way.
+#[no_mangle]
+pub extern "C" fn hs_references(file: &[u8], volume: u64, pairs: &mut [u64]) -> u64
+    ensures { λ r. ⌜ ListsReferences (now (file .entry)) volume (now (pairs .entry)) r (now (pairs .exit)) ⌝ }
+{
+    query::references(file, volume as usize, pairs) as u64
+}
+
+fn entry_reference_reply(answer: EntryReferenceAnswer) -> Reply
+    ensures { λ r. ⌜ saidBy r ≡ entryReferenceSaid answer ⌝ }
+{
+    match answer {
+        EntryReferenceAnswer::Shown(r) => three(1, r.known as u64, r.index, r.sequence as u64),
+        EntryReferenceAnswer::NotShown => three(0, 0, 0, 0),
+    }
+}
+
+// The file reference of metrics entry i: whether the version has the field, entry index and sequence number.
+#[no_mangle]
+pub extern "C" fn hs_entry_reference(file: &[u8], i: u64, out: &mut [u64]) -> u32
+    ensures { λ r.
+        ⌜ Answered (entryReferenceSaid (entryReferenceAsked (now (file .entry)) i)) r (now (out .entry)) (now (out .exit)) ⌝ }
+{
+    put_reply(entry_reference_reply(query::entry_reference(file, i as usize)), out)
+}
+
+fn cost_reply(answer: CostAnswer) -> Reply
+    ensures { λ r. ⌜ saidBy r ≡ costSaid answer ⌝ }
+{
+    match answer {
+        CostAnswer::Known(c) => two(1, c.names, c.directories),
+        CostAnswer::Unknown => two(0, 0, 0),
+    }
+}
+
+// What a file costs to read, where checks 1 to 6 pass: the bytes of its names and of its directories.
+#[no_mangle]
+pub extern "C" fn hs_cost(file: &[u8], out: &mut [u64]) -> u32
+    ensures { λ r. ⌜ Answered (costSaid (costAsked (now (file .entry)))) r (now (out .entry)) (now (out .exit)) ⌝ }
+{
+    put_reply(cost_reply(query::cost(file)), out)
 }
 
 // What stands for the number where there is no path.

@@ -39,6 +39,21 @@ pub(crate) fn two(number: u32, a: u64, b: u64) -> Reply
     }
 }
 
+// A reply with three.
+pub(crate) fn three(number: u32, a: u64, b: u64, c: u64) -> Reply
+    ensures { λ r. ⌜ saidBy r ≡ saying number (a ∷ b ∷ c ∷ []) ⌝ }
+{
+    let mut values = [0; 22];
+    values[0] = a;
+    values[1] = b;
+    values[2] = c;
+    Reply {
+        number: number,
+        count: 3,
+        values: values,
+    }
+}
+
 // As many of the first `count` values as fit.
 fn put(out: &mut [u64], values: &[u64], count: usize)
     ensures { λ _. ⌜ now (out .exit) ≡ overlay (now (out .entry)) (take count (now (values .entry))) ⌝ }

@@ -1,10 +1,10 @@
 -- Sums over the numbers below a bound: by a loop, bounded, and of counts of which each number is in one at most.
-use mathlib.Core.Path.{_≡_, refl, sym, ap, _∙_}
+use mathlib.Core.Path.{_≡_, refl, sym, ap}
 use mathlib.Core.Bool.{Bool, true, false, _&&_}
 use Prim.Native.Nat.{ℕ, zero, suc, _+_, _-_, _*_, _≤_, _<_}
 use native.Mathlib.Nat.{le-refl, le-trans, add-zero, add-suc}
 use native.Mathlib.Omega.{arith}
-use borrow.Author.Tests.{lt-ltb, le-ltb, le-leb, lt-leb, leb-true, ltb-true, leb-false}
+use borrow.Author.Tests.{lt-ltb, leb-true, ltb-true, leb-false}
 use lib.Dec.{leb, ltb}
 use Rattle.lists.specs.Count.{pick, count, sumBelow}
 use Rattle.lists.proofs.Count.{true-false}

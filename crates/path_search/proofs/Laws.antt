@@ -21,23 +21,20 @@ use Rattle.path_search.proofs.Least.{least-same, pairs-same, least-at, 
 use Rattle.incremental.specs.Decision.{accept}
 use Rattle.incremental.specs.Plan.{decided, run}
 use Rattle.sections.specs.Fields.{storedHash, part}
-use Rattle.head.specs.Checks.{openPlan, openOf}
-use Rattle.head.specs.declared.checks.OpenAnswer.{OpenAnswer}
-use Rattle.head.specs.declared.checks.OpenAnswer.the-variants as openAnswer
+use Rattle.head.specs.Checks.{openPlan}
 use Rattle.head.specs.Opened.{OpenFacts}
 use Rattle.head.proofs.Facts.{open-sound, open-shapes}
 use Rattle.head.specs.declared.checks.Opening.{Opening}
 use Rattle.names.specs.Names.{nameAt, nameUnits, fits, sound}
 use Rattle.names.proofs.Laws.{name-past}
-use Rattle.query.specs.Queries.{asked, bytesAt, placeOf, entryShown, namePlace, volumeShown, volumeFacts, pathPlace}
+use Rattle.query.specs.Queries.{bytesAt, placeOf, entryShown, namePlace, volumeShown, volumeFacts, pathPlace}
 use Rattle.query.specs.declared.PlaceAnswer.the-variants as placeAnswer
 use Rattle.path_search.specs.Search.{matches, matchesBy, leastPair, allPairs, pathFound, PathFound}
-use Rattle.lists.proofs.Pairs as lists
-use Rattle.path_search.specs.Search.{pathPairs, ListsPaths}
+use Rattle.lists.specs.Pairs.{PairsListed}
 use Rattle.query.specs.Queries.{nameSound, nameIn}
 use Rattle.path_search.specs.From.{beginsWith, fromStart, pathOf, nameOf, takesPart, matchesFrom, pathFoundFrom}
 use Rattle.path_search.specs.Private.{hashStart, hashEnd, hashFrom, belongs, numberFor, numberOf, numberIn, numberedIn, entriesIn}
-use Rattle.path_search.specs.Private.{searched, soughtOn, searchedOn, PairsPlaced}
+use Rattle.path_search.specs.Private.{searched, soughtOn, searchedOn}
 use Rattle.path_search.proofs.Same.{same-eq}
 use Rattle.path_search.specs.declared.Sought.{Sought}
 use Rattle.query.proofs.Laws.{name-inside, part-there, part-low, part-bytes, both}
@@ -243,8 +240,8 @@ path-given o p {path} {from} f a b ep ef e =
 
 pub pairs-given : (o : Opening) (p : List ℕ) {path metrics strings before after : List ℕ} {from r : ℕ} {q : Sought} → OpenFacts p o → from < 2 ^ 32
     → storedHash p < 2 ^ 32 → path ≡ [] → from ≡ hashStart (o .version) → metrics ≡ part (o .head .metrics) p → strings ≡ part (o .head .strings) p
-    → q ≡ soughtOn o p from → PairsPlaced (numberedIn q path (o .layout) metrics strings) (entriesIn (o .layout) metrics) before r after
-    → PairsPlaced (matchesBy o p) (o .head .metrics .count) before r after
+    → q ≡ soughtOn o p from → PairsListed (allPairs (numberedIn q path (o .layout) metrics strings) (entriesIn (o .layout) metrics)) before r after
+    → PairsListed (allPairs (matchesBy o p) (o .head .metrics .count)) before r after
 pairs-given o p {path} {from = from} f a b ep ef em es eq w =
     let e = pairs-law o p f path from a b (matchesBy o p) (λ n i. rw (ep, ef) (all-matches o p n i)) in
     let c = rw (em, es, eq, ← e) at (w .count) in
@@ -277,19 +274,6 @@ from-none o p v start {path} ep z = sym (least-none (matchesFrom o p v start) (o
         → (n i : ℕ) → matchesFrom o p v start n i ≡ false
     go true s w n i = rw (s, le-ltb 0 (length (pathOf o p v)) (omega (arith, ap length w))) (never (entryShown o p i) _)
     go false s w n i = rw s (never (entryShown o p i) _)
-
--- what is listed of a file, by what a call for its checks gave: `r` is that answer, on which the code has matched
-pub listed : (p : List ℕ) {before after : List ℕ} {r : OpenAnswer} {o : Opening} {n : ℕ} → openOf r ≡ run openPlan p → r ≡ openAnswer.Opened o
-    → PairsPlaced (matchesBy o p) (o .head .metrics .count) before n after → ListsPaths p before n after
-listed p e q w =
-    let a : run openPlan p ≡ decided (accept _) = sym e ∙ ap openOf q in
-    record { count = rw a (w .count); pairs = rw a (w .pairs) }
-
-pub none-listed : (p : List ℕ) {held : List ℕ} {r : OpenAnswer} (x : OpenAnswer) → openOf r ≡ run openPlan p → r ≡ x
-    → asked (openOf x) [] (λ o. allPairs (matchesBy o p) (o .head .metrics .count)) ≡ [] → ListsPaths p held 0 held
-none-listed p {held} x e q h =
-    let a : pathPairs p ≡ [] = rw (← e, q) h in
-    rw a (lists.none-listed held)
 
 -- ---- what a found path is
 pub path-found-law : (o : Opening) (p : List ℕ) (i n : ℕ) → run openPlan p ≡ decided (accept o) → pathFound p ≡ pathAnswer.Entry i n → PathFound o p i n

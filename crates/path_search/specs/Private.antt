@@ -1,12 +1,10 @@
 -- The search on the bytes of the metrics and the strings: what the private functions give.
-use mathlib.Core.Path.{_≡_}
 use mathlib.Core.Bool.{Bool, _||_}
 use mathlib.Core.List.{List}
 use Prim.Native.Nat.{ℕ, _+_, _*_, _/_}
 use lib.Dec.{ltb, eqb}
 use lib.ListN.{length, drop, set}
 use Rattle.lists.specs.Count.{pick, count, sumBelow}
-use Rattle.lists.specs.Pairs.{pairsIn}
 use Rattle.lists.specs.Table.{tabulate}
 use Rattle.path_hash.specs.Hash.{plain, xpEnd, wrapSub}
 use Rattle.layout.specs.Versions.{metricsEntry}
@@ -16,7 +14,7 @@ use Rattle.layout.specs.declared.Version.the-variants.{V17, V23, V26, V30}
 use Rattle.sections.specs.Fields.{part, storedHash}
 use Rattle.head.specs.declared.checks.Opening.{Opening}
 use Rattle.query.specs.Queries.{bytesAt, nameSound, nameIn}
-use Rattle.path_search.specs.Search.{numberCount, leastPair, allPairs}
+use Rattle.path_search.specs.Search.{numberCount, leastPair}
 use Rattle.path_search.specs.From.{beginsWith}
 use Rattle.path_search.specs.declared.PathAnswer.{PathAnswer}
 use Rattle.path_search.specs.declared.Sought.{Sought}
@@ -75,11 +73,6 @@ soughtOn o p from = record { version = o .version; from = from; stored = storedH
 
 abbrev pub searchedOn : Opening → List ℕ → List ℕ → ℕ → PathAnswer
 searchedOn o p path from = searched (soughtOn o p from) path (o .layout) (part (o .head .metrics) p) (part (o .head .strings) p)
-
--- all pairs of m entries are counted, and those that fit are in the list
-pub record PairsPlaced (test : ℕ → ℕ → Bool) (m : ℕ) (before : List ℕ) (r : ℕ) (after : List ℕ) : Type 0 where
-  pub count : 2 * r ≡ length (allPairs test m)
-  pub pairs : after ≡ pairsIn (allPairs test m) before
 
 -- ---- where each pair goes, over any test of a number and an entry, and m entries
 

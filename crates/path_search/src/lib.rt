@@ -7,11 +7,12 @@ ghost use mathlib.Core.Path.{_≡_};
 ghost use Prim.Native.Nat.{_≤_};
 ghost use lib.ListN.{length};
 ghost use Rattle.lists.specs.Answer.{Answers};
+ghost use Rattle.lists.specs.Pairs.{PairsListed};
 ghost use Rattle.layout.specs.Versions.{sizeLimit};
 ghost use Rattle.layout.specs.Sound.{SoundLayout};
 ghost use Rattle.head.specs.Opened.{OpenFacts};
-ghost use Rattle.path_search.specs.Search.{matchesBy, leastPair, pathFound, pathSaid, ListsPaths};
-ghost use Rattle.path_search.specs.Private.{hashStart, hashEnd, numberFor, numberOf, numberIn, soughtOn, searched, searchedOn, PairsPlaced};
+ghost use Rattle.path_search.specs.Search.{matchesBy, leastPair, allPairs, pathFound, pathSaid, ListsPaths};
+ghost use Rattle.path_search.specs.Private.{hashStart, hashEnd, numberFor, numberOf, numberIn, soughtOn, searched, searchedOn};
 pub use from_start::find_path_from;
 use head::OpenAnswer;
 use head::Opening;
@@ -192,7 +193,7 @@ pub fn find_path(file: &[u8]) -> PathAnswer
 fn paths_in(file: &[u8], o: Opening, pairs: &mut [u32]) -> usize
     requires { ⌜ OpenFacts (now file) o ⌝ }
     ensures { λ r.
-        ⌜ PairsPlaced (matchesBy o (now (file .entry))) (o .head .metrics .count) (now (pairs .entry)) r (now (pairs .exit)) ⌝ }
+        ⌜ PairsListed (allPairs (matchesBy o (now (file .entry))) (o .head .metrics .count)) (now (pairs .entry)) r (now (pairs .exit)) ⌝ }
 {
     let version = o.version;
     let l = o.layout;

@@ -220,7 +220,7 @@ entry-shown-law o p i u = (there, back)
         rw (lt-ltb _ _ (s .below), le-leb _ _ l) (sound-name _ _ _ .1 (s .name))
 
 -- a section that has a byte ends where its length says
-section-end : (s : Section) (h : ℕ) → s .end ≡ pick (eqb (s .len) 0) h (s .at + s .len) → 0 < s .len → s .end ≡ s .at + s .len
+pub section-end : (s : Section) (h : ℕ) → s .end ≡ pick (eqb (s .len) 0) h (s .at + s .len) → 0 < s .len → s .end ≡ s .at + s .len
 section-end s h e l = rw (ne-eqb (s .len) 0 (λ z. omega arith)) at e
 
 -- a unit of the part of a section is the same unit of the file
@@ -413,7 +413,7 @@ reference-inside s e k v l = go (eqb (referencesSize s e) 0) refl (v .references
     go false q (inr r) l = omega (arith, r .inside, r .numbers)
 
 -- a section that has volume i has a byte
-section-some : (s : Section) (v : Layout) (i : ℕ) → SoundLayout v → s .count * volumeEntry v ≤ s .len → i < s .count → 0 < s .len
+pub section-some : (s : Section) (v : Layout) (i : ℕ) → SoundLayout v → s .count * volumeEntry v ≤ s .len → i < s .count → 0 < s .len
 section-some s v i u r b = omega (arith, mul-le-mul-right {m = 1} {n = s .count} (volumeEntry v) (omega arith), u .volume-fields)
 
 pub volume-shown-law : (o : Opening) (p : List ℕ) (i : ℕ) → SoundLayout (o .layout) → (volumeShown o p i ≡ true) ↔ VolumeShown o p i

@@ -12,9 +12,8 @@ use Rattle.head.specs.Checks.{openPlan}
 use Rattle.head.specs.declared.checks.Opening.{Opening}
 use Rattle.names.specs.Names.{fits, nameAt, nameUnits}
 use Rattle.volumes.specs.Volumes.{entryAt, directoryCount}
-use Rattle.query.specs.declared.cost.Cost.{Cost}
-use Rattle.query.specs.declared.cost.CostAnswer.{CostAnswer}
-use Rattle.query.specs.declared.cost.CostAnswer.the-variants as costAnswer
+use Rattle.query.specs.declared.costs.CostAnswer.{CostAnswer}
+use Rattle.query.specs.declared.costs.CostAnswer.the-variants as costAnswer
 use Rattle.query.specs.Queries.{asked}
 
 -- the entries of an array that lie whole in the bytes lent of its section, those below the count

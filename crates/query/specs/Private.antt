@@ -1,6 +1,6 @@
 -- What only private contracts need: the queries on an opening, and on the bytes of the sections that they look at.
 use mathlib.Core.Bool.{Bool, _&&_}
-use mathlib.Core.List.{List}
+use mathlib.Core.List.{List, []}
 use Prim.Native.Nat.{ℕ}
 use lib.Dec.{leb, ltb}
 use lib.ListN.{length}

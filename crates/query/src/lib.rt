@@ -6,14 +6,14 @@ ghost use Rattle.query.specs.Queries.{placeSaid, placeOf, ShownAt, progr
 ghost use Rattle.query.specs.Queries.{pathPlace, referenceAsked, referenceSaid, placesNeeded, placesSaid};
 ghost use Rattle.query.specs.Private.{nameShown, entryIn, sectionShown, volumeIn, referenceIn};
 mod contents;
-mod cost;
+mod costs;
 
 pub use contents::directories;
 pub use contents::entry_reference;
 pub use contents::references;
-pub use cost::Cost;
-pub use cost::CostAnswer;
-pub use cost::cost;
+pub use costs::FileCost;
+pub use costs::CostAnswer;
+pub use costs::cost;
 use head::OpenAnswer;
 use head::Opening;
 use head::StartAnswer;

@@ -1,11 +1,9 @@
 // Document 03, A4: what a file costs to read, in one pass over its entries.
 ghost use mathlib.Core.Path.{_≡_};
 ghost use Prim.Native.Nat.{_≤_};
-ghost use lib.ListN.{length};
 ghost use Rattle.lists.specs.Answer.{Answers};
 ghost use Rattle.lists.specs.Count.{sumBelow};
-ghost use Rattle.layout.specs.Sound.{SoundLayout};
-ghost use Rattle.layout.specs.Versions.{sizeLimit, metricsEntry, volumeEntry};
+ghost use Rattle.layout.specs.Versions.{sizeLimit};
 ghost use Rattle.head.specs.Opened.{OpenFacts};
 ghost use Rattle.query.specs.Cost.{wholeEntries, nameCost, directoryCost, namesCost, directoriesCost, costAsked, costSaid};
 use head::OpenAnswer;
@@ -13,13 +11,13 @@ use head::Opening;
 use layout::Layout;
 
 // Bytes of names, with their zero units, and of directories, each at its least.
-pub struct Cost {
+pub struct FileCost {
     pub names: u64,
     pub directories: u64,
 }
 
 pub enum CostAnswer {
-    Known(Cost),
+    Known(FileCost),
     Unknown,
 }
 
@@ -73,7 +71,7 @@ fn directories_cost(section: &[u8], l: Layout, size: usize, entries: u32) -> u64
 }
 
 // Both, where checks 1 to 6 pass.
-fn cost_in(file: &[u8], o: Opening) -> Cost
+fn cost_in(file: &[u8], o: Opening) -> FileCost
     requires { ⌜ OpenFacts (now file) o ⌝ }
     ensures { λ r. ⌜ r ≡ record { names = namesCost o (now (file .entry)); directories = directoriesCost o (now (file .entry)) } ⌝ }
 {
@@ -83,7 +81,7 @@ fn cost_in(file: &[u8], o: Opening) -> Cost
     let metrics = sections::part_of(file, entries);
     let listed = h.volumes;
     let section = sections::part_of(file, listed);
-    Cost {
+    FileCost {
         names: names_cost(metrics, l, h.strings.len, whole_entries(metrics, l.metrics_entry, entries.count)),
         directories: directories_cost(section, l, listed.len, whole_entries(section, l.volume_entry, listed.count)),
     }
