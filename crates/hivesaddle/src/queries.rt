@@ -160,7 +160,10 @@ pub extern "C" fn hs_entry_reference(file: &[u8], i: u64, out: &mut [u64]) -> u3
     ensures { λ r.
         ⌜ Answered (entryReferenceSaid (entryReferenceAsked (now (file .entry)) i)) r (now (out .entry)) (now (out .exit)) ⌝ }
 {
-    put_reply(entry_reference_reply(query::entry_reference(file, i as usize)), out)
+    put_reply(
+        entry_reference_reply(query::entry_reference(file, i as usize)),
+        out,
+    )
 }
 
 fn cost_reply(answer: CostAnswer) -> Reply
@@ -206,7 +209,10 @@ pub extern "C" fn hs_find_path_from(file: &[u8], volume: u64, start: &[u8], out:
     ensures { λ r.
         ⌜ Answered (pathSaid (pathFoundFrom (now (file .entry)) volume (now (start .entry)))) r (now (out .entry)) (now (out .exit)) ⌝ }
 {
-    put_reply(path_reply(path_search::find_path_from(file, volume as usize, start)), out)
+    put_reply(
+        path_reply(path_search::find_path_from(file, volume as usize, start)),
+        out,
+    )
 }
 
 // All pairs of an entry and the number by which it matches: their count, and as many whole pairs as fit.

@@ -22,8 +22,8 @@ returns c =
     let metrics = strings .before in
     let known = metrics .before .before .before .before .before .before in
     pairs-given (known .before .args .o) (known .before .args .file .now) (known .before .pre) (omega arith)
-    (stored-low _ (λ k. known .shared-slice-known .given k .fits)) (empty .part .ensures .contents) (start .hash-start .ensures) (metrics .part-of .ensures .contents) (strings .part-of2 .ensures .contents) (sought .sought-in .ensures)
-    (listed .list-in .ensures)
+    (stored-low _ (λ k. known .shared-slice-known .given k .fits)) (empty .part .ensures .contents) (start .hash-start .ensures)
+    (metrics .part-of .ensures .contents) (strings .part-of2 .ensures .contents) (sought .sought-in .ensures) (listed .list-in .ensures)
 
 pub paths-in-spec : {M : Type 1} → statement M
 paths-in-spec =

@@ -16,7 +16,8 @@ returns c =
     let sought = c .before in
     let strings = sought .before in
     let a = strings .before .before .before .before .before .before .before .before .args in
-    sections-given (a .o) (a .file .now) (a .path .now) (a .from) (strings .before .part-of .ensures .contents) (strings .part-of2 .ensures .contents) (sought .sought-in .ensures) (c .search .ensures)
+    sections-given (a .o) (a .file .now) (a .path .now) (a .from)
+    (strings .before .part-of .ensures .contents) (strings .part-of2 .ensures .contents) (sought .sought-in .ensures) (c .search .ensures)
 
 pub search-in-spec : {M : Type 1} → statement M
 search-in-spec =

@@ -18,7 +18,8 @@ returns-2 c =
     let known = path .before .before in
     let a = known .before .args in
     from-given (a .o) (a .file .now) (a .volume) (a .start .now) (known .before .pre) (omega arith)
-    (stored-low _ (λ k. known .shared-slice-known .given k .fits)) (path .path-in .ensures .contents) (some .if1 .left) (carried .before .hash-start .ensures) (carried .carry-bytes .ensures) (c .search-in .ensures)
+    (stored-low _ (λ k. known .shared-slice-known .given k .fits)) (path .path-in .ensures .contents) (some .if1 .left)
+    (carried .before .hash-start .ensures) (carried .carry-bytes .ensures) (c .search-in .ensures)
 
 pub path-from-in-spec : {M : Type 1} → statement M
 path-from-in-spec =
