@@ -10,10 +10,11 @@ use Rattle.trace.proofs.Cycles.{cycle-law}
 use Rattle.reader.proofs.Allowed.{demand-2}
 use Rattle.reader.proofs.Early.{demand-3, after-size}
 use Rattle.query.proofs.Laws.{entry-shown-law, name-placed, volume-shown-law, path-placed}
-use Rattle.path_search.proofs.Laws.{path-found-law, found-path-law, path-not-found-law}
+use Rattle.path_search.proofs.Laws.{path-found-law, found-path-law, path-not-found-law, own-path-law}
 use Rattle.text.proofs.Decimal.{decimal-law, decimal-only}
 use Rattle.claims.proofs.Buffer.{not-accepted-filled, allowed-linked}
 use Rattle.claims.proofs.Search.{path-not-open}
+use Rattle.claims.proofs.Contents.{contents}
 use Rattle.claims.proofs.EveryName.{every-name}
 use Rattle.claims.proofs.Offsets.{offsets}
 use Rattle.claims.proofs.Numbers.{numbers}
@@ -68,6 +69,7 @@ claims =
       decimal-only = decimal-only;
       one-hash = one-hash;
       numbers = numbers;
+      own-path = own-path-law;
       powers = powers;
       year-table = year-facts;
       year-readings = year-readings;
@@ -78,6 +80,7 @@ claims =
       name-placed = λ o p i e. name-placed o p i (open-facts p .holds o e);
       volume-shown = λ o p i e. volume-shown-law o p i (open-sound p o (open-facts p .holds o e));
       path-placed = λ o p i e. path-placed o p i (open-facts p .holds o e);
+      contents = contents;
       writes = writers-say;
       empty-programs = empty-programs;
       settled = settled;

@@ -42,13 +42,13 @@ lies file r w h q =
     }
 
 module _ (p : List ℕ) (o : Opening) (a : Allowed p o) where
-  facts : OpenFacts p o
+  pub facts : OpenFacts p o
   facts = opens p o a
 
   started : run startPlan p ≡ decided (accept (startIn o))
   started = start-complete p (startIn o) (facts .start)
 
-  opened : run openPlan p ≡ decided (accept o)
+  pub opened : run openPlan p ≡ decided (accept o)
   opened = open-complete p o facts
 
   pub program-is : programPlace p ≡ placeAnswer.Shown (programAt o)
@@ -72,11 +72,11 @@ module _ (p : List ℕ) (o : Opening) (a : Allowed p o) where
   pub entry-is : (i : ℕ) → i < o .head .metrics .count → entryPlace p i ≡ placeAnswer.Shown (namePlace o p i)
   entry-is i l = rw (opened, entry-shown-law o p i (open-sound p o facts) .1 (entry-is-shown i l))
 
-  volumes-there : length (part (o .head .volumes) p) ≡ o .head .volumes .len
+  pub volumes-there : length (part (o .head .volumes) p) ≡ o .head .volumes .len
   volumes-there =
       part-length (o .head .volumes) (headEnd (o .layout)) p (open-shapes p o facts .volumes-end) (omega (arith, facts .volumes, a .complete))
 
-  volume-is-shown : (i : ℕ) → i < o .head .volumes .count → volumeShown o p i ≡ true
+  pub volume-is-shown : (i : ℕ) → i < o .head .volumes .count → volumeShown o p i ≡ true
   unfolding volumeShown sectionShown
   volume-is-shown i l =
       section-shown-law (o .head .volumes) (o .layout) (part (o .head .volumes) p) i .1

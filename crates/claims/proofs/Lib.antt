@@ -1,5 +1,6 @@
 pub mod Buffer
 pub mod Claims
+pub mod Contents
 pub mod Computed
 pub mod EmptyPrograms
 pub mod Offsets

@@ -54,23 +54,24 @@ pub record VolumeListed (p : List ℕ) (o : Opening) (i : ℕ) (s : List ℕ) (e
       → ListsReferences p i before r after → 2 * k + 1 < length before
       → PairIs after k (referenceOf s e k .index) (referenceOf s e k .sequence)
 
--- a byte lies in so many from a start
-abbrev pub Lies : ℕ → ℕ → ℕ → Type 0
-Lies start size byte = (start ≤ byte) × (byte < start + size)
+-- a byte is one of so many from a start
+pub record Covers (start size byte : ℕ) : Type 0 where
+  pub from : start ≤ byte
+  pub to : byte < start + size
 
 -- no byte of the strings is in two names, each with its zero
 abbrev pub NamesApart : Opening → List ℕ → Type 0
 NamesApart o p =
     let metrics = part (o .head .metrics) p in
     (byte j k : ℕ) → j < o .head .metrics .count → k < o .head .metrics .count
-    → Lies (nameAt (o .layout) metrics j) (2 * nameUnits (o .layout) metrics j + 2) byte
-    → Lies (nameAt (o .layout) metrics k) (2 * nameUnits (o .layout) metrics k + 2) byte
+    → Covers (nameAt (o .layout) metrics j) (2 * nameUnits (o .layout) metrics j + 2) byte
+    → Covers (nameAt (o .layout) metrics k) (2 * nameUnits (o .layout) metrics k + 2) byte
     → j ≡ k
 
--- a byte lies in directory k of the volume whose entry is at e
-abbrev pub InDirectory : List ℕ → ℕ → ℕ → ℕ → Type 0
-InDirectory s e k byte =
-    (k < directoryCount s e) × Lies (directoryAt s (directoriesAt s e) k) (2 + 2 * le 2 s (directoryAt s (directoriesAt s e) k) + 2) byte
+-- a byte is in directory k of the volume whose entry is at e
+pub record InDirectory (s : List ℕ) (e k byte : ℕ) : Type 0 where
+  pub below : k < directoryCount s e
+  pub covers : Covers (directoryAt s (directoriesAt s e) k) (2 + 2 * le 2 s (directoryAt s (directoriesAt s e) k) + 2) byte
 
 -- no byte of the volumes section is in directories of two volumes
 abbrev pub DirectoriesApart : Opening → List ℕ → Type 0

@@ -6,6 +6,7 @@ pub mod Times
 pub mod WithoutNext
 pub mod Walks
 pub mod Writer
+pub mod Contents
 pub mod Claims
 pub mod EmptyPrograms
 pub mod EveryName
