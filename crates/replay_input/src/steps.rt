@@ -35,7 +35,7 @@ pub struct Took {
 
 // Before the first step.
 pub fn begin_input() -> Input
-    ensures { λ r. ⌜ Fresh r ⌝ }
+    ensures { λ r. ⌜ r ≡ nothingRead ⌝ }
 {
     Input {
         stage: Stage {
