@@ -13,4 +13,6 @@ pub mod BestReading
 pub mod Points
 pub mod Signed
 pub mod Framing
+pub mod Feeding
 pub mod Keeping
+pub mod Runs
