@@ -1,5 +1,4 @@
 pub mod Starts
 pub mod Text
-pub mod Cutting
-pub mod Standing
 pub mod Carrying
+pub mod Taking
