@@ -3,12 +3,9 @@ use mathlib.Core.Path.{_≡_, refl, sym, ap, _∙_}
 use mathlib.Core.List.{List, [], _∷_, _++_, append-assoc, append-nil}
 use Prim.Native.Nat.{ℕ, zero, suc, _+_, _-_, _*_, _≤_, _<_}
 use native.Mathlib.Omega.{arith}
-use native.Mathlib.Decide.{decLt}
-use lib.Dec.{leb}
 use lib.ListN.{length, getD, take, drop, length-append, length-drop}
 use lib.Seq.{take-at, drop-at, drop-drop, take-all}
 use borrow.Author.Tests.{le-leb, lt-leb, eq-eqb, ne-eqb}
-use Rattle.lists.specs.Count.{pick}
 use Rattle.hex.specs.Hex.{hexDigits}
 use Rattle.hex.proofs.Hex.{length-digits}
 use Rattle.text.specs.Ascii.{ascii}
@@ -85,25 +82,10 @@ module _ (a : List ℕ) (room k n : ℕ) (l : 0 < n) where
   unfolding fittingLines
   none-fits h = ap (fittingLines a room k) more ∙ rw (lt-leb (length (answerLine a k)) room h)
 
--- the lines that fit are no longer than the room
-pub fitting-within : (a : List ℕ) (room k n : ℕ) → length (answerLines a k (fittingLines a room k n)) ≤ room
-unfolding answerLines fittingLines
-fitting-within a room k zero = omega arith
-fitting-within a room k (suc n) = go (decLt room (length line)) (fitting-within a (room - length line) (k + 1) n)
-  where
-    line : List ℕ
-    line = answerLine a k
-
-    m : ℕ
-    m = fittingLines a (room - length line) (k + 1) n
-
-    go : Dec (room < length line) → length (answerLines a (k + 1) m) ≤ room - length line
-        → length (answerLines a k (pick (leb (length line) room) (suc m) 0)) ≤ room
-    go (yes l) h = rw (lt-leb (length line) room l) (omega arith)
-    go (no l) h = rw (le-leb (length line) room (omega (arith, l))) (omega (arith, length-append line (answerLines a (k + 1) m)))
-
-pub puts-within : (a : List ℕ) (starts from : ℕ) (out : List ℕ) (r : Written) (out′ : List ℕ) → PutsAnswers a starts from out r out′ → r .bytes ≤ length out
-puts-within a starts from out r out′ h = omega (arith, h .bytes, fitting-within a (length out) from (starts - from))
+-- what was put lies in the buffer
+pub puts-within : (a : List ℕ) (starts from : ℕ) (out : List ℕ) (r : Written) (out′ : List ℕ) → PutsAnswers a starts from out r out′ → r .bytes ≤ length out′
+puts-within a starts from out r out′ h =
+    omega (arith, h .bytes, ap length (h .output), length-append (answerLines a from (fittingLines a (length out) from (starts - from))) (drop (r .bytes) out))
 
 -- some lines have been put, up to the answer `next` and the position `at`
 pub record Putting (a : List ℕ) (starts from : ℕ) (out₀ : List ℕ) (next at : ℕ) (out : List ℕ) : Type 0 where
