@@ -24,7 +24,7 @@ use Rattle.claims.proofs.WithoutNext.{without-next}
 use Rattle.walk.proofs.Once.{every-entry}
 use Rattle.readings.proofs.BestReading.{best-reading}
 use Rattle.readings.proofs.Points.{recording-points}
-use Rattle.readings.proofs.Feeding.{pieces-agree}
+use Rattle.readings.proofs.Runs.{pieces}
 use Rattle.replay_input.proofs.Cutting.{steps-agree}
 use Rattle.claims.proofs.Walks.{walks-say}
 use Rattle.claims.proofs.Writer.{writers-say}
@@ -57,7 +57,7 @@ claims =
       every-entry = λ s l. every-entry (l .at) s (l .count) (l .short) (l .passes);
       walks = walks-say;
       best-reading = best-reading;
-      pieces-agree = pieces-agree;
+      pieces = pieces;
       steps-agree = steps-agree;
       recording-points = recording-points;
       cycles = cycle-law;

@@ -27,7 +27,7 @@ use Rattle.walk.specs.EveryEntry.{EveryEntry}
 use Rattle.readings.specs.declared.Reading.{Reading}
 use Rattle.readings.specs.BestReading.{BestReading}
 use Rattle.readings.specs.Points.{RecordingPoints}
-use Rattle.readings.specs.Feeding.{PiecesAgree}
+use Rattle.readings.specs.Feeding.{Pieces}
 use Rattle.replay_input.specs.Input.{StepsAgree}
 use Rattle.query.specs.Queries.{entryShown, volumeShown, volumeFacts}
 use Rattle.query.specs.Shown.{EntryShown, NamePlaced, VolumeShown}
@@ -138,8 +138,9 @@ pub record Claims : Type 1 where
   -- Request 110: the answer for a start is a reading of its board not after it, none such is later in time, and among equal times
   -- none is later in the file; none exactly when there is no such reading.
   pub best-reading : (time board : ℕ) (rs : List Reading) → BestReading time board rs
-  -- "How the steps fall changes nothing": feeding pieces, however the bytes are cut, gives what the whole gives.
-  pub pieces-agree : PiecesAgree
+  -- "How the steps fall changes nothing": `begin`, `feed` for each piece and `finish`, however the bytes are cut and whatever the lists
+  -- held before, give what the promise of `replay` gives on all the bytes, for the starts that `begin` says are served.
+  pub pieces : Pieces
   -- The program's starts and recording too: its steps, however they fall, read what the input is as a whole.
   pub steps-agree : StepsAgree
   -- The lines and the temperatures that the request names.
