@@ -2,3 +2,5 @@ pub mod Starts
 pub mod Text
 pub mod Carrying
 pub mod Taking
+pub mod Writing
+pub mod Running

@@ -177,18 +177,17 @@ module _ (s : List ℕ) (held : ℕ) (times boards : List ℕ) (k : ℕ) (times�
 
 -- ---- the bytes at hand
 
-module _ (t : Stage) (s times boards work answers : List ℕ) (r : Took) (times′ boards′ work′ answers′ : List ℕ) where
+module _ (t : Stage) (s times boards work answers : List ℕ) where
   pub bytes-starting : t .starting ≡ true
-      → TakesBytes (startsTaken (leading 18 (room (t .starts) times boards) s) (t .starts) (t .progress .lines) s times boards work answers) r
-      times′ boards′ work′ answers′
-      → TakesBytes (bytesTaken t s times boards work answers) r times′ boards′ work′ answers′
+      → bytesTaken t s times boards work answers
+      ≡ startsTaken (leading 18 (room (t .starts) times boards) s) (t .starts) (t .progress .lines) s times boards work answers
   unfolding bytesTaken
-  bytes-starting e f = rw e f
+  bytes-starting e = rw e
 
-  pub bytes-recording : t .starting ≡ false → TakesBytes (recordingTaken (t .starts) (t .progress) s times boards work answers) r times′ boards′ work′ answers′
-      → TakesBytes (bytesTaken t s times boards work answers) r times′ boards′ work′ answers′
+  pub bytes-recording : t .starting ≡ false
+      → bytesTaken t s times boards work answers ≡ recordingTaken (t .starts) (t .progress) s times boards work answers
   unfolding bytesTaken
-  bytes-recording e f = rw e f
+  bytes-recording e = rw e
 
 -- no more starts than there are places for
 pub fitting-fits : (t : Stage) (times boards : List ℕ) (stage : Stage) → stage ≡ fittingStage t times boards → StartsFit (stage .starts) times boards
