@@ -4,3 +4,4 @@ pub mod Carrying
 pub mod Taking
 pub mod Writing
 pub mod Running
+pub mod Program

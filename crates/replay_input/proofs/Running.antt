@@ -161,7 +161,7 @@ goes (piece ∷ pieces) input l last held b f k w =
 -- ---- the starts
 
 -- their times have 64 bits
-abbrev Small : List (List ℕ) → Type 0
+abbrev pub Small : List (List ℕ) → Type 0
 Small [] = Unit
 Small (l ∷ ls) = (timeIn l < 2 ^ 64) × Small ls
 
@@ -216,12 +216,19 @@ from-more ls ks js s =
 abbrev pub onward : ℕ → List (List ℕ) → List ℕ → InputRead
 onward most ls s = from ls (leading 18 (most - length ls) s) s
 
+-- the starts that the bytes begin with, and what comes behind them
+abbrev startsIn : ℕ → List (List ℕ) → List ℕ → List (List ℕ)
+startsIn most ls s = leading 18 (most - length ls) s
+
+abbrev behind : ℕ → List (List ℕ) → List ℕ → List ℕ
+behind most ls s = drop (19 * length (startsIn most ls s)) s
+
 module _ (most : ℕ) (ls : List (List ℕ)) (s x : List ℕ) where
   abbrev ks : List (List ℕ)
-  ks = leading 18 (most - length ls) s
+  ks = startsIn most ls s
 
   abbrev rest : List ℕ
-  rest = drop (19 * length ks) s
+  rest = behind most ls s
 
   more-is : onward most (ls ++ ks) (rest ++ x) ≡ onward most ls (s ++ x)
   more-is =
@@ -290,3 +297,238 @@ served-all : (most : ℕ) (ls : List (List ℕ)) (work answers : List ℕ) → l
     → servedCount (map timeIn ls) (map boardIn ls) work answers ≡ length ls
 unfolding servedCount answerCount
 served-all most ls work answers l m w a = omega (arith, length-map ls timeIn, length-map ls boardIn)
+
+-- ---- while more starts may come
+
+-- the starts ls stand in the lists, and the bytes s wait
+pub record Starting (most : ℕ) (ls : List (List ℕ)) (s : List ℕ) (input : Input) (l : Lists) : Type 0 where
+  pub stage : input .stage ≡ record { starts = length ls; starting = true; progress = record { lines = length ls; bad = 0 } }
+  pub room-is : HasRoom most l
+  pub few : length ls ≤ most
+  pub timed : take (length ls) (l .times) ≡ map timeIn ls
+  pub boarded : take (length ls) (l .boards) ≡ map boardIn ls
+  pub small : Small ls
+  pub kept : input .kept ≡ length s
+  pub waiting : take (input .kept) (l .buffer) ≡ s
+  pub short : length s < 19
+
+starts-fit : (most : ℕ) (ls : List (List ℕ)) (s : List ℕ) (input : Input) (l : Lists) → Starting most ls s input l
+    → StartsFit (input .stage .starts) (l .times) (l .boards)
+starts-fit most ls s input l c =
+    rw (c .stage) (record { timed = omega (arith, c .few, c .room-is .timed); boarded = omega (arith, c .few, c .room-is .boarded) })
+
+-- the input ends there
+ends-there : (most : ℕ) (ls : List (List ℕ)) (s : List ℕ) (input : Input) (l : Lists) → Starting most ls s input l → most < 2 ^ 32
+    → 19 * length ls + length s < 2 ^ 64 → Gives (onward most ls s) (length (l .buffer)) input l
+unfolding FeedsAll joined
+ends-there most ls s input l c m b =
+    subst (λ (q : InputRead). Gives q (length (l .buffer)) input l) (none-is most ls s (c .short))
+    (record { starts = ap (λ (x : Stage). x .starts) (c .stage); size-is = refl; ends = ends })
+  where
+    rec : Recorded
+    rec = recordedFrom (length ls + 1) (linesIn s)
+
+    T : List ℕ
+    T = map timeIn ls
+
+    B : List ℕ
+    B = map boardIn ls
+
+    n : ℕ
+    n = servedCount T B (l .work) (l .answers)
+
+    ends : (r : ReplayAnswer) (work′ answers′ : List ℕ) → Ends input (l .times) (l .boards) (l .work) (l .answers) r work′ answers′
+        → (saidOf r ≡ sayingOf rec) × (x : List ℕ) × (answers′ ≡ tabulate (4 * length ls) (placeOf rec T B) ++ x)
+    ends r work′ answers′ e =
+        let g =
+        rw (c .stage, c .timed, c .boarded, c .kept) at
+        (starting-finishes input l (starts-fit most ls s input l c) r work′ answers′ e (ap (λ (x : Stage). x .starting) (c .stage))) in
+        let z =
+        runs-from (length ls) s [] T B (l .work) (l .answers) n refl (omega (arith, c .short)) (omega arith) (small-at ls (c .small))
+        (record { progress = record { lines = length ls; bad = 0 }; waiting = s; answers = begunAnswers T B (l .work) (l .answers) })
+        refl r (filled (length (begunWork T B (l .work) (l .answers)))) answers′ g in
+        let k : n ≡ length ls = served-all most ls (l .work) (l .answers) (c .few) m (c .room-is .working) (c .room-is .given) in
+        let y = append-nil s in
+        (rw y at (z .says), drop (4 * length ls) (l .answers), rw (y, k) at (z .given))
+
+-- one step
+module _ (most : ℕ) (ls : List (List ℕ)) (s : List ℕ) (input : Input) (l : Lists) (c : Starting most ls s input l) (small : most < 2 ^ 32)
+    (piece read : List ℕ) (next : Input) (m : Lists) (p : PieceRead (input .kept) piece (l .buffer) read)
+    (st : Steps read (input .kept + length piece) input (l .times) (l .boards) (l .work) (l .answers) next (m .buffer) (m .times) (m .boards) (m .work)
+    (m .answers)) where
+  abbrev js : List (List ℕ)
+  js = startsIn most ls (s ++ piece)
+
+  abbrev d : List ℕ
+  d = behind most ls (s ++ piece)
+
+  abbrev k : ℕ
+  k = length js
+
+  starts-taken : Stepped (startsTaken js (length ls) (length ls) (s ++ piece) (l .times) (l .boards) (l .work) (l .answers)) (s ++ piece)
+      (length (l .buffer)) next m
+  starts-taken =
+      let t : Stage = record { starts = length ls; starting = true; progress = record { lines = length ls; bad = 0 } } in
+      let g = rw (c .waiting, c .stage) at (stepped input l piece read next m (starts-fit most ls s input l c) p st) in
+      let e : room (length ls) (l .times) (l .boards) ≡ most - length ls = omega (arith, c .room-is .timed, c .room-is .boarded) in
+      rw (bytes-starting t (s ++ piece) (l .times) (l .boards) (l .work) (l .answers) refl, e) at g
+
+  count : length (ls ++ js) ≡ length ls + k
+  count = length-append ls js
+
+  few : length ls + k ≤ most
+  few = omega (arith, c .few, leading-few 18 (most - length ls) (s ++ piece))
+
+  lines : (length ls + k) % 2 ^ 64 ≡ length ls + k
+  lines = omega (arith, few, small)
+
+  -- the lists hold the starts
+  times-now : take (length (ls ++ js)) (sets (l .times) (length ls) (map timeIn js)) ≡ map timeIn (ls ++ js)
+  times-now = stored (l .times) timeIn ls js (omega (arith, few, c .room-is .timed)) (c .timed)
+
+  boards-now : take (length (ls ++ js)) (sets (l .boards) (length ls) (map boardIn js)) ≡ map boardIn (ls ++ js)
+  boards-now = stored (l .boards) boardIn ls js (omega (arith, few, c .room-is .boarded)) (c .boarded)
+
+  small-now : Small (ls ++ js)
+  small-now = small-append ls js (c .small) (small-leading (most - length ls) (s ++ piece))
+
+  times-size : length (sets (l .times) (length ls) (map timeIn js)) ≡ most
+  times-size = length-sets (l .times) (length ls) (map timeIn js) ∙ c .room-is .timed
+
+  boards-size : length (sets (l .boards) (length ls) (map boardIn js)) ≡ most
+  boards-size = length-sets (l .boards) (length ls) (map boardIn js) ∙ c .room-is .boarded
+
+  -- more starts may come
+  still-starting : ltb (length d) 19 ≡ true → Starting most (ls ++ js) d next m × (length (m .buffer) ≡ length (l .buffer))
+  still-starting q =
+      let g = rw q at starts-taken in
+      let h : length d ≡ length (s ++ piece) - 19 * k = length-drop (19 * k) (s ++ piece) in (
+        record {
+          stage = g .stage ∙ rw (lines, count);
+          room-is =
+              record {
+                timed = ap length (g .timed) ∙ times-size;
+                boarded = ap length (g .boarded) ∙ boards-size;
+                working = ap length (g .working) ∙ c .room-is .working;
+                given = ap length (g .given) ∙ c .room-is .given;
+              };
+          few = omega (arith, few, count);
+          timed = ap (take (length (ls ++ js))) (g .timed) ∙ times-now;
+          boarded = ap (take (length (ls ++ js))) (g .boarded) ∙ boards-now;
+          small = small-now;
+          kept = g .kept ∙ sym h;
+          waiting = g .waiting;
+          short = ltb-true (length d) 19 q;
+        },
+        g .size-is,
+      )
+
+  -- the recording begins
+  module _ (pieces : List (List ℕ)) (last : Input) (held : Lists) (w : TakesAll next m pieces last held)
+      (b : 19 * length ls + length (s ++ piece) + length (joined pieces) < 2 ^ 64) (q : ltb (length d) 19 ≡ false) where
+    abbrev T′ : List ℕ
+    T′ = map timeIn (ls ++ js)
+
+    abbrev B′ : List ℕ
+    B′ = map boardIn (ls ++ js)
+
+    abbrev P′ : Progress
+    P′ = record { lines = length (ls ++ js); bad = 0 }
+
+    abbrev W′ : List ℕ
+    W′ = begunWork T′ B′ (l .work) (l .answers)
+
+    g : Stepped
+        (usedMore (19 * k)
+        (recordingBegun (length ls + k) ((length ls + k) % 2 ^ 64) d (sets (l .times) (length ls) (map timeIn js)) (sets (l .boards) (length ls) (map boardIn js))
+        (l .work) (l .answers)))
+        (s ++ piece) (length (l .buffer)) next m
+    g = rw q at starts-taken
+
+    fit : StartsFit (next .stage .starts) (m .times) (m .boards)
+    fit = rw (g .stage, g .timed, g .boarded) (record { timed = omega (arith, few, times-size); boarded = omega (arith, few, boards-size) })
+
+    going : Goes next m pieces last held
+    going = goes pieces next m last held (ap (λ (x : Stage). x .starting) (g .stage)) fit (g .within) w
+
+    -- its first piece is what comes behind the starts
+    fed : FeedsAll T′ B′ W′ (record { progress = P′; waiting = []; answers = begunAnswers T′ B′ (l .work) (l .answers) }) (d ∷ pieces) (mid last held)
+    unfolding FeedsAll
+    fed =
+        let f = rw (g .stage, g .waiting, g .given, g .timed, g .boarded, g .working) at (going .feeds) in
+        let h = rw (lines, ← count, times-now, boards-now, ← drop-drop (fedBy P′ d .used) (19 * k) (s ++ piece)) at f in
+        (fedBy P′ d, fedAnswers P′ d T′ B′ W′ (begunAnswers T′ B′ (l .work) (l .answers)), record { says = refl; given = refl }, h)
+
+    begun-gives : Gives (record { starts = ls ++ js; recording = recordedFrom (length (ls ++ js) + 1) (linesIn (d ++ joined pieces)) }) (length (l .buffer))
+        last held
+    unfolding joined
+    begun-gives =
+        record {
+          starts = going .starts ∙ ap (λ (x : Stage). x .starts) (g .stage) ∙ sym count;
+          size-is = going .size-is ∙ g .size-is;
+          ends = ends;
+        }
+      where
+        rec : Recorded
+        rec = recordedFrom (length (ls ++ js) + 1) (linesIn (d ++ joined pieces))
+
+        n : ℕ
+        n = servedCount T′ B′ (l .work) (l .answers)
+
+        fit-last : StartsFit (last .stage .starts) (held .times) (held .boards)
+        fit-last = rw (going .starts, going .timed, going .boarded) fit
+
+        ends : (r : ReplayAnswer) (work′ answers′ : List ℕ) → Ends last (held .times) (held .boards) (held .work) (held .answers) r work′ answers′
+            → (saidOf r ≡ sayingOf rec) × (x : List ℕ) × (answers′ ≡ tabulate (4 * length (ls ++ js)) (placeOf rec T′ B′) ++ x)
+        ends r work′ answers′ e =
+            let f =
+            rw (going .starts, going .timed, going .boarded, going .working, g .stage, g .timed, g .boarded, g .working, ← count, times-now, boards-now) at
+            (recording-finishes last held fit-last r work′ answers′ e (going .begun)) in
+            let i : 2 * length (ls ++ js) + 0 + length (d ++ joined pieces) < 2 ^ 64 =
+            omega (arith, b, count, leading-fit 18 (most - length ls) (s ++ piece), length-drop (19 * k) (s ++ piece), length-append d (joined pieces)) in
+            let z =
+            runs-from (length (ls ++ js)) [] (d ∷ pieces) T′ B′ (l .work) (l .answers) n refl (omega arith) i (small-at (ls ++ js) small-now) (mid last held) fed
+            r (filled (length W′)) answers′ (rw (length-take-le (last .kept) (held .buffer) (going .within)) f) in
+            let y : n ≡ length (ls ++ js) =
+            served-all most (ls ++ js) (l .work) (l .answers) (omega (arith, few, count)) small (c .room-is .working) (c .room-is .given) in
+            (z .says, drop (4 * length (ls ++ js)) (l .answers), rw y at (z .given))
+
+-- A RUN, from the starts ls and the bytes s that wait on
+pub runs : (most : ℕ) → most < 2 ^ 32 → (pieces : List (List ℕ)) (ls : List (List ℕ)) (s : List ℕ) (input : Input) (l : Lists) (last : Input) (held : Lists)
+    → Starting most ls s input l → 19 * length ls + length s + length (joined pieces) < 2 ^ 64 → TakesAll input l pieces last held
+    → Gives (onward most ls (s ++ joined pieces)) (length (l .buffer)) last held
+unfolding TakesAll joined
+runs most small [] ls s input l last held c b w = rw (w .0, w .1, append-nil s) (ends-there most ls s input l c small (omega arith))
+runs most small (piece ∷ pieces) ls s input l last held c b w =
+    go (ltb (length (behind most ls (s ++ piece))) 19) refl
+    (runs most small pieces (ls ++ startsIn most ls (s ++ piece)) (behind most ls (s ++ piece)) (w .1) (w .2) last held)
+  where
+    x : List ℕ
+    x = joined pieces
+
+    js′ : List (List ℕ)
+    js′ = startsIn most ls (s ++ piece)
+
+    d′ : List ℕ
+    d′ = behind most ls (s ++ piece)
+
+    bytes : 19 * length ls + length (s ++ piece) + length x < 2 ^ 64
+    bytes = omega (arith, b, length-append s piece, length-append piece x)
+
+    whole : onward most ls ((s ++ piece) ++ x) ≡ onward most ls (s ++ (piece ++ x))
+    whole = ap (onward most ls) (append-assoc s piece x)
+
+    go : (b : Bool) → ltb (length d′) 19 ≡ b
+        → (Starting most (ls ++ js′) d′ (w .1) (w .2) → 19 * length (ls ++ js′) + length d′ + length x < 2 ^ 64 → TakesAll (w .1) (w .2) pieces last held
+        → Gives (onward most (ls ++ js′) (d′ ++ x)) (length (w .2 .buffer)) last held)
+        → Gives (onward most ls (s ++ (piece ++ x))) (length (l .buffer)) last held
+    go true q ih =
+        let y = still-starting most ls s input l c small piece (w .0) (w .1) (w .2) (w .3) (w .4) q in
+        let i : 19 * length (ls ++ js′) + length d′ + length x < 2 ^ 64 =
+        omega
+        (arith, bytes, length-append ls js′, leading-fit 18 (most - length ls) (s ++ piece), length-drop (19 * length js′) (s ++ piece)) in
+        subst (λ (q : InputRead). Gives q (length (l .buffer)) last held) (more-is most ls (s ++ piece) x ∙ whole) (rw (y .1) at (ih (y .0) i (w .5)))
+    go false q ih =
+        subst (λ (q : InputRead). Gives q (length (l .buffer)) last held)
+        (recording-is most ls (s ++ piece) x (ltb-false (length d′) 19 q) ∙ whole)
+        (begun-gives most ls s input l c small piece (w .0) (w .1) (w .2) (w .3) (w .4) pieces last held (w .5) bytes q)
