@@ -25,18 +25,24 @@ fn take_input(
     input
 }
 
-fn write_answers(starts: usize, answers: &[u64], line: &mut [u8]) {
-    let mut i = 0;
-    while i < starts {
-        let n = replay_input::put_answer(answers, i, line);
-        console::write_output(&line[..n]);
-        i += 1;
+// A buffer full of lines at a time.
+fn write_answers(starts: usize, answers: &[u64], out: &mut [u8]) {
+    let mut next = 0;
+    while next < starts {
+        let put = replay_input::put_answers(answers, starts, next, out);
+        let bytes = put.bytes;
+        console::write_output(&out[..bytes]);
+        // a line fits, so this goes on; a proved loop has to show that it does
+        if put.next <= next {
+            return;
+        }
+        next = put.next;
     }
 }
 
-fn write_refused(number: u64, line: &mut [u8]) {
-    let n = replay_input::put_refused(number, line);
-    console::write_output(&line[..n]);
+fn write_refused(number: u64, out: &mut [u8]) {
+    let n = replay_input::put_refused(number, out);
+    console::write_output(&out[..n]);
 }
 
 // The input has ended: a line for each start, or only the refusal.
@@ -46,13 +52,13 @@ fn write_result(
     boards: &[u8],
     work: &mut [u32],
     answers: &mut [u64],
-    line: &mut [u8],
+    out: &mut [u8],
 ) {
     let stage = input.stage;
     let starts = stage.starts;
     match replay_input::end_input(input, times, boards, work, answers) {
-        ReplayAnswer::Replayed => write_answers(starts, answers, line),
-        ReplayAnswer::Refused(number) => write_refused(number, line),
+        ReplayAnswer::Replayed => write_answers(starts, answers, out),
+        ReplayAnswer::Refused(number) => write_refused(number, out),
     }
 }
 

@@ -1,5 +1,7 @@
 pub mod Starts
 pub mod Text
-pub mod Cutting
-pub mod Standing
 pub mod Carrying
+pub mod Taking
+pub mod Writing
+pub mod Running
+pub mod Program

@@ -1,85 +1,204 @@
--- REQUEST 110, the program's work between reading and writing: what its places hold of the input so far, and what the end makes of it.
+-- REQUEST 110, the program's work between reading and writing, in steps through one buffer. What stands between two steps, for any numbers
+-- in the lists, nobody needs to know: what a whole run writes is the claim `Program`.
 use mathlib.Core.Path.{_≡_}
 use mathlib.Core.Bool.{true, false}
-use mathlib.Core.List.{List, [], map}
-use Prim.Native.Nat.{ℕ, _+_, _-_, _^_, _≤_, _<_, min}
-use lib.Dec.{eqb}
-use lib.ListN.{length, take, drop}
+use mathlib.Core.List.{List, [], _∷_, _++_, map}
+use Prim.Native.Nat.{ℕ, _+_, _-_, _*_, _%_, _^_, _≤_, _<_, min}
+use lib.Dec.{ltb}
+use lib.ListN.{length, getD, take, drop}
+use lib.Seq.{sets}
 use Rattle.lists.specs.Count.{pick}
 use Rattle.lists.specs.Filled.{filled}
+use Rattle.lines.specs.Lines.{leading}
+use Rattle.text.specs.Put.{Put}
 use Rattle.readings.specs.declared.ReplayAnswer.{ReplayAnswer}
-use Rattle.readings.specs.Replay.{answersAfter, saidOf, sayingOf}
-use Rattle.readings.specs.Feeding.{takenAt, servedCount, Underway}
+use Rattle.readings.specs.declared.ReplayAnswer.the-variants.{Replayed, Refused}
+use Rattle.readings.specs.declared.pieces.Progress.{Progress}
+use Rattle.readings.specs.Replay.{saidOf}
+use Rattle.readings.specs.Feeding.{begunWork, begunAnswers, fedBy, fedAnswers, endLine, endSaid, endAnswers, joined}
+use Rattle.replay_input.specs.declared.Written.{Written}
 use Rattle.replay_input.specs.declared.steps.Stage.{Stage}
 use Rattle.replay_input.specs.declared.steps.Input.{Input}
-use Rattle.replay_input.specs.declared.steps.Took.{Took}
-use Rattle.replay_input.specs.Starts.{timeIn, boardIn}
-use Rattle.replay_input.specs.Input.{Standing, nothingRead, startsAt, stepOf, endOf}
+use Rattle.replay_input.specs.Starts.{timeIn, boardIn, room}
+use Rattle.replay_input.specs.Input.{refusedLine, outputOf}
+use Rattle.replay_input.specs.Text.{PutsAnswers}
 
--- the starts' run times and boards
-abbrev pub timesOf : Standing → List ℕ
-timesOf t = map timeIn (t .starts)
+-- ---- one step
 
-abbrev pub boardsOf : Standing → List ℕ
-boardsOf t = map boardIn (t .starts)
+-- what some bytes make of a stage and of the lists, and how many of the bytes need not come again
+pub record AfterBytes : Type 0 where
+  pub stage : Stage
+  pub used : ℕ
+  pub times : List ℕ
+  pub boards : List ℕ
+  pub work : List ℕ
+  pub answers : List ℕ
 
--- as many starts as both lists have places for
-abbrev pub mostOf : List ℕ → List ℕ → ℕ
-mostOf times boards = min (length times) (length boards)
+-- the recording goes on with the bytes s, for the first so many starts
+abbrev pub recordingTaken : ℕ → Progress → List ℕ → List ℕ → List ℕ → List ℕ → List ℕ → AfterBytes
+recordingTaken starts p s times boards work answers =
+    record {
+      stage = record { starts = starts; starting = false; progress = fedBy p s .progress };
+      used = fedBy p s .used;
+      times = times;
+      boards = boards;
+      work = work;
+      answers = fedAnswers p s (take starts times) (take starts boards) work answers;
+    }
 
--- ---- what the places hold of a standing
+-- the recording begins with the bytes s, behind so many lines
+abbrev pub recordingBegun : ℕ → ℕ → List ℕ → List ℕ → List ℕ → List ℕ → List ℕ → AfterBytes
+recordingBegun starts lines s times boards work answers =
+    recordingTaken starts (record { lines = lines; bad = 0 }) s times boards
+    (begunWork (take starts times) (take starts boards) work answers)
+    (begunAnswers (take starts times) (take starts boards) work answers)
 
-pub record StageHolds (t : Standing) (stage : Stage) (times boards work answers : List ℕ) : Type 0 where
-  pub count : stage .starts ≡ length (t .starts)
-  pub room : length (t .starts) ≤ mostOf times boards
-  pub times-are : take (length (t .starts)) times ≡ timesOf t
-  pub boards-are : take (length (t .starts)) boards ≡ boardsOf t
-  pub starting : stage .starting ≡ t .starting
-  pub lines : stage .progress .lines ≡ t .taken .lines
-  pub bad : stage .progress .bad ≡ t .taken .bad
-  -- while starts may come there is no reading, and after a bad line nothing waits
-  pub unread : t .starting ≡ true → t .taken .found ≡ []
-  pub stopped : (t .taken .bad ≡ 0 → ⊥) → t .taken .rest ≡ []
-  pub underway : t .starting ≡ false → Underway (timesOf t) (boardsOf t) work answers (t .taken .found)
+-- as many bytes more are used
+abbrev pub usedMore : ℕ → AfterBytes → AfterBytes
+usedMore n t = record { stage = t .stage; used = n + t .used; times = t .times; boards = t .boards; work = t .work; answers = t .answers }
 
--- and what waits stands at the front of the buffer
-pub record BufferHolds (t : Standing) (input : Input) (buffer times boards work answers : List ℕ) : Type 0 where
-  pub stands : StageHolds t (input .stage) times boards work answers
-  pub kept : input .kept ≡ length (t .taken .rest)
-  pub waiting : take (input .kept) buffer ≡ t .taken .rest
+-- the bytes s behind k starts more, which bring the lists to these: fewer than a start line has can still become one
+abbrev pub behindStarts : ℕ → ℕ → ℕ → List ℕ → List ℕ → List ℕ → List ℕ → List ℕ → AfterBytes
+behindStarts k starts lines s times boards work answers =
+    pick (ltb (length s) 19)
+    (record {
+      stage = record { starts = starts; starting = true; progress = record { lines = lines; bad = 0 } };
+      used = 19 * k;
+      times = times;
+      boards = boards;
+      work = work;
+      answers = answers;
+    })
+    (usedMore (19 * k) (recordingBegun starts lines s times boards work answers))
 
--- ---- the promises
+-- the start lines that the bytes begin with, as many as there are places for, stand behind those held
+abbrev pub startsTaken : List (List ℕ) → ℕ → ℕ → List ℕ → List ℕ → List ℕ → List ℕ → List ℕ → AfterBytes
+startsTaken ks held lines s times boards work answers =
+    behindStarts (length ks) (held + length ks) ((lines + length ks) % 2 ^ 64) (drop (19 * length ks) s) (sets times held (map timeIn ks))
+    (sets boards held (map boardIn ks)) work answers
 
--- at the beginning nothing has been read
-abbrev pub Fresh : Input → Type 0
-Fresh r = (buffer times boards work answers : List ℕ) → BufferHolds nothingRead r buffer times boards work answers
+-- THE BYTES s AT HAND, those that waited first, of a stage whose starts there are places for
+unfoldable pub bytesTaken : Stage → List ℕ → List ℕ → List ℕ → List ℕ → List ℕ → AfterBytes
+bytesTaken t s times boards work answers =
+    pick (t .starting)
+    (startsTaken (leading 18 (room (t .starts) times boards) s) (t .starts) (t .progress .lines) s times boards work answers)
+    (recordingTaken (t .starts) (t .progress) s times boards work answers)
 
--- ONE STEP, whose bytes stand in the buffer behind those that wait, up to `end`; as long as line numbers stay below 2 to the 64
+-- no more starts than both lists have places for
+abbrev pub fittingStage : Stage → List ℕ → List ℕ → Stage
+fittingStage t times boards =
+    record { starts = min (t .starts) (min (length times) (length boards)); starting = t .starting; progress = t .progress }
+
+-- one step, whose bytes stand in the buffer behind those that wait, up to `end`
+abbrev pub stepTaken : List ℕ → ℕ → Input → List ℕ → List ℕ → List ℕ → List ℕ → AfterBytes
+stepTaken buffer end input times boards work answers =
+    bytesTaken (fittingStage (input .stage) times boards) (take (min end (length buffer)) buffer) times boards work answers
+
+-- what was not used comes to the front
+abbrev pub broughtForward : List ℕ → ℕ → ℕ → List ℕ
+broughtForward buffer used end = take (end - used) (drop used buffer) ++ drop (end - used) buffer
+
 pub record Steps (buffer : List ℕ) (end : ℕ) (input : Input) (times boards work answers : List ℕ) (r : Input)
     (buffer′ times′ boards′ work′ answers′ : List ℕ) : Type 0 where
-  pub within : r .kept ≤ length buffer
-  pub holds : (t : Standing) → BufferHolds t input buffer times boards work answers → input .kept ≤ end → end ≤ length buffer
-      → stepOf (mostOf times boards) t (take (end - input .kept) (drop (input .kept) buffer)) .taken .lines + 1 < 2 ^ 64
-      → BufferHolds (stepOf (mostOf times boards) t (take (end - input .kept) (drop (input .kept) buffer))) r buffer′ times′ boards′ work′ answers′
+  pub says : r
+      ≡ record {
+        stage = stepTaken buffer end input times boards work answers .stage;
+        kept = min end (length buffer) - stepTaken buffer end input times boards work answers .used;
+      }
+  pub buffered : buffer′ ≡ broughtForward buffer (stepTaken buffer end input times boards work answers .used) (min end (length buffer))
+  pub timed : times′ ≡ stepTaken buffer end input times boards work answers .times
+  pub boarded : boards′ ≡ stepTaken buffer end input times boards work answers .boards
+  pub working : work′ ≡ stepTaken buffer end input times boards work answers .work
+  pub given : answers′ ≡ stepTaken buffer end input times boards work answers .answers
 
--- THE END: the answers for the starts, and what is said
+-- at the beginning nothing has been read
+abbrev pub nothingRead : Input
+nothingRead = record { stage = record { starts = 0; starting = true; progress = record { lines = 0; bad = 0 } }; kept = 0 }
+
+-- ---- the end: where more starts could still come the recording is empty
+
+abbrev pub endWork : Stage → List ℕ → List ℕ → List ℕ → List ℕ → List ℕ
+endWork t times boards work answers = pick (t .starting) (begunWork (take (t .starts) times) (take (t .starts) boards) work answers) work
+
+abbrev pub endBegun : Stage → List ℕ → List ℕ → List ℕ → List ℕ → List ℕ
+endBegun t times boards work answers = pick (t .starting) (begunAnswers (take (t .starts) times) (take (t .starts) boards) work answers) answers
+
+abbrev pub stageEnded : Stage → ℕ → List ℕ → List ℕ → List ℕ → List ℕ → List ℕ
+stageEnded t kept times boards work answers =
+    endAnswers (t .progress) kept (take (t .starts) times) (take (t .starts) boards) (endWork t times boards work answers)
+    (endBegun t times boards work answers)
+
 pub record Ends (input : Input) (times boards work answers : List ℕ) (r : ReplayAnswer) (work′ answers′ : List ℕ) : Type 0 where
-  pub given : (t : Standing) → StageHolds t (input .stage) times boards work answers → input .kept ≡ length (t .taken .rest) → t .taken .lines + 1 < 2 ^ 64
-      → answers′ ≡ answersAfter (endOf t .recording) (timesOf t) (boardsOf t) (servedCount (timesOf t) (boardsOf t) work answers) answers
-  pub says : (t : Standing) → StageHolds t (input .stage) times boards work answers → input .kept ≡ length (t .taken .rest) → t .taken .lines + 1 < 2 ^ 64
-      → saidOf r ≡ sayingOf (endOf t .recording)
+  pub says : saidOf r ≡ endSaid (input .stage .progress) (input .kept)
+  pub given : answers′ ≡ stageEnded (fittingStage (input .stage) times boards) (input .kept) times boards work answers
   pub working : work′ ≡ filled (length work)
 
--- ---- inside a step
+-- ---- a whole run
 
--- the bytes s at hand, those that waited first
-abbrev pub atHand : ℕ → Standing → List ℕ → Standing
-atHand most t s =
-    pick (t .starting) (startsAt most t s)
-    (record { starts = t .starts; starting = false; taken = pick (eqb (t .taken .bad) 0) (takenAt (t .taken) s) (t .taken) })
+-- the program's lists
+pub record Lists : Type 0 where
+  pub buffer : List ℕ
+  pub times : List ℕ
+  pub boards : List ℕ
+  pub work : List ℕ
+  pub answers : List ℕ
 
-pub record TakesBytes (s : List ℕ) (stage : Stage) (times boards work answers : List ℕ) (r : Took) (times′ boards′ work′ answers′ : List ℕ) : Type 0 where
-  pub used : r .used ≤ length s
-  pub holds : (t : Standing) → StageHolds t stage times boards work answers → atHand (mostOf times boards) t s .taken .lines + 1 < 2 ^ 64
-      → StageHolds (atHand (mostOf times boards) t s) (r .stage) times′ boards′ work′ answers′
-      × (drop (r .used) s ≡ atHand (mostOf times boards) t s .taken .rest)
+-- room for so many starts
+pub record HasRoom (most : ℕ) (l : Lists) : Type 0 where
+  pub timed : length (l .times) ≡ most
+  pub boarded : length (l .boards) ≡ most
+  pub working : length (l .work) ≡ most
+  pub given : length (l .answers) ≡ 4 * most
+
+-- a piece has been read into the buffer, behind the bytes that wait
+pub record PieceRead (kept : ℕ) (piece buffer buffer′ : List ℕ) : Type 0 where
+  pub some : 0 < length piece
+  pub fits : kept + length piece ≤ length buffer
+  pub long : length buffer′ ≡ length buffer
+  pub reads : take (kept + length piece) buffer′ ≡ take kept buffer ++ piece
+
+-- the pieces are read and taken one after another
+unfoldable pub TakesAll : Input → Lists → List (List ℕ) → Input → Lists → Type 0
+TakesAll input l [] input′ l′ = (input′ ≡ input) × (l′ ≡ l)
+TakesAll input l (piece ∷ pieces) input′ l′ =
+    (read : List ℕ) × (next : Input) × (m : Lists) × PieceRead (input .kept) piece (l .buffer) read
+    × Steps read (input .kept + length piece) input (l .times) (l .boards) (l .work) (l .answers) next (m .buffer) (m .times) (m .boards) (m .work)
+    (m .answers)
+    × TakesAll next m pieces input′ l′
+
+-- the answers from answer k on are put into a buffer and written, as often as it takes: what the buffer holds after each time
+unfoldable pub WritesFrom : List ℕ → ℕ → ℕ → List ℕ → List (List ℕ) → List ℕ → Type 0
+WritesFrom answers starts k buffer [] output = (starts ≤ k) × (output ≡ [])
+WritesFrom answers starts k buffer (after ∷ afters) output =
+    (r : Written) × (more : List ℕ) × (k < starts) × PutsAnswers answers starts k buffer r after × (output ≡ take (r .bytes) after ++ more)
+    × WritesFrom answers starts (r .next) after afters more
+
+-- a line for each start, or only the refusal
+abbrev pub WritesResult : ReplayAnswer → ℕ → List ℕ → List ℕ → List (List ℕ) → List ℕ → Type 0
+WritesResult Replayed starts answers buffer afters output = WritesFrom answers starts 0 buffer afters output
+WritesResult (Refused line) starts answers buffer afters output =
+    (n : ℕ) × (after : List ℕ) × Put buffer 0 (refusedLine line) n after × (output ≡ take n after)
+
+-- the program: the input in pieces, and what it writes
+pub record ProgramRuns (l : Lists) (pieces : List (List ℕ)) (output : List ℕ) : Type 0 where
+  pub last : Input
+  pub held : Lists
+  pub takes : TakesAll nothingRead l pieces last held
+  pub answer : ReplayAnswer
+  pub working : List ℕ
+  pub given : List ℕ
+  pub ends : Ends last (held .times) (held .boards) (held .work) (held .answers) answer working given
+  pub afters : List (List ℕ)
+  pub writes : WritesResult answer (last .stage .starts) given (held .buffer) afters output
+
+pub record Program : Type 0 where
+  -- HOWEVER THE INPUT IS CUT into pieces of at least one byte that fit the buffer, the program writes `outputOf` the whole of it
+  pub output : (most : ℕ) (l : Lists) (pieces : List (List ℕ)) (output : List ℕ)
+      → HasRoom most l
+      → most < 2 ^ 32
+      → 32 ≤ length (l .buffer)
+      → length (joined pieces) < 2 ^ 64
+      → ProgramRuns l pieces output
+      → output ≡ outputOf most (joined pieces)
+  -- there is always room to read: fewer than 23 bytes wait
+  pub waiting : (l : Lists) (pieces : List (List ℕ)) (last : Input) (held : Lists) → TakesAll nothingRead l pieces last held → last .kept < 23

@@ -1,12 +1,13 @@
 // The program's input in steps: the starts, and then the recording. What is left of a line waits at the front of the buffer.
 ghost use mathlib.Core.Path.{_≡_};
-ghost use mathlib.Core.Bool.{true, false};
-ghost use mathlib.Core.List.{_++_};
+ghost use mathlib.Core.Bool.{true};
 ghost use Prim.Native.Nat.{_-_, _≤_, min};
-ghost use lib.ListN.{length, take, drop};
-ghost use Rattle.readings.specs.Feeding.{Feeds, Finishes};
-ghost use Rattle.replay_input.specs.Program.{Fresh, Steps, Ends, TakesBytes};
-ghost use Rattle.replay_input.specs.Private.{StartsFit, RecordingBegins, EndsUnread};
+ghost use lib.ListN.{length, take};
+ghost use Rattle.readings.specs.Feeding.{begunWork, begunAnswers, Feeds, Finishes};
+ghost use Rattle.lines.specs.Lines.{leading};
+ghost use Rattle.replay_input.specs.Starts.{room};
+ghost use Rattle.replay_input.specs.Program.{nothingRead, recordingTaken, recordingBegun, startsTaken, bytesTaken, broughtForward, Steps, Ends};
+ghost use Rattle.replay_input.specs.Private.{StartsFit, RecordingBegins, TakesBytes};
 use crate::START_BYTES;
 use crate::least;
 use crate::take_starts;
@@ -35,7 +36,7 @@ pub struct Took {
 
 // Before the first step.
 pub fn begin_input() -> Input
-    ensures { λ r. ⌜ Fresh r ⌝ }
+    ensures { λ r. ⌜ r ≡ nothingRead ⌝ }
 {
     Input {
         stage: Stage {
@@ -77,7 +78,8 @@ fn begin_recording(
 ) -> Fed
     requires { ⌜ StartsFit starts (now times) (now boards) ⌝ }
     ensures { λ r.
-        ⌜ RecordingBegins (now (bytes .entry)) lines (take starts (now (times .entry))) (take starts (now (boards .entry))) r
+        ⌜ RecordingBegins
+        (recordingBegun starts lines (now (bytes .entry)) (now (times .entry)) (now (boards .entry)) (now (work .entry)) (now (answers .entry))) r
         (now (work .exit)) (now (answers .exit)) ⌝ }
 {
     readings::begin(&times[..starts], &boards[..starts], work, answers);
@@ -115,10 +117,12 @@ fn take_starting(
     work: &mut [u32],
     answers: &mut [u64],
 ) -> Took
-    requires { ⌜ StartsFit (stage .starts) (now times) (now boards) × (stage .starting ≡ true) ⌝ }
+    requires { ⌜ StartsFit (stage .starts) (now times) (now boards) ⌝ }
     ensures { λ r.
-        ⌜ TakesBytes (now (bytes .entry)) stage (now (times .entry)) (now (boards .entry)) (now (work .entry)) (now (answers .entry)) r
-        (now (times .exit)) (now (boards .exit)) (now (work .exit)) (now (answers .exit)) ⌝ }
+        ⌜ TakesBytes
+        (startsTaken (leading 18 (room (stage .starts) (now (times .entry)) (now (boards .entry))) (now (bytes .entry))) (stage .starts)
+        (stage .progress .lines) (now (bytes .entry)) (now (times .entry)) (now (boards .entry)) (now (work .entry)) (now (answers .entry)))
+        r (now (times .exit)) (now (boards .exit)) (now (work .exit)) (now (answers .exit)) ⌝ }
 {
     let held = stage.starts;
     let k = take_starts(bytes, held, times, boards);
@@ -150,10 +154,12 @@ fn take_recording(
     work: &[u32],
     answers: &mut [u64],
 ) -> Took
-    requires { ⌜ StartsFit (stage .starts) (now times) (now boards) × (stage .starting ≡ false) ⌝ }
+    requires { ⌜ StartsFit (stage .starts) (now times) (now boards) ⌝ }
     ensures { λ r.
-        ⌜ TakesBytes (now (bytes .entry)) stage (now (times .entry)) (now (boards .entry)) (now (work .entry)) (now (answers .entry)) r
-        (now (times .entry)) (now (boards .entry)) (now (work .entry)) (now (answers .exit)) ⌝ }
+        ⌜ TakesBytes
+        (recordingTaken (stage .starts) (stage .progress) (now (bytes .entry)) (now (times .entry)) (now (boards .entry)) (now (work .entry))
+        (now (answers .entry)))
+        r (now (times .entry)) (now (boards .entry)) (now (work .entry)) (now (answers .exit)) ⌝ }
 {
     let starts = stage.starts;
     let before = stage.progress;
@@ -180,7 +186,8 @@ fn take_bytes(
 ) -> Took
     requires { ⌜ StartsFit (stage .starts) (now times) (now boards) ⌝ }
     ensures { λ r.
-        ⌜ TakesBytes (now (bytes .entry)) stage (now (times .entry)) (now (boards .entry)) (now (work .entry)) (now (answers .entry)) r
+        ⌜ TakesBytes
+        (bytesTaken stage (now (bytes .entry)) (now (times .entry)) (now (boards .entry)) (now (work .entry)) (now (answers .entry))) r
         (now (times .exit)) (now (boards .exit)) (now (work .exit)) (now (answers .exit)) ⌝ }
 {
     if stage.starting {
@@ -192,8 +199,7 @@ fn take_bytes(
 // What was not used comes to the front: how many bytes that is.
 fn carry_over(buffer: &mut [u8], used: usize, end: usize) -> usize
     requires { ⌜ (used ≤ end) × (end ≤ length (now buffer)) ⌝ }
-    ensures { λ r.
-        ⌜ (r ≡ end - used) × (now (buffer .exit) ≡ take (end - used) (drop used (now (buffer .entry))) ++ drop (end - used) (now (buffer .entry))) ⌝ }
+    ensures { λ r. ⌜ (r ≡ end - used) × (now (buffer .exit) ≡ broughtForward (now (buffer .entry)) used end) ⌝ }
 {
     let rest = end - used;
     let mut k = 0;
@@ -255,7 +261,9 @@ fn end_starting(
 ) -> ReplayAnswer
     requires { ⌜ StartsFit starts (now times) (now boards) ⌝ }
     ensures { λ r.
-        ⌜ EndsUnread p kept (take starts (now (times .entry))) (take starts (now (boards .entry))) (now (work .entry)) (now (answers .entry)) r
+        ⌜ Finishes p kept (take starts (now (times .entry))) (take starts (now (boards .entry)))
+        (begunWork (take starts (now (times .entry))) (take starts (now (boards .entry))) (now (work .entry)) (now (answers .entry)))
+        (begunAnswers (take starts (now (times .entry))) (take starts (now (boards .entry))) (now (work .entry)) (now (answers .entry))) r
         (now (work .exit)) (now (answers .exit)) ⌝ }
 {
     readings::begin(&times[..starts], &boards[..starts], work, answers);

@@ -1,10 +1,11 @@
 -- What waits lies in the buffer, and no list changes its length.
-use mathlib.Core.Path.{_≡_, refl, _∙_}
-use mathlib.Core.List.{[]}
+use mathlib.Core.Path.{_≡_, refl, ap, _∙_}
 use Prim.Native.Nat.{_-_, _≤_}
 use native.Mathlib.Omega.{arith}
 use lib.ListN.{length, drop, length-take, length-drop}
 use borrow.Rule.Slice.PartMut.{same-len-mid}
+use Rattle.replay_input.specs.declared.steps.Input.{Input}
+use Rattle.replay_input.proofs.Taking.{step-within}
 use borrow.Author.Needs.{needs}
 use Rattle.replay.proofs.take_input.Statement.{statement}
 use Rattle.replay.proofs.take_input.Tie as tie
@@ -18,7 +19,7 @@ abbrev μ-loop : tie.MeasureT-loop
 μ-loop buffer₀ times₀ boards₀ work₀ answers₀ input₀ turns₀ buffer times boards work answers input turns = turns
 
 loop-holds : tie.Need-loop-holds Inv-loop μ-loop
-loop-holds c = (refl, refl, refl, refl, refl, omega (arith, c .begin-input .ensures [] [] [] [] [] .kept))
+loop-holds c = (refl, refl, refl, refl, refl, omega (arith, ap (λ (x : Input). x .kept) (c .begin-input .ensures)))
 
 sub-read-input : tie.Need-sub-read-input Inv-loop μ-loop
 sub-read-input c = omega (arith, c .before .loop .inv .0, c .before .loop .inv .5)
@@ -51,6 +52,9 @@ add-take-step c = let c₁ = c .before .before .before .before .before .before .
     let r = c .before .before .before .before .read-input in
     let g = c₁ .before .before .before .before .before .before .good in
     omega (arith, r .ensures, r .kept .0, i .inv .0, i .inv .5, length-take (length b - k) (drop k b), length-drop k b, g)
+
+loop-again : tie.Need-loop-again Inv-loop μ-loop
+loop-again c = let w = step-within _ _ _ _ _ _ _ _ _ _ _ _ _ (c .before .before .before .before .before .before .before .before .before .before .take-step .ensures) in search needs
 
 same-length-6 : tie.Need-same-length-6 Inv-loop μ-loop
 same-length-6 c = c .before .loop .inv .0
@@ -89,7 +93,7 @@ take-input-spec =
     (λ c κs. search needs)
     (λ c. search needs)
     (λ c. search needs)
-    (λ c. search needs)
+    loop-again
     same-length-6
     same-length-7
     same-length-8

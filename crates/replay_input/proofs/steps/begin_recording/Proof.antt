@@ -1,7 +1,7 @@
 -- The starts are put in order, and the frames placed.
 use mathlib.Core.Path.{sym}
 use lib.Seq.{length-take-le}
-use Rattle.replay_input.proofs.Standing.{recording-begins}
+use Rattle.replay_input.proofs.Taking.{recording-begins}
 use borrow.Author.Needs.{needs}
 use Rattle.replay_input.proofs.steps.begin_recording.Statement.{statement}
 use Rattle.replay_input.proofs.steps.begin_recording.Tie as tie
@@ -13,7 +13,7 @@ slice-aggregate-begin-2 : tie.Need-slice-aggregate-begin-2
 slice-aggregate-begin-2 c = sym (length-take-le _ _ (c .before .before .before .before .before .before .before .pre .boarded))
 
 returns : tie.Need-returns
-returns c = recording-begins _ _ _ _ _ _ _ _ _ _ _ (c .before .before .before .before .before .before .before .before .before .begin .ensures)
+returns c = recording-begins _ _ _ _ _ _ _ _ _ _ _ _ (c .before .before .before .before .before .before .before .before .before .begin .ensures)
     (c .before .before .take-frames .ensures)
 
 pub begin-recording-spec : {M : Type 1} → statement M

@@ -1,5 +1,5 @@
 -- With a recording or without.
-use Rattle.replay_input.proofs.Standing.{fitting-fits, ends-recording, ends-starting}
+use Rattle.replay_input.proofs.Taking.{fitting-fits, ends-recording, ends-starting}
 use borrow.Author.Needs.{needs}
 use Rattle.replay_input.proofs.steps.end_input.Statement.{statement}
 use Rattle.replay_input.proofs.steps.end_input.Tie as tie
@@ -12,6 +12,7 @@ returns c = let s = c .before .before .before .before .before .before .before .b
     ends-starting (s .input) _ (s .times .now) (s .boards .now) (s .work .now) (s .answers .now) _ _ _
     (c .before .before .before .before .before .before .before .before .before .fitting .ensures)
     (c .before .before .before .before .before .before .before .if1 .taken) (c .before .before .before .before .end-starting .ensures)
+    (c .before .before .before .before .end-starting .kept .1 .1 .1 .1 .1 .0)
 
 end-recording-requires : tie.Need-end-recording-requires
 end-recording-requires c κs = fitting-fits _ _ _ _ (c .before .before .before .before .fitting .ensures)

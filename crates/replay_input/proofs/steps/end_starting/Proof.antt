@@ -1,7 +1,7 @@
 -- A recording without a line.
 use mathlib.Core.Path.{sym}
 use lib.Seq.{length-take-le}
-use Rattle.replay_input.proofs.Standing.{ends-unread}
+use Rattle.replay_input.proofs.Taking.{ends-begun}
 use borrow.Author.Needs.{needs}
 use Rattle.replay_input.proofs.steps.end_starting.Statement.{statement}
 use Rattle.replay_input.proofs.steps.end_starting.Tie as tie
@@ -14,7 +14,7 @@ slice-aggregate-begin-2 c = sym (length-take-le _ _ (c .before .before .before .
 
 returns : tie.Need-returns
 returns c = let b = c .before .before .before .before .before .before .before .before .before .before .before .begin in
-    ends-unread _ _ _ _ _ _ _ _ _ _ _ _ (b .ensures) (c .before .before .before .before .end-recording .ensures) (b .kept .1 .1 .0) (b .kept .1 .1 .1 .0)
+    ends-begun _ _ _ _ _ _ _ _ _ _ _ _ (b .ensures) (c .before .before .before .before .end-recording .ensures)
 
 pub end-starting-spec : {M : Type 1} → statement M
 end-starting-spec =

@@ -3,7 +3,7 @@ use mathlib.Core.Path.{_≡_, sym}
 use native.Mathlib.Omega.{arith}
 use lib.ListN.{length, take}
 use lib.Seq.{length-take-le}
-use Rattle.replay_input.proofs.Standing.{fitting-fits, step-holds}
+use Rattle.replay_input.proofs.Taking.{fitting-fits, bytes-used, step-takes}
 use borrow.Author.Needs.{needs}
 use Rattle.replay_input.proofs.steps.take_step.Statement.{statement}
 use Rattle.replay_input.proofs.steps.take_step.Tie as tie
@@ -20,7 +20,9 @@ carry-over-requires c κs = let c₁ = c .before .before .before .before .before
     let c₃ = c₂ .before .before .before .before .before .before .before .before in
     let n = c₂ .before .before .least in
     let e : length (take (n .result) (c₃ .args .buffer .now)) ≡ n .result = length-take-le _ _ (omega (arith, n .ensures)) in
-    (omega (arith, c₁ .before .before .take-bytes .ensures .used), omega (arith, n .ensures))
+    let s = c₃ .args in
+    let u = bytes-used (c₂ .fitting .result) (take (n .result) (s .buffer .now)) (s .times .now) (s .boards .now) (s .work .now) (s .answers .now) in
+    (omega (arith, c₁ .before .before .take-bytes .ensures .used, u .0), omega (arith, n .ensures))
 
 returns : tie.Need-returns
 returns c = let c₁ = c .before .before .before .before .before .before .before .before in
@@ -28,7 +30,7 @@ returns c = let c₁ = c .before .before .before .before .before .before .before
     let c₃ = c₂ .before .before .before .before .before .before .before .before in
     let s = c₃ .before .before .before .args in
     let o = c .before .before .carry-over .ensures in
-    step-holds (s .buffer .now) (s .end) (s .input) (s .times .now) (s .boards .now) (s .work .now) (s .answers .now) _ _ _ _ _ _ _ _ _
+    step-takes (s .buffer .now) (s .end) (s .input) (s .times .now) (s .boards .now) (s .work .now) (s .answers .now) _ _ _ _ _ _ _ _ _
     (c₂ .before .before .before .before .before .least .ensures) (c₂ .before .before .before .fitting .ensures)
     (c₁ .before .before .before .before .before .take-bytes .ensures) (o .0) (o .1)
 
