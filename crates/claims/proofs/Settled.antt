@@ -193,6 +193,7 @@ settled =
       query-program-name = λ bytes. part bytes _ _;
       query-entry-name = λ bytes i. part bytes _ _;
       query-volume-path = λ bytes i. part bytes _ _;
+      query-path-in = λ bytes o i. part bytes _ _;
       query-directories = λ bytes i held. pairs _ held;
       query-references = λ bytes i held. pairs _ held;
       path-search-list-paths = λ bytes held. pairs _ held;

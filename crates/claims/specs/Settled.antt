@@ -23,7 +23,8 @@ use Rattle.trace.specs.Links.{LinkAnswer}
 use Rattle.volumes.specs.Volumes.{volumeChecks, volumesChecks}
 use Rattle.reader.specs.Checks.{ReadsPrefix, ReadsFile, ReadsOpened}
 use Rattle.query.specs.Queries.{ShownAt, placesNeeded, placesSaid, placeOf, placeSaid, programPlace, entryPlace}
-use Rattle.query.specs.Queries.{volumeAsked, volumeValues, volumeSaid, referenceAsked, referenceSaid}
+use Rattle.head.specs.declared.checks.Opening.{Opening}
+use Rattle.query.specs.Queries.{pathPlace, volumeAsked, volumeValues, volumeSaid, referenceAsked, referenceSaid}
 use Rattle.query.specs.Contents.{ListsDirectories, ListsReferences, entryReferenceAsked, entryReferenceSaid}
 use Rattle.query.specs.Cost.{costAsked, costSaid}
 use Rattle.path_search.specs.Search.{pathFound, pathSaid, ListsPaths}
@@ -95,6 +96,7 @@ pub record Settled : Type 0 where
   pub query-program-name : (file : RefT (List ℕ)) → SettlesPart (ShownAt file (placeOf (programPlace (now file))))
   pub query-entry-name : (file : RefT (List ℕ)) (i : ℕ) → SettlesPart (ShownAt file (placeOf (entryPlace (now file) i)))
   pub query-volume-path : (file : RefT (List ℕ)) (i : ℕ) → SettlesPart (ShownAt file (volumeValues (volumeAsked (now file) i) .path))
+  pub query-path-in : (file : RefT (List ℕ)) (o : Opening) (i : ℕ) → SettlesPart (ShownAt file (pathPlace o (now file) i))
   pub query-directories : (file : List ℕ) (i : ℕ) (pairs : List ℕ) → Settles₁ (ListsDirectories file i pairs)
   pub query-references : (file : List ℕ) (i : ℕ) (pairs : List ℕ) → Settles₁ (ListsReferences file i pairs)
   pub path-search-list-paths : (file pairs : List ℕ) → Settles₁ (ListsPaths file pairs)

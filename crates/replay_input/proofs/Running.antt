@@ -3,11 +3,11 @@
 use mathlib.Core.Path.{_≡_, refl, sym, ap, subst, _∙_}
 use mathlib.Core.Bool.{Bool, true, false}
 use mathlib.Core.List.{List, [], _∷_, _++_, map, append-assoc, append-nil}
-use Prim.Native.Nat.{ℕ, zero, suc, _+_, _*_, _-_, _/_, _%_, _^_, _≤_, _<_, min}
+use Prim.Native.Nat.{ℕ, zero, suc, _+_, _*_, _-_, _%_, _^_, _≤_, _<_, min}
 use native.Mathlib.Omega.{arith}
 use lib.Dec.{ltb}
 use lib.ListN.{length, getD, take, drop, length-append, length-drop, length-map}
-use lib.Seq.{sets, length-sets, sets-eq, take-at, take-all, drop-drop, drop-append-le, length-take-le}
+use lib.Seq.{sets, length-sets, sets-eq, take-at, drop-drop, drop-append-le, length-take-le}
 use borrow.Author.Tests.{ltb-true, ltb-false}
 use Rattle.lists.specs.Count.{pick}
 use Rattle.lists.specs.Table.{tabulate}
@@ -21,12 +21,12 @@ use Rattle.readings.specs.declared.ReplayAnswer.{ReplayAnswer}
 use Rattle.readings.specs.Recording.{Recorded, recordedFrom}
 use Rattle.readings.specs.Replay.{placeOf, answerCount, saidOf, sayingOf}
 use Rattle.readings.specs.Feeding.{servedCount, begunWork, begunAnswers, fedBy, fedAnswers, Finishes, Midway, FeedsAll, joined}
-use Rattle.readings.proofs.Runs.{Ended, runs-from}
+use Rattle.readings.proofs.Runs.{runs-from}
 use Rattle.replay_input.specs.declared.steps.Stage.{Stage}
 use Rattle.replay_input.specs.declared.steps.Input.{Input}
 use Rattle.replay_input.specs.Starts.{timeIn, boardIn, room}
 use Rattle.replay_input.specs.Input.{InputRead}
-use Rattle.replay_input.specs.Program.{AfterBytes, recordingTaken, recordingBegun, usedMore, startsTaken, bytesTaken, fittingStage, stepTaken, broughtForward, stageEnded, Steps, Ends, Lists, HasRoom, PieceRead, TakesAll}
+use Rattle.replay_input.specs.Program.{AfterBytes, recordingBegun, usedMore, startsTaken, bytesTaken, fittingStage, stepTaken, broughtForward, stageEnded, Steps, Ends, Lists, HasRoom, PieceRead, TakesAll}
 use Rattle.replay_input.specs.Private.{StartsFit}
 use Rattle.replay_input.proofs.Taking.{bytes-used, bytes-starting, bytes-recording}
 
