@@ -40,13 +40,13 @@ pub(crate) fn two(number: u32, a: u64, b: u64) -> Reply
 }
 
 // A reply with three.
-pub(crate) fn three(number: u32, a: u64, b: u64, c: u64) -> Reply
-    ensures { λ r. ⌜ saidBy r ≡ saying number (a ∷ b ∷ c ∷ []) ⌝ }
+pub(crate) fn three(number: u32, x: u64, y: u64, z: u64) -> Reply
+    ensures { λ r. ⌜ saidBy r ≡ saying number (x ∷ y ∷ z ∷ []) ⌝ }
 {
     let mut values = [0; 22];
-    values[0] = a;
-    values[1] = b;
-    values[2] = c;
+    values[0] = x;
+    values[1] = y;
+    values[2] = z;
     Reply {
         number: number,
         count: 3,
