@@ -1,23 +1,23 @@
 -- What an accepted file lists and costs: each step over a sound volume goes on, so every pair is there; intervals that share no byte fit.
 use mathlib.Core.Path.{_≡_, refl, sym, ap, _∙_}
 use mathlib.Core.Bool.{Bool, true, false}
-use mathlib.Core.List.{List, [], _∷_}
+use mathlib.Core.List.{List, _∷_}
 use mathlib.Core.Logic.{_⊎_, inl, inr}
 use Prim.Native.Nat.{ℕ, zero, suc, _+_, _*_, _/_, _≤_, _<_, min}
 use native.Mathlib.Nat.{le-trans, add-zero, zero-add}
 use native.Mathlib.Omega.{arith}
 use borrow.Author.Tests.{ltb-true, ltb-false}
 use lib.Dec.{ltb}
-use lib.ListN.{length, getD, take, drop, length-take, List·getD-append}
+use lib.ListN.{length, getD, take, length-take, List·getD-append}
 use lib.Seq.{getD-take}
-use Rattle.lists.specs.Count.{pick, sumBelow}
+use Rattle.lists.specs.Count.{pick}
 use Rattle.lists.specs.Pairs.{pairsIn, PairsListed}
 use Rattle.lists.proofs.Sum.{sum-less, intervals-fit}
 use Rattle.little_endian.specs.Number.{le}
 use Rattle.layout.specs.Versions.{metricsEntry, volumeEntry}
 use Rattle.sections.specs.Fields.{part}
 use Rattle.head.specs.declared.checks.Opening.{Opening}
-use Rattle.names.specs.Names.{fits, nameAt, nameUnits}
+use Rattle.names.specs.Names.{nameAt, nameUnits}
 use Rattle.volumes.specs.Volumes.{entryAt, directoriesAt, directoryCount, referenceCount, referenceOf, volumeOf}
 use Rattle.volumes.specs.SoundVolume.{SoundDirectory, directoryAt}
 use Rattle.volumes.proofs.SoundVolume.{is-step}
