@@ -159,7 +159,10 @@ pub extern "C" fn hs_entry_reference(file: &[u8], i: u64, out: &mut [u64]) -> u3
     ensures { λ r.
         ⌜ Answered (entryReferenceSaid (entryReferenceAsked (now (file .entry)) i)) r (now (out .entry)) (now (out .exit)) ⌝ }
 {
-    put_reply(entry_reference_reply(query::entry_reference(file, i as usize)), out)
+    put_reply(
+        entry_reference_reply(query::entry_reference(file, i as usize)),
+        out,
+    )
 }
 
 fn cost_reply(answer: CostAnswer) -> Reply

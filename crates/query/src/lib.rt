@@ -5,14 +5,15 @@ ghost use Rattle.head.specs.Opened.{OpenFacts};
 ghost use Rattle.query.specs.Queries.{placeSaid, placeOf, ShownAt, programPlace, entryPlace, volumeAsked, volumeSaid, volumeValues};
 ghost use Rattle.query.specs.Queries.{referenceAsked, referenceSaid, placesNeeded, placesSaid};
 ghost use Rattle.query.specs.Private.{nameShown, entryIn, sectionShown, volumeIn, referenceIn};
+
 mod contents;
 mod costs;
 
 pub use contents::directories;
 pub use contents::entry_reference;
 pub use contents::references;
-pub use costs::FileCost;
 pub use costs::CostAnswer;
+pub use costs::FileCost;
 pub use costs::cost;
 use head::OpenAnswer;
 use head::Opening;
