@@ -37,7 +37,8 @@ use Rattle.claims.proofs.EveryName.{opened, volumes-there, volume-is-sh
 -- ---- pair k of what is listed
 laid-there : (all before : List ℕ) (k j : ℕ) → 2 * k + 1 < length before → 2 * k + 1 < length all → j ≤ 2 * k + 1 → getD (pairsIn all before) j 0 ≡ getD all j 0
 laid-there all before k j l m h =
-    List·getD-append (take (2 * (length before / 2)) all) _ 0 j (omega (arith, length-take (2 * (length before / 2)) all))
+    List·getD-append (take (2 * (length before / 2)) all) (drop (min (2 * (length before / 2)) (length all)) before) 0 j
+    (omega (arith, length-take (2 * (length before / 2)) all))
     ∙ getD-take (2 * (length before / 2)) all j 0 (omega arith)
 
 listed-pair : {all before after : List ℕ} {r : ℕ} (k x y : ℕ) → PairsListed all before r after → 2 * k + 1 < length before → k < r → PairIs all k x y

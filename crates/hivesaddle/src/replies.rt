@@ -40,13 +40,13 @@ pub(crate) fn two(number: u32, a: u64, b: u64) -> Reply
 }
 
 // A reply with three.
-pub(crate) fn three(number: u32, x: u64, y: u64, z: u64) -> Reply
-    ensures { λ r. ⌜ saidBy r ≡ saying number (x ∷ y ∷ z ∷ []) ⌝ }
+pub(crate) fn three(number: u32, first: u64, second: u64, third: u64) -> Reply
+    ensures { λ r. ⌜ saidBy r ≡ saying number (first ∷ second ∷ third ∷ []) ⌝ }
 {
     let mut values = [0; 22];
-    values[0] = x;
-    values[1] = y;
-    values[2] = z;
+    values[0] = first;
+    values[1] = second;
+    values[2] = third;
     Reply {
         number: number,
         count: 3,

@@ -139,7 +139,8 @@ section-low o p i {b} f eb e =
     omega (arith, part-there s p, z, f .volumes, f .start .most)
 
 -- ---- the file reference of a metrics entry
-pub reference-none : (l : Layout) (metrics : List ℕ) (i : ℕ) → fileReferenceAt l ≡ 0 → record { known = 0; index = 0; sequence = 0 } ≡ fileReferenceOf l metrics i
+pub reference-none : (l : Layout) (metrics : List ℕ) (i : ℕ) → fileReferenceAt l ≡ 0
+    → record { known = 0; index = 0; sequence = 0 } ≡ fileReferenceOf l metrics i
 unfolding fileReferenceOf
 reference-none l metrics i h = rw (eq-eqb (fileReferenceAt l) 0 h)
 

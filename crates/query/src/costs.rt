@@ -82,8 +82,18 @@ fn cost_in(file: &[u8], o: Opening) -> FileCost
     let listed = h.volumes;
     let section = sections::part_of(file, listed);
     FileCost {
-        names: names_cost(metrics, l, h.strings.len, whole_entries(metrics, l.metrics_entry, entries.count)),
-        directories: directories_cost(section, l, listed.len, whole_entries(section, l.volume_entry, listed.count)),
+        names: names_cost(
+            metrics,
+            l,
+            h.strings.len,
+            whole_entries(metrics, l.metrics_entry, entries.count),
+        ),
+        directories: directories_cost(
+            section,
+            l,
+            listed.len,
+            whole_entries(section, l.volume_entry, listed.count),
+        ),
     }
 }
 

@@ -14,7 +14,9 @@ cast-file-reference c =
     omega (arith, start .good .1 .0)
 
 file-reference-requires : tie.Need-file-reference-requires
-file-reference-requires c κs = open-sound _ (c .before .before .before .before .before .before .before .before .args .o) (c .before .before .before .before .before .before .before .before .pre)
+file-reference-requires c κs =
+    let start = c .before .before .before .before .before .before .before .before in
+    open-sound _ (start .args .o) (start .pre)
 
 returns : tie.Need-returns
 returns c = search contents
