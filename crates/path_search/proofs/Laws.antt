@@ -6,7 +6,7 @@ use mathlib.Core.List.{List, [], _++_}
 use Prim.Native.Nat.{ℕ, _+_, _-_, _*_, _%_, _^_, _≤_, _<_}
 use native.Mathlib.Nat.{le-refl, le-trans, le-div-iff-mul-le, div-lt-iff-lt-mul, add-mul, one-mul}
 use native.Mathlib.Omega.{arith}
-use lib.Dec.{eqb}
+use lib.Dec.{eqb, ltb}
 use lib.ListN.{length, getD, take, drop, take-append-drop}
 use borrow.Author.Tests.{ne-eqb, lt-ltb, le-ltb, le-leb, lt-leb}
 use Rattle.lists.specs.Count.{pick}
@@ -301,17 +301,23 @@ own-name path name e =
     let z : take (length path) name ≡ path = same-eq _ _ (both _ _ e .0) in
     ap (λ (s : List ℕ). s ++ drop (length path) name) (sym z) ∙ take-append-drop (length path) name
 
-own-matches : (o : Opening) (p : List ℕ) (v n i : ℕ) → matchesFrom o p v (pathOf o p v) n i ≡ (takesPart o p v i && matchesBy o p n i)
+takes-part-is : (o : Opening) (p : List ℕ) (v i : ℕ) → takesPart o p v i ≡ true
+    → (entryShown o p i ≡ true) × (beginsWith (pathOf o p v) (nameOf o p i) ≡ true)
 unfolding takesPart
+takes-part-is o p v i e =
+    let begins = beginsWith (pathOf o p v) (nameOf o p i) in
+    let some = ltb 0 (length (pathOf o p v)) in
+    let shown = both (entryShown o p i) (volumeShown o p v && (some && begins)) e in
+    (shown .0, both some begins (both (volumeShown o p v) (some && begins) (shown .1) .1) .1)
+
+own-matches : (o : Opening) (p : List ℕ) (v n i : ℕ) → matchesFrom o p v (pathOf o p v) n i ≡ (takesPart o p v i && matchesBy o p n i)
 own-matches o p v n i = go (takesPart o p v i) refl
   where
     go : (t : Bool) → takesPart o p v i ≡ t
         → (t && matches (o .version) (fromStart (pathOf o p v) (pathOf o p v) (nameOf o p i)) (storedHash p) n) ≡ (t && matchesBy o p n i)
     go true e =
-        let shown = both (entryShown o p i) _ e in
-        let volume = both (volumeShown o p v) _ (shown .1) in
-        let begins = both _ (beginsWith (pathOf o p v) (nameOf o p i)) (volume .1) .1 in
-        rw (shown .0) (ap (λ (s : List ℕ). matches (o .version) s (storedHash p) n) (own-name (pathOf o p v) (nameOf o p i) begins))
+        let w = takes-part-is o p v i e in
+        rw (w .0) (ap (λ (s : List ℕ). matches (o .version) s (storedHash p) n) (own-name (pathOf o p v) (nameOf o p i) (w .1)))
     go false e = refl
 
 pub own-path-law : (o : Opening) (p : List ℕ) (v : ℕ) → run openPlan p ≡ decided (accept o)
