@@ -1,6 +1,6 @@
 -- THE PROGRAM: however its input is cut, it writes the output of the whole. The end of a run gives the answers, whose lines are the best
 -- readings', or the refusal, which the buffer has room for.
-use mathlib.Core.Path.{_≡_, refl, sym, ap, _∙_}
+use mathlib.Core.Path.{_≡_, refl, ap, _∙_}
 use mathlib.Core.Bool.{Bool, true, false}
 use mathlib.Core.List.{List, [], _∷_, _++_, map}
 use Prim.Native.Nat.{ℕ, suc, _+_, _*_, _-_, _^_, _≤_, _<_, min}
@@ -24,12 +24,12 @@ use Rattle.readings.specs.Replay.{placeOf, saidOf, sayingOf}
 use Rattle.readings.specs.Feeding.{joined}
 use Rattle.replay_input.specs.declared.steps.Input.{Input}
 use Rattle.replay_input.specs.Starts.{timeIn, boardIn}
-use Rattle.replay_input.specs.Input.{InputRead, inputOf, refusedLine, bestLines, outputFor, outputOf}
+use Rattle.replay_input.specs.Input.{InputRead, inputOf, refusedLine, outputFor, outputOf}
 use Rattle.replay_input.specs.Text.{answerLines}
 use Rattle.replay_input.specs.Program.{fittingStage, nothingRead, Lists, HasRoom, TakesAll, WritesResult, ProgramRuns, Program}
 use Rattle.replay_input.proofs.Taking.{bytes-used}
 use Rattle.replay_input.proofs.Writing.{writes-lines, lines-best}
-use Rattle.replay_input.proofs.Running.{Starting, Gives, onward, runs}
+use Rattle.replay_input.proofs.Running.{Starting, onward, runs}
 
 -- ---- the number of a bad line
 
@@ -59,8 +59,7 @@ refused-size : (n : ℕ) → n < 10 ^ 20 → length (refusedLine n) ≤ 32
 unfolding refusedLine
 refused-size n l =
     let a : length (ascii "refused 22 ") ≡ 11 = refl in
-    omega
-    (
+    omega (
       arith,
       a,
       decimal-short 19 n l,

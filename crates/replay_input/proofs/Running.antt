@@ -3,11 +3,11 @@
 use mathlib.Core.Path.{_≡_, refl, sym, ap, subst, _∙_}
 use mathlib.Core.Bool.{Bool, true, false}
 use mathlib.Core.List.{List, [], _∷_, _++_, map, append-assoc, append-nil}
-use Prim.Native.Nat.{ℕ, zero, suc, _+_, _*_, _-_, _/_, _%_, _^_, _≤_, _<_, min}
+use Prim.Native.Nat.{ℕ, zero, suc, _+_, _*_, _-_, _%_, _^_, _≤_, _<_, min}
 use native.Mathlib.Omega.{arith}
 use lib.Dec.{ltb}
 use lib.ListN.{length, getD, take, drop, length-append, length-drop, length-map}
-use lib.Seq.{sets, length-sets, sets-eq, take-at, take-all, drop-drop, drop-append-le, length-take-le}
+use lib.Seq.{sets, length-sets, sets-eq, take-at, drop-drop, drop-append-le, length-take-le}
 use borrow.Author.Tests.{ltb-true, ltb-false}
 use Rattle.lists.specs.Count.{pick}
 use Rattle.lists.specs.Table.{tabulate}
@@ -21,12 +21,12 @@ use Rattle.readings.specs.declared.ReplayAnswer.{ReplayAnswer}
 use Rattle.readings.specs.Recording.{Recorded, recordedFrom}
 use Rattle.readings.specs.Replay.{placeOf, answerCount, saidOf, sayingOf}
 use Rattle.readings.specs.Feeding.{servedCount, begunWork, begunAnswers, fedBy, fedAnswers, Finishes, Midway, FeedsAll, joined}
-use Rattle.readings.proofs.Runs.{Ended, runs-from}
+use Rattle.readings.proofs.Runs.{runs-from}
 use Rattle.replay_input.specs.declared.steps.Stage.{Stage}
 use Rattle.replay_input.specs.declared.steps.Input.{Input}
 use Rattle.replay_input.specs.Starts.{timeIn, boardIn, room}
 use Rattle.replay_input.specs.Input.{InputRead}
-use Rattle.replay_input.specs.Program.{AfterBytes, recordingTaken, recordingBegun, usedMore, startsTaken, bytesTaken, fittingStage, stepTaken, broughtForward, stageEnded, Steps, Ends, Lists, HasRoom, PieceRead, TakesAll}
+use Rattle.replay_input.specs.Program.{AfterBytes, recordingBegun, usedMore, startsTaken, bytesTaken, fittingStage, stepTaken, broughtForward, stageEnded, Steps, Ends, Lists, HasRoom, PieceRead, TakesAll}
 use Rattle.replay_input.specs.Private.{StartsFit}
 use Rattle.replay_input.proofs.Taking.{bytes-used, bytes-starting, bytes-recording}
 
@@ -440,8 +440,8 @@ module _ (most : ℕ) (ls : List (List ℕ)) (s : List ℕ) (input : Input) (l :
 
     g : Stepped
         (usedMore (19 * k)
-        (recordingBegun (length ls + k) ((length ls + k) % 2 ^ 64) d (sets (l .times) (length ls) (map timeIn js)) (sets (l .boards) (length ls) (map boardIn js))
-        (l .work) (l .answers)))
+        (recordingBegun (length ls + k) ((length ls + k) % 2 ^ 64) d (sets (l .times) (length ls) (map timeIn js))
+        (sets (l .boards) (length ls) (map boardIn js)) (l .work) (l .answers)))
         (s ++ piece) (length (l .buffer)) next m
     g = rw q at starts-taken
 
@@ -487,8 +487,8 @@ module _ (most : ℕ) (ls : List (List ℕ)) (s : List ℕ) (input : Input) (l :
             let i : 2 * length (ls ++ js) + 0 + length (d ++ joined pieces) < 2 ^ 64 =
             omega (arith, b, count, leading-fit 18 (most - length ls) (s ++ piece), length-drop (19 * k) (s ++ piece), length-append d (joined pieces)) in
             let z =
-            runs-from (length (ls ++ js)) [] (d ∷ pieces) T′ B′ (l .work) (l .answers) n refl (omega arith) i (small-at (ls ++ js) small-now) (mid last held) fed
-            r (filled (length W′)) answers′ (rw (length-take-le (last .kept) (held .buffer) (going .within)) f) in
+            runs-from (length (ls ++ js)) [] (d ∷ pieces) T′ B′ (l .work) (l .answers) n refl (omega arith) i (small-at (ls ++ js) small-now) (mid last held)
+            fed r (filled (length W′)) answers′ (rw (length-take-le (last .kept) (held .buffer) (going .within)) f) in
             let y : n ≡ length (ls ++ js) =
             served-all most (ls ++ js) (l .work) (l .answers) (omega (arith, few, count)) small (c .room-is .working) (c .room-is .given) in
             (z .says, drop (4 * length (ls ++ js)) (l .answers), rw y at (z .given))

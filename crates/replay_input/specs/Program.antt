@@ -5,7 +5,7 @@ use mathlib.Core.Bool.{true, false}
 use mathlib.Core.List.{List, [], _∷_, _++_, map}
 use Prim.Native.Nat.{ℕ, _+_, _-_, _*_, _%_, _^_, _≤_, _<_, min}
 use lib.Dec.{ltb}
-use lib.ListN.{length, getD, take, drop}
+use lib.ListN.{length, take, drop}
 use lib.Seq.{sets}
 use Rattle.lists.specs.Count.{pick}
 use Rattle.lists.specs.Filled.{filled}
@@ -15,7 +15,7 @@ use Rattle.readings.specs.declared.ReplayAnswer.{ReplayAnswer}
 use Rattle.readings.specs.declared.ReplayAnswer.the-variants.{Replayed, Refused}
 use Rattle.readings.specs.declared.pieces.Progress.{Progress}
 use Rattle.readings.specs.Replay.{saidOf}
-use Rattle.readings.specs.Feeding.{begunWork, begunAnswers, fedBy, fedAnswers, endLine, endSaid, endAnswers, joined}
+use Rattle.readings.specs.Feeding.{begunWork, begunAnswers, fedBy, fedAnswers, endSaid, endAnswers, joined}
 use Rattle.replay_input.specs.declared.Written.{Written}
 use Rattle.replay_input.specs.declared.steps.Stage.{Stage}
 use Rattle.replay_input.specs.declared.steps.Input.{Input}
