@@ -26,7 +26,7 @@ use Rattle.walk.proofs.Once.{every-entry}
 use Rattle.readings.proofs.BestReading.{best-reading}
 use Rattle.readings.proofs.Points.{recording-points}
 use Rattle.readings.proofs.Runs.{pieces}
-use Rattle.replay_input.proofs.Cutting.{steps-agree}
+use Rattle.replay_input.proofs.Program.{program}
 use Rattle.claims.proofs.Walks.{walks-say}
 use Rattle.claims.proofs.Writer.{writers-say}
 use Rattle.claims.proofs.YearReadings.{year-readings}
@@ -61,7 +61,7 @@ claims =
       walks = walks-say;
       best-reading = best-reading;
       pieces = pieces;
-      steps-agree = steps-agree;
+      program = program;
       recording-points = recording-points;
       cycles = cycle-law;
       round-trip = round-trip;

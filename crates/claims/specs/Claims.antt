@@ -28,7 +28,7 @@ use Rattle.readings.specs.declared.Reading.{Reading}
 use Rattle.readings.specs.BestReading.{BestReading}
 use Rattle.readings.specs.Points.{RecordingPoints}
 use Rattle.readings.specs.Feeding.{Pieces}
-use Rattle.replay_input.specs.Input.{StepsAgree}
+use Rattle.replay_input.specs.Program.{Program}
 use Rattle.query.specs.Queries.{entryShown, volumeShown, volumeFacts}
 use Rattle.query.specs.Shown.{EntryShown, NamePlaced, VolumeShown}
 use Rattle.path_search.specs.declared.PathAnswer.the-variants.{Entry, NoPath}
@@ -149,8 +149,10 @@ pub record Claims : Type 1 where
   -- "How the steps fall changes nothing": `begin`, `feed` for each piece and `finish`, however the bytes are cut and whatever the lists
   -- held before, give what the promise of `replay` gives on all the bytes, for the starts that `begin` says are served.
   pub pieces : Pieces
-  -- The program's starts and recording too: its steps, however they fall, read what the input is as a whole.
-  pub steps-agree : StepsAgree
+  -- The program's whole output: however its input, starts and then the recording, is cut into pieces of at least one byte that fit the
+  -- buffer, it writes a line for each start, or only the refusal, as `outputOf` says of all the bytes. Fewer than 23 bytes wait, so that
+  -- there is always room to read.
+  pub program : Program
   -- The lines and the temperatures that the request names.
   pub recording-points : RecordingPoints
   -- Request 113: any order of the same lines and starts gives the same table; its rows rise strictly by their hashes, at most 1,024;

@@ -81,11 +81,11 @@ pub fn directories(file: &[u8], i: usize, pairs: &mut [u32]) -> usize
 fn list_references(section: &[u8], l: Layout, i: u32, count: u32, pairs: &mut [u64])
     ensures { λ _. ⌜ now (pairs .exit) ≡ pairsIn (referencePairs (now (section .entry)) (entryAt l i) count 0) (now (pairs .entry)) ⌝ }
 {
-    let places = pairs.len() / 2;
+    let room = pairs.len() / 2;
     let mut k = 0;
     while k < count {
         let at = k as usize;
-        if places <= at {
+        if room <= at {
             return;
         }
         let r = volumes::reference_at(section, l, i, k);

@@ -59,8 +59,7 @@ refused-size : (n : ℕ) → n < 10 ^ 20 → length (refusedLine n) ≤ 32
 unfolding refusedLine
 refused-size n l =
     let a : length (ascii "refused 22 ") ≡ 11 = refl in
-    omega
-    (
+    omega (
       arith,
       a,
       decimal-short 19 n l,

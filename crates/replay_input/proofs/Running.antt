@@ -440,8 +440,8 @@ module _ (most : ℕ) (ls : List (List ℕ)) (s : List ℕ) (input : Input) (l :
 
     g : Stepped
         (usedMore (19 * k)
-        (recordingBegun (length ls + k) ((length ls + k) % 2 ^ 64) d (sets (l .times) (length ls) (map timeIn js)) (sets (l .boards) (length ls) (map boardIn js))
-        (l .work) (l .answers)))
+        (recordingBegun (length ls + k) ((length ls + k) % 2 ^ 64) d (sets (l .times) (length ls) (map timeIn js))
+        (sets (l .boards) (length ls) (map boardIn js)) (l .work) (l .answers)))
         (s ++ piece) (length (l .buffer)) next m
     g = rw q at starts-taken
 
@@ -487,8 +487,8 @@ module _ (most : ℕ) (ls : List (List ℕ)) (s : List ℕ) (input : Input) (l :
             let i : 2 * length (ls ++ js) + 0 + length (d ++ joined pieces) < 2 ^ 64 =
             omega (arith, b, count, leading-fit 18 (most - length ls) (s ++ piece), length-drop (19 * k) (s ++ piece), length-append d (joined pieces)) in
             let z =
-            runs-from (length (ls ++ js)) [] (d ∷ pieces) T′ B′ (l .work) (l .answers) n refl (omega arith) i (small-at (ls ++ js) small-now) (mid last held) fed
-            r (filled (length W′)) answers′ (rw (length-take-le (last .kept) (held .buffer) (going .within)) f) in
+            runs-from (length (ls ++ js)) [] (d ∷ pieces) T′ B′ (l .work) (l .answers) n refl (omega arith) i (small-at (ls ++ js) small-now) (mid last held)
+            fed r (filled (length W′)) answers′ (rw (length-take-le (last .kept) (held .buffer) (going .within)) f) in
             let y : n ≡ length (ls ++ js) =
             served-all most (ls ++ js) (l .work) (l .answers) (omega (arith, few, count)) small (c .room-is .working) (c .room-is .given) in
             (z .says, drop (4 * length (ls ++ js)) (l .answers), rw y at (z .given))

@@ -140,7 +140,7 @@ module _ (a : List ℕ) (starts from : ℕ) (out₀ : List ℕ) (next at : ℕ) 
       let i : length out₀ - at - length line ≡ length out₀ - at′ = omega arith in
       let j : starts - next - 1 ≡ starts - (next + 1) = omega arith in
       let f : suc (fittingLines a (length out₀ - at - length line) (next + 1) (starts - next - 1))
-          ≡ suc (fittingLines a (length out₀ - at′) (next + 1) (starts - (next + 1))) = rw (i, j) in
+      ≡ suc (fittingLines a (length out₀ - at′) (next + 1) (starts - (next + 1))) = rw (i, j) in
       record {
         count = c .count + 1;
         next-is = omega (arith, c .next-is);

@@ -54,7 +54,9 @@ add-take-step c = let c₁ = c .before .before .before .before .before .before .
     omega (arith, r .ensures, r .kept .0, i .inv .0, i .inv .5, length-take (length b - k) (drop k b), length-drop k b, g)
 
 loop-again : tie.Need-loop-again Inv-loop μ-loop
-loop-again c = let w = step-within _ _ _ _ _ _ _ _ _ _ _ _ _ (c .before .before .before .before .before .before .before .before .before .before .take-step .ensures) in search needs
+loop-again c =
+    let w = step-within _ _ _ _ _ _ _ _ _ _ _ _ _ (c .before .before .before .before .before .before .before .before .before .before .take-step .ensures) in
+    search needs
 
 same-length-6 : tie.Need-same-length-6 Inv-loop μ-loop
 same-length-6 c = c .before .loop .inv .0

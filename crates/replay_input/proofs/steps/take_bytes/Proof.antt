@@ -7,13 +7,15 @@ use Rattle.replay_input.proofs.steps.take_bytes.Tie as tie
 returns : tie.Need-returns
 returns c = let d = c .before .before .before .before .before .before .before .before in
     let s = d .before .before .before .before .before .before .before .before .before .before .before .args in
-    rw (bytes-starting (s .stage) (s .bytes .now) (s .times .now) (s .boards .now) (s .work .now) (s .answers .now) (d .before .before .before .before .before .if1 .taken))
+    let e = d .before .before .before .before .before .if1 .taken in
+    rw (bytes-starting (s .stage) (s .bytes .now) (s .times .now) (s .boards .now) (s .work .now) (s .answers .now) e)
     (d .take-starting .ensures)
 
 returns-2 : tie.Need-returns-2
 returns-2 c = let d = c .before .before in
     let s = d .before .before .before .before .before .before .before .before .before .before .before .args in
-    rw (bytes-recording (s .stage) (s .bytes .now) (s .times .now) (s .boards .now) (s .work .now) (s .answers .now) (d .before .before .before .before .before .if1 .left))
+    let e = d .before .before .before .before .before .if1 .left in
+    rw (bytes-recording (s .stage) (s .bytes .now) (s .times .now) (s .boards .now) (s .work .now) (s .answers .now) e)
     (d .take-recording .ensures)
 
 pub take-bytes-spec : {M : Type 1} → statement M

@@ -45,7 +45,8 @@ returns-2 c = let c₁ = c .before .before .before .before .before .before .befo
     let c₃ = c₂ .before .before .before .before .before .before .before .before in
     let s = c₃ .before .before .before in
     starts-begin _ _ _ _ _ _ _ (c₂ .before .before .before .take-starts .ensures) _ _
-    (c₁ .before .before .before .before .before .wrapping-add-u64 .ensures) (s .args .work .now) (s .args .answers .now) _ _ _ (c₁ .before .before .before .before .if1 .left)
+    (c₁ .before .before .before .before .before .wrapping-add-u64 .ensures)
+    (s .args .work .now) (s .args .answers .now) _ _ _ (c₁ .before .before .before .before .if1 .left)
     (c .before .before .before .before .before .before .begin-recording .ensures)
 
 pub take-starting-spec : {M : Type 1} → statement M
