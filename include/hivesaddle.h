@@ -249,6 +249,15 @@ uint32_t hs_reference(const uint8_t *file, size_t length, uint64_t i, uint64_t k
  * out: entry, number. */
 uint32_t hs_find_path(const uint8_t *file, size_t length, uint64_t *out, size_t out_length);
 
+/* The same with another start. Windows 10 names files below \VOLUME{..} and takes the hash of the same path from
+ * \DEVICE\HARDDISKVOLUME2 or another number. An entry takes part where it can be shown, the volume can be shown with a
+ * path of at least one unit, and the name begins with that path, followed by nothing or by a backslash. It matches where
+ * the hash of the start followed by what is behind the volume's path, plus the number, is the stored one.
+ * start: bytes as a name has them, UTF-16, low byte first, of any length.
+ * out: entry, number. */
+uint32_t hs_find_path_from(const uint8_t *file, size_t length, uint64_t volume, const uint8_t *start, size_t start_length,
+                           uint64_t *out, size_t out_length);
+
 /* All that match, ordered by number and then by entry. Gives how many there are, however many fit; 0 where checks 1 to 6 do
  * not pass.
  * pairs: entry, number, entry, number, .., as many whole pairs as fit. All else of it is left alone, an odd last number

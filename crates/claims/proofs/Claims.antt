@@ -10,7 +10,7 @@ use Rattle.trace.proofs.Cycles.{cycle-law}
 use Rattle.reader.proofs.Allowed.{demand-2}
 use Rattle.reader.proofs.Early.{demand-3, after-size}
 use Rattle.query.proofs.Laws.{entry-shown-law, name-placed, volume-shown-law, path-placed}
-use Rattle.path_search.proofs.Laws.{path-found-law, found-path-law, path-not-found-law}
+use Rattle.path_search.proofs.Laws.{path-found-law, found-path-law, path-not-found-law, own-path-law}
 use Rattle.text.proofs.Decimal.{decimal-law, decimal-only}
 use Rattle.claims.proofs.Buffer.{not-accepted-filled, allowed-linked}
 use Rattle.claims.proofs.Search.{path-not-open}
@@ -67,6 +67,7 @@ claims =
       decimal-only = decimal-only;
       one-hash = one-hash;
       numbers = numbers;
+      own-path = own-path-law;
       powers = powers;
       year-table = year-facts;
       path-found = λ o p i n a. (path-found-law o p i n a, found-path-law o p i n a);

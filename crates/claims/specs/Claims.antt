@@ -2,7 +2,7 @@
 -- about every input; `claims` in proofs/Claims.antt names the theorem that proves it. What one call gives back is its contract in
 -- src/: `ReadsPrefix` and `ReadsFile` are those of the prefix reader and of the whole-file reader.
 use mathlib.Core.Path.{_≡_}
-use mathlib.Core.Bool.{true, false}
+use mathlib.Core.Bool.{true, false, _&&_}
 use mathlib.Core.List.{List}
 use mathlib.Core.Logic.{_↔_}
 use Prim.Native.Nat.{ℕ, _+_, _≤_, _<_}
@@ -32,7 +32,8 @@ use Rattle.replay_input.specs.Input.{StepsAgree}
 use Rattle.query.specs.Queries.{entryShown, volumeShown, volumeFacts}
 use Rattle.query.specs.Shown.{EntryShown, NamePlaced, VolumeShown}
 use Rattle.path_search.specs.declared.PathAnswer.the-variants.{Entry, NoPath}
-use Rattle.path_search.specs.Search.{matchesBy, pathFound, PathFound}
+use Rattle.path_search.specs.Search.{matchesBy, leastPair, pathFound, PathFound}
+use Rattle.path_search.specs.From.{pathOf, takesPart, pathFoundFrom}
 use Rattle.text.specs.Decimal.{decimal, IsDecimal}
 use Rattle.year.specs.Facts.{YearFacts}
 use Rattle.claims.specs.NameStops.{NameStops}
@@ -133,6 +134,9 @@ pub record Claims : Type 1 where
   pub one-hash : OneHash
   -- Request 105: the search's answer is the first of all pairs, and an entry is in one at most.
   pub numbers : Numbers
+  -- Document 03, A3, "with the volume's own path as the start, the answer is that of #105 over the entries that take part".
+  pub own-path : (o : Opening) (p : List ℕ) (v : ℕ) → Opens p o
+      → pathFoundFrom p v (pathOf o p v) ≡ leastPair (λ n i. takesPart o p v i && matchesBy o p n i) (o .head .metrics .count)
   -- Request 109: the powers of 37 give the Vista hash, and a swapped start the hash of the joined list.
   pub powers : Powers
   -- ---- the replay

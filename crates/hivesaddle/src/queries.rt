@@ -4,6 +4,7 @@ ghost use Rattle.query.specs.Queries.{placeSaid, programPlace, entryPlace, volu
 ghost use Rattle.query.specs.Queries.{referenceAsked, referenceSaid, placesNeeded, placesSaid};
 ghost use Rattle.query.specs.Contents.{ListsDirectories, ListsReferences, entryReferenceAsked, entryReferenceSaid};
 ghost use Rattle.query.specs.Cost.{costAsked, costSaid};
+ghost use Rattle.path_search.specs.From.{pathFoundFrom};
 ghost use Rattle.path_search.specs.Search.{pathFound, pathSaid, ListsPaths};
 ghost use Rattle.hivesaddle.specs.Output.{Answered};
 ghost use Rattle.hivesaddle.specs.Private.{saidBy, saying};
@@ -200,6 +201,18 @@ pub extern "C" fn hs_find_path(file: &[u8], out: &mut [u64]) -> u32
     ensures { λ r. ⌜ Answered (pathSaid (pathFound (now (file .entry)))) r (now (out .entry)) (now (out .exit)) ⌝ }
 {
     put_reply(path_reply(path_search::find_path(file)), out)
+}
+
+// The same over the names that begin with the path of a volume, with a start in place of it.
+#[no_mangle]
+pub extern "C" fn hs_find_path_from(file: &[u8], volume: u64, start: &[u8], out: &mut [u64]) -> u32
+    ensures { λ r.
+        ⌜ Answered (pathSaid (pathFoundFrom (now (file .entry)) volume (now (start .entry)))) r (now (out .entry)) (now (out .exit)) ⌝ }
+{
+    put_reply(
+        path_reply(path_search::find_path_from(file, volume as usize, start)),
+        out,
+    )
 }
 
 // All pairs of an entry and the number by which it matches: their count, and as many whole pairs as fit.

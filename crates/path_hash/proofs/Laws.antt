@@ -1,13 +1,13 @@
 -- Laws of the path hashes.
 use mathlib.Core.Path.{_≡_, refl, sym, ap, _∙_}
 use mathlib.Core.Bool.{Bool, true, false}
-use mathlib.Core.List.{List}
+use mathlib.Core.List.{List, [], _∷_, _++_}
 use Prim.Native.Nat.{ℕ, zero, suc, _+_, _-_, _*_, _/_, _%_, _^_, _≤_, _<_}
-use native.Mathlib.Nat.{mod-eq-of-lt, add-mul-mod-self-right}
+use native.Mathlib.Nat.{mod-lt, mod-eq-of-lt, add-mul-mod-self-right}
 use native.Mathlib.Numerals.{add-one}
 use native.Mathlib.Omega.{arith}
 use borrow.Author.Tests.{ltb-true}
-use lib.Dec.{ltb}
+use lib.Dec.{ltb, lit<}
 use lib.ListN.{length, getD, drop, drop-of-length-le}
 use lib.Seq.{drop-cons}
 use Rattle.path_hash.specs.Hash.{step, plain, vista, wrapSub, eightSum, eight, eightAt, eights, hash2008}
@@ -56,6 +56,18 @@ plain-more s h k m l e = rw (e, add-one, drop-cons s k 0)
 pub plain-done : (s : List ℕ) (h k : ℕ) → length s ≤ k → plain h (drop k s) ≡ h
 unfolding plain
 plain-done s h k l = rw (drop-of-length-le s l)
+
+-- every plain hash is below 2 ^ 32
+pub plain-lt : (s : List ℕ) (h : ℕ) → h < 2 ^ 32 → plain h s < 2 ^ 32
+unfolding plain step
+plain-lt [] h l = l
+plain-lt (c ∷ s) h l = plain-lt s (step h c) (mod-lt (37 * h + c) (lit< tt))
+
+-- a hash is carried on over more numbers
+pub plain-append : (h : ℕ) (s t : List ℕ) → plain h (s ++ t) ≡ plain (plain h s) t
+unfolding plain
+plain-append h [] t = refl
+plain-append h (c ∷ s) t = plain-append (step h c) s t
 
 -- eight numbers more of the list are taken
 pub plain-eight : (s : List ℕ) (h k : ℕ) → k + 8 ≤ length s → plain h (drop k s) ≡ plain (eightAt h s k) (drop (k + 8) s)

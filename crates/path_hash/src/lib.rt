@@ -15,7 +15,7 @@ fn next(h: u32, c: u32) -> u32
 }
 
 // The end step of XP. The upper half of the range is negative: 4294967296 - m is its magnitude, up to 2147483648.
-fn signed_end(h: u32) -> u32
+pub fn xp_end(h: u32) -> u32
     ensures { λ r. ⌜ r ≡ xpEnd h ⌝ }
 {
     let m = 314159269 * (h as u64) % 4294967296;
@@ -93,7 +93,7 @@ pub fn hash_vista(cs: &[u32]) -> u32
 pub fn hash_xp(cs: &[u32]) -> u32
     ensures { λ r. ⌜ r ≡ xp (now (cs .entry)) ⌝ }
 {
-    signed_end(hash_numbers(0, cs))
+    xp_end(hash_numbers(0, cs))
 }
 
 // Vista and 2008 are equal on every list (`vista-2008`).
@@ -135,8 +135,8 @@ fn eight_bytes(h: u32, text: &[u8], i: usize) -> u32
         % 4294967296) as u32
 }
 
-// The same as `hash_numbers`, over bytes.
-fn hash_bytes(from: u32, text: &[u8]) -> u32
+// A hash is carried on over more bytes: the same as `hash_numbers`, over bytes.
+pub fn carry_bytes(from: u32, text: &[u8]) -> u32
     ensures { λ r. ⌜ r ≡ plain from (now (text .entry)) ⌝ }
 {
     let mut h = from;
@@ -152,17 +152,17 @@ fn hash_bytes(from: u32, text: &[u8]) -> u32
 pub fn hash_vista_bytes(text: &[u8]) -> u32
     ensures { λ r. ⌜ r ≡ vista (now (text .entry)) ⌝ }
 {
-    hash_bytes(VISTA_START, text)
+    carry_bytes(VISTA_START, text)
 }
 
 pub fn hash_xp_bytes(text: &[u8]) -> u32
     ensures { λ r. ⌜ r ≡ xp (now (text .entry)) ⌝ }
 {
-    signed_end(hash_bytes(0, text))
+    xp_end(carry_bytes(0, text))
 }
 
 pub fn hash_2008_bytes(text: &[u8]) -> u32
     ensures { λ r. ⌜ r ≡ hash2008 (now (text .entry)) ⌝ }
 {
-    hash_bytes(VISTA_START, text)
+    carry_bytes(VISTA_START, text)
 }

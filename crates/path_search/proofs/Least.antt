@@ -1,7 +1,7 @@
 -- The least pair of any test of a number and an entry: what it is, and what it depends on.
 use mathlib.Core.Path.{_≡_, refl, sym, ap, _∙_}
 use mathlib.Core.Bool.{Bool, true, false}
-use mathlib.Core.List.{List, [], _∷_}
+use mathlib.Core.List.{List}
 use mathlib.Core.Logic.{⊎-elim, _↔_}
 use Prim.Native.Nat.{ℕ, zero, suc, _+_, _*_, _%_, _^_, _≤_, _<_}
 use native.Mathlib.Nat.{eq-or-lt-of-le, le-refl, mod-lt}
@@ -18,10 +18,10 @@ use Rattle.lists.specs.declared.Found.{Found}
 use Rattle.lists.specs.declared.Found.the-variants.{At, Nothing}
 use Rattle.layout.specs.declared.Version.{Version}
 use Rattle.layout.specs.declared.Version.the-variants.{V17, V23, V26, V30}
-use Rattle.path_hash.specs.Hash.{step, plain, xpEnd, magnitude, wrapSub}
-use Rattle.path_hash.proofs.Laws.{vista-2008}
+use Rattle.path_hash.specs.Hash.{plain, xpEnd, magnitude, wrapSub}
+use Rattle.path_hash.proofs.Laws.{plain-lt, vista-2008}
 use Rattle.path_search.specs.Search.{hashOf, entryBy, pairBy, leastPair, pairsBelow}
-use Rattle.path_search.specs.Private.{numberFor}
+use Rattle.path_search.specs.Private.{hashStart, hashEnd, numberFor}
 use Rattle.path_search.specs.declared.PathAnswer.{PathAnswer}
 use Rattle.path_search.specs.declared.PathAnswer.the-variants as pathAnswer
 
@@ -203,18 +203,29 @@ by-number h stored n a b c = go (ℕ-discrete ((h + n) % 2 ^ 32) stored) (ltb (w
     go (no e) true q = ne-eqb _ _ e ∙ sym (ne-eqb _ _ (λ z. e (sub-number h stored n a b c .1 z)))
     go (no e) false q = ne-eqb _ _ e ∙ sym (ne-eqb 9 n (λ z. omega arith))
 
+-- the hash of a version is plain from its start, and then its end step
+pub hash-of : (v : Version) (s : List ℕ) → hashOf v s ≡ hashEnd v (plain (hashStart v) s)
+hash-of V17 s = refl
+hash-of V23 s = refl
+hash-of V26 s = sym (vista-2008 s)
+hash-of V30 s = sym (vista-2008 s)
+
 -- every hash is below 2 ^ 32
-plain-low : (s : List ℕ) (h : ℕ) → h < 2 ^ 32 → plain h s < 2 ^ 32
-unfolding plain step
-plain-low [] h l = l
-plain-low (c ∷ s) h l = plain-low s (step h c) (mod-lt _ (lit< tt))
+pub end-low : (v : Version) (h : ℕ) → h < 2 ^ 32 → hashEnd v h < 2 ^ 32
+unfolding xpEnd
+end-low V17 h l =
+    let x = 314159269 * h % 2 ^ 32 in
+    let b : magnitude x % 1000000007 < 1000000007 = mod-lt (magnitude x) (lit< tt) in
+    omega arith
+end-low V23 h l = l
+end-low V26 h l = l
+end-low V30 h l = l
+
+start-low : (v : Version) → hashStart v < 2 ^ 32
+start-low V17 = lit< tt
+start-low V23 = lit< tt
+start-low V26 = lit< tt
+start-low V30 = lit< tt
 
 pub hash-low : (v : Version) (s : List ℕ) → hashOf v s < 2 ^ 32
-unfolding xpEnd
-hash-low V17 s =
-    let x = 314159269 * plain 0 s % 2 ^ 32 in
-    let l : magnitude x % 1000000007 < 1000000007 = mod-lt (magnitude x) (lit< tt) in
-    omega arith
-hash-low V23 s = plain-low s 314159 (lit< tt)
-hash-low V26 s = rw (← vista-2008 s) (plain-low s 314159 (lit< tt))
-hash-low V30 s = rw (← vista-2008 s) (plain-low s 314159 (lit< tt))
+hash-low v s = rw (hash-of v s) (end-low v (plain (hashStart v) s) (plain-lt s (hashStart v) (start-low v)))

@@ -1,4 +1,5 @@
 pub mod Least
+pub mod Same
 pub mod Laws
 pub mod Places
 pub mod Counters

@@ -58,9 +58,6 @@ plain-sum (c ∷ s) h l =
     omega (arith, ap (λ (k : ℕ). h * k) (pow-suc 37 (length s))) in
     plain-sum s (x % 2 ^ 32) (mod-lt x (lit< tt)) ∙ mod-times x A (powerSum s) ∙ ap (λ (k : ℕ). k % 2 ^ 32) e
 
-pub plain-lt : (s : List ℕ) (h : ℕ) → h < 2 ^ 32 → plain h s < 2 ^ 32
-plain-lt s h l = rw (plain-sum s h l) (mod-lt (h * 37 ^ length s + powerSum s) (lit< tt))
-
 -- THE ENGINE GIVES THE VISTA ANSWER, on every list
 pub powers-vista : (cs : List ℕ) → hashPowers cs ≡ vista cs
 unfolding hashPowers

@@ -10,15 +10,10 @@ use lib.ListN.{length, take, drop, length-drop}
 use Rattle.lists.specs.Answer.{Answers}
 use Rattle.lists.proofs.Answers.{answers}
 use Rattle.path_hash.specs.Hash.{step, plain, vista, wrapSub}
-use Rattle.path_hash.proofs.Laws.{same-mod, wrapped}
+use Rattle.path_hash.proofs.Laws.{same-mod, plain-append, plain-lt, wrapped}
 use Rattle.power_hash.specs.Powers.{powerSum, swapHash, swapAnswer, swapSaid}
 use Rattle.power_hash.specs.declared.Swap.the-variants.{Swapped, TooLong}
-use Rattle.power_hash.proofs.Sum.{plain-lt, plain-sum}
-
-pub plain-append : (h : ℕ) (s t : List ℕ) → plain h (s ++ t) ≡ plain (plain h s) t
-unfolding plain
-plain-append h [] t = refl
-plain-append h (c ∷ s) t = plain-append (step h c) s t
+use Rattle.power_hash.proofs.Sum.{plain-sum}
 
 -- a list is its first p numbers and the others
 plain-parts : (h p : ℕ) (s : List ℕ) → plain h s ≡ plain (plain h (take p s)) (drop p s)

@@ -6,12 +6,12 @@ use mathlib.Core.Logic.{_⊎_, inl, inr, _↔_}
 use Prim.Native.Nat.{ℕ, _+_, _-_, _*_, _≤_, _<_, min}
 use native.Mathlib.Nat.{mul-le-mul-right}
 use native.Mathlib.Omega.{arith}
-use lib.Dec.{eqb}
+use lib.Dec.{eqb, leb}
 use lib.ListN.{length, take, drop, length-take, length-drop}
-use borrow.Author.Tests.{lt-ltb, le-ltb, le-leb, lt-leb, ltb-true, leb-true, eqb-true, eqb-false, ne-eqb, not-true, not-false}
-use denote.Ref.{RefT}
+use borrow.Author.Tests.{lt-ltb, le-ltb, le-leb, lt-leb, ltb-true, leb-true, leb-false, eqb-true, eqb-false, ne-eqb, not-true, not-false}
+use denote.Ref.{RefT, now}
 use Rattle.lists.specs.Answer.{Said, Answers}
-use Rattle.lists.specs.Part.{IsPart}
+use Rattle.lists.specs.Part.{startIn, IsPart}
 use Rattle.lists.proofs.Answers.{answers}
 use Rattle.lists.specs.Count.{pick}
 use Rattle.lists.proofs.Count.{true-false}
@@ -51,7 +51,7 @@ use Rattle.volumes.proofs.SoundVolume.{sound-volume}
 use Rattle.volumes.specs.declared.Volume.{Volume}
 use Rattle.volumes.specs.declared.Reference.{Reference}
 use Rattle.query.specs.Queries.{asked, placeOf, placeSaid, volumeSaid, ShownAt, entryShown}
-use Rattle.query.specs.Queries.{clear, accepts, volumeShown, volumeFacts, volumeValues, referenceShown}
+use Rattle.query.specs.Queries.{clear, accepts, volumeShown, volumeFacts, volumeValues, pathPlace, referenceShown}
 use Rattle.query.specs.Private.{entryIn, nameShown, sectionShown, volumeIn, referenceIn}
 use Rattle.query.specs.Queries.{nameSound, nameIn}
 use Rattle.query.specs.declared.Place.{Place}
@@ -348,6 +348,14 @@ volume-given o p i {b} {r} eb e q ev =
     let n : sectionShown (o .head .volumes) (o .layout) b i ≡ true = sym e ∙ not-false r q in
     rw (ev, ← eb, n)
 
+-- the path alone, as a part of the section
+pub path-hidden : (o : Opening) (i : ℕ) (file r : RefT (List ℕ)) {b : List ℕ} {t : Bool} → b ≡ part (o .head .volumes) (now file)
+    → t ≡ sectionShown (o .head .volumes) (o .layout) b i → not t ≡ true → IsPart file 0 0 r → ShownAt file (pathPlace o (now file) i) r
+unfolding volumeShown sectionShown
+path-hidden o i file r {b} {t} eb e q h =
+    let n : sectionShown (o .head .volumes) (o .layout) b i ≡ false = sym e ∙ not-true t q in
+    rw (← eb, n) h
+
 pub reference-hidden : (o : Opening) (p : List ℕ) (i k : ℕ) {b : List ℕ} {r : Bool} → b ≡ part (o .head .volumes) p
     → r ≡ sectionShown (o .head .volumes) (o .layout) b i → not r ≡ true → referenceAnswer.NotShown ≡ referenceIn o p i k
 unfolding referenceShown volumeShown sectionShown
@@ -451,3 +459,33 @@ path-low o p i {b} {v} f eb e ev =
     let g : v .path + 2 * v .units ≤ length (part s p) = rw (← eb) h in
     let z : s .end ≡ s .at + s .len = section-end s _ (open-shapes p o f .volumes-end) (section-some s (o .layout) i (open-sound p o f) (e .room) (e .below)) in
     omega (arith, g, part-there s p, z, f .volumes, f .start .most)
+
+-- a part of a part, wherever both lie
+part-within : (file s r : RefT (List ℕ)) (a n b m : ℕ) → IsPart file a n s → b + m ≤ length (now s) → IsPart s b m r → IsPart file (a + b) m r
+part-within file s r a n b m p l q =
+    record {
+      contents = q .contents ∙ rw (p .contents) (part-part (now file) a n b m (omega (arith, size)));
+      allocation = q .allocation ∙ p .allocation;
+      offset = q .offset ∙ rw (le-leb b (length (now s)) (omega arith)) (omega (arith, p .offset, start (leb a (length (now file))) refl));
+    }
+  where
+    size : length (now s) ≡ min n (length (now file) - a)
+    size = ap length (p .contents) ∙ simp (length-take, length-drop)
+
+    start : (t : Bool) → leb a (length (now file)) ≡ t → startIn a (now file) + b ≡ startIn (a + b) (now file)
+    start true e = let h = leb-true a (length (now file)) e in rw (e, le-leb (a + b) (length (now file)) (omega (arith, size)))
+    start false e = let h = leb-false a (length (now file)) e in rw (e, lt-leb (a + b) (length (now file)) (omega arith)) (omega (arith, size))
+
+-- the path of a volume that is shown lies in the section
+pub path-of-section : (s : Section) (l : Layout) (b : List ℕ) (i : ℕ) {t : Bool} {v : Volume} → t ≡ sectionShown s l b i → not t ≡ false
+    → v ≡ volumeOf b (entryAt l i) → v .path + 2 * v .units ≤ length b
+path-of-section s l b i e q ev = rw ev (path-inside b (entryAt l i) (section-met s l b i e q .sound))
+
+pub path-shown : (o : Opening) (i : ℕ) (file s r : RefT (List ℕ)) {t : Bool} {v : Volume} → IsPart file (o .head .volumes .at) (o .head .volumes .len) s
+    → t ≡ sectionShown (o .head .volumes) (o .layout) (now s) i → not t ≡ false → v ≡ volumeOf (now s) (entryAt (o .layout) i)
+    → IsPart s (v .path) (2 * v .units) r → ShownAt file (pathPlace o (now file) i) r
+unfolding volumeShown sectionShown volumeFacts
+path-shown o i file s r {t} {v} p e q ev h =
+    let n : sectionShown (o .head .volumes) (o .layout) (now s) i ≡ true = sym e ∙ not-false t q in
+    let l = path-of-section (o .head .volumes) (o .layout) (now s) i e q ev in
+    rw (← p .contents, n, ← ev) (part-within file s r (o .head .volumes .at) (o .head .volumes .len) (v .path) (2 * v .units) p l h)

@@ -144,6 +144,10 @@ abbrev pub volumeSaid : VolumeAnswer → Said
 volumeSaid (volumeAnswer.Shown f) = record { number = 1; values = volumeList f }
 volumeSaid volumeAnswer.NotShown = record { number = 0; values = volumeList (volumeValues volumeAnswer.NotShown) }
 
+-- where its path stands in a file whose checks 1 to 6 gave that opening; an empty part at the start where it is not shown
+abbrev pub pathPlace : Opening → List ℕ → ℕ → Place
+pathPlace o p i = pick (volumeShown o p i) (volumeFacts o p i .path) (placeOf placeAnswer.NotShown)
+
 -- ---- reference k of volume i, where k is below n
 unfoldable pub referenceShown : Opening → List ℕ → ℕ → ℕ → Bool
 referenceShown o p i k = volumeShown o p i && ltb k (volumeOf (part (o .head .volumes) p) (entryAt (o .layout) i) .references)

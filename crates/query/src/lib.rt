@@ -3,7 +3,7 @@ ghost use mathlib.Core.Path.{_≡_};
 ghost use Rattle.lists.specs.Answer.{Answers};
 ghost use Rattle.head.specs.Opened.{OpenFacts};
 ghost use Rattle.query.specs.Queries.{placeSaid, placeOf, ShownAt, programPlace, entryPlace, volumeAsked, volumeSaid, volumeValues};
-ghost use Rattle.query.specs.Queries.{referenceAsked, referenceSaid, placesNeeded, placesSaid};
+ghost use Rattle.query.specs.Queries.{pathPlace, referenceAsked, referenceSaid, placesNeeded, placesSaid};
 ghost use Rattle.query.specs.Private.{nameShown, entryIn, sectionShown, volumeIn, referenceIn};
 
 mod contents;
@@ -239,6 +239,21 @@ pub fn volume_path(file: &[u8], i: usize) -> &[u8]
         }
         VolumeAnswer::NotShown => lists::part(file, 0, 0),
     }
+}
+
+// The same for a file whose checks 1 to 6 gave that opening, so that it is not opened again: the path as a part of the volumes section.
+pub fn path_in(file: &[u8], o: Opening, i: usize) -> &[u8]
+    ensures { λ r. ⌜ ShownAt (file .entry) (pathPlace o (now (file .entry)) i) r ⌝ }
+{
+    let l = o.layout;
+    let h = o.head;
+    let s = h.volumes;
+    let section = sections::part_of(file, s);
+    if !section_shown(s, l, section, i) {
+        return lists::part(file, 0, 0);
+    }
+    let v = volumes::volume_at(section, l, i as u32);
+    lists::part(section, v.path, 2 * v.units)
 }
 
 // Reference k of volume i, where checks 1 to 6 pass.

@@ -34,8 +34,8 @@ pub use hashes::{
     hash_vista, hash_vista_bytes, hash_xp, hash_xp_bytes,
 };
 pub use queries::{
-    entry_name, find_path, list_paths, list_paths_alloc, places, program_name, reference, volume,
-    FoundPath, Reference, Volume,
+    entry_name, find_path, find_path_from, list_paths, list_paths_alloc, places, program_name,
+    reference, volume, FoundPath, Reference, Volume,
 };
 pub use readers::{read_file, read_file_alloc, read_prefix, FileContents, Record, Verdict};
 pub use replay::{replay, replay_into, BadLine, Reading, Replay, Start};

@@ -195,6 +195,43 @@ pub fn find_path(file: &[u8]) -> Option<FoundPath> {
     yes(answer).then(|| FoundPath { entry: out[0], number: out[1] as u32 })
 }
 
+/// [`find_path`] with another start. Windows 10 names files below
+/// `\VOLUME{..}` and takes the hash of the same path from
+/// `\DEVICE\HARDDISKVOLUME2` or another number. Names take part that begin with
+/// the path of the volume, followed by nothing or by a backslash; `start`, bytes
+/// as a name has them, takes the place of that path.
+///
+/// ```
+/// use hivesaddle::{find_path, find_path_from, TestFile, TestVolume};
+/// let file = TestFile::new(23)
+///     .name("A.EXE")
+///     .hash_of(r"\DEVICE\HARDDISKVOLUME2\A.EXE")
+///     .file(r"\VOLUME{1}\A.EXE")
+///     .volume(TestVolume { path: r"\VOLUME{1}".into(), ..TestVolume::default() })
+///     .write()
+///     .unwrap();
+/// let start = r"\DEVICE\HARDDISKVOLUME2".encode_utf16().flat_map(u16::to_le_bytes);
+/// let start: Vec<u8> = start.collect();
+/// assert_eq!(find_path(&file), None);
+/// assert_eq!(find_path_from(&file, 0, &start).unwrap().entry, 0);
+/// assert_eq!(find_path_from(&file, 1, &start), None);
+/// ```
+pub fn find_path_from(file: &[u8], volume: u64, start: &[u8]) -> Option<FoundPath> {
+    let mut out = [0; 2];
+    let answer = unsafe {
+        raw::hs_find_path_from(
+            file.as_ptr(),
+            file.len(),
+            volume,
+            start.as_ptr(),
+            start.len(),
+            out.as_mut_ptr(),
+            out.len(),
+        )
+    };
+    yes(answer).then(|| FoundPath { entry: out[0], number: out[1] as u32 })
+}
+
 /// All entries that match, as [`find_path`] says it, ordered by number and
 /// then by entry. Gives how many there are. `pairs` takes entry and number of
 /// each, as many whole pairs as fit; all else of it stays as it was.

@@ -150,6 +150,16 @@ extern "C" {
     ) -> u32;
     /// `out`: entry index, number.
     pub fn hs_find_path(file: *const u8, length: usize, out: *mut u64, out_length: usize) -> u32;
+    /// `out`: entry index, number.
+    pub fn hs_find_path_from(
+        file: *const u8,
+        length: usize,
+        volume: u64,
+        start: *const u8,
+        start_length: usize,
+        out: *mut u64,
+        out_length: usize,
+    ) -> u32;
 }
 
 extern "C" {

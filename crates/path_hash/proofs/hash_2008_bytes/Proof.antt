@@ -5,7 +5,7 @@ use Rattle.path_hash.proofs.hash_2008_bytes.Statement.{statement}
 use Rattle.path_hash.proofs.hash_2008_bytes.Tie as tie
 
 returns : tie.Need-returns
-returns c = c .hash-bytes .ensures ∙ vista-2008 _
+returns c = c .carry-bytes .ensures ∙ vista-2008 _
 
 pub hash-2008-bytes-spec : {M : Type 1} → statement M
 hash-2008-bytes-spec = tie.close (tie.spec (λ c κs. search needs) returns)

@@ -5,7 +5,7 @@ use Rattle.path_hash.proofs.hash_xp_bytes.Statement.{statement}
 use Rattle.path_hash.proofs.hash_xp_bytes.Tie as tie
 
 returns : tie.Need-returns
-returns c = c .signed-end .ensures ∙ ap xpEnd (c .before .hash-bytes .ensures)
+returns c = c .xp-end .ensures ∙ ap xpEnd (c .before .carry-bytes .ensures)
 
 pub hash-xp-bytes-spec : {M : Type 1} → statement M
 hash-xp-bytes-spec = tie.close (tie.spec (λ c κs. search needs) (λ c κs. search needs) returns)

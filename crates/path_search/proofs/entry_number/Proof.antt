@@ -13,38 +13,35 @@ returns c =
     match-misfit _ _ _ _ _ _ (c .before .before .before .name-at .ensures) (c .before .before .name-units .ensures)
     (sym (c .before .name-fits .ensures) ∙ not-true _ (c .if1 .taken))
 
-part-name-hash-end : tie.Need-part-name-hash-end
-part-name-hash-end c =
+part-number-of-end : tie.Need-part-number-of-end
+part-number-of-end c =
     let h = fits-le _ _ _ (sym (c .before .name-fits .ensures) ∙ not-false _ (c .if1 .left)) in
     omega arith
 
 returns-2 : tie.Need-returns-2
 returns-2 c =
     let number = c .before in
-    let name = number .before in
-    let name-units = name .before .before .before .before in
+    let name-units = number .before .before .before .before in
     let name-at = name-units .before in
-    match-none _ _ _ _ _ _ (name-at .name-at .ensures) (name-units .name-units .ensures) refl (name .name-hash .ensures) (number .number-for .ensures)
+    match-none _ _ _ _ _ _ (name-at .name-at .ensures) (name-units .name-units .ensures) refl (number .number-of .ensures)
     (c .if2 .taken)
 
 returns-3 : tie.Need-returns-3
 returns-3 c =
     let sound = c .before in
     let number = sound .before .before in
-    let name = number .before in
-    let name-units = name .before .before .before .before in
+    let name-units = number .before .before .before .before in
     let name-at = name-units .before in
-    match-sound _ _ _ _ _ _ (name-at .name-at .ensures) (name-units .name-units .ensures) refl (name .name-hash .ensures) (number .number-for .ensures)
+    match-sound _ _ _ _ _ _ (name-at .name-at .ensures) (name-units .name-units .ensures) refl (number .number-of .ensures)
     (sound .name-sound .ensures) (c .if3 .taken)
 
 returns-4 : tie.Need-returns-4
 returns-4 c =
     let sound = c .before in
     let number = sound .before .before in
-    let name = number .before in
-    let name-units = name .before .before .before .before in
+    let name-units = number .before .before .before .before in
     let name-at = name-units .before in
-    match-unsound _ _ _ _ _ _ (name-at .name-at .ensures) (name-units .name-units .ensures) refl (name .name-hash .ensures) (number .number-for .ensures)
+    match-unsound _ _ _ _ _ _ (name-at .name-at .ensures) (name-units .name-units .ensures) refl (number .number-of .ensures)
     (sound .name-sound .ensures) (c .if3 .left)
 
 pub entry-number-spec : {M : Type 1} → statement M
@@ -61,8 +58,7 @@ entry-number-spec =
     (λ c. search needs)
     (λ c. search needs)
     (λ c. search needs)
-    part-name-hash-end
-    (λ c κs. search needs)
+    part-number-of-end
     (λ c κs. search needs)
     returns-2
     (λ c κs. search needs)

@@ -6,40 +6,38 @@ use native.Mathlib.Omega.{arith}
 use lib.ListN.{length}
 use Rattle.path_search.specs.Private.{numberIn}
 use Rattle.path_search.proofs.Least.{Lowest, lowest-start, lowest-less, lowest-same, lowest-end, lowest-at, lowest-none, lowest-zero}
-use Rattle.path_search.proofs.Laws.{metric-some, numbered-search}
+use Rattle.path_search.proofs.Laws.{metric-some}
 use borrow.Author.Needs.{needs}
 use Rattle.path_search.proofs.search.Statement.{statement}
 use Rattle.path_search.proofs.search.Tie as tie
 
 abbrev Inv-loop : tie.InvT-loop
-Inv-loop metrics strings version l stored entries least₀ index₀ i₀ least index i =
-    (i ≤ entries) × (0 < least) × Lowest (numberIn version l metrics strings stored) i least index
+Inv-loop metrics strings path l sought entries least₀ index₀ i₀ least index i =
+    (i ≤ entries) × (0 < least) × Lowest (numberIn sought path l metrics strings) i least index
 
 abbrev μ-loop : tie.MeasureT-loop
-μ-loop metrics strings version l stored entries least₀ index₀ i₀ least index i = entries - i
+μ-loop metrics strings path l sought entries least₀ index₀ i₀ least index i = entries - i
 
 div-entries : tie.Need-div-entries Inv-loop μ-loop
-div-entries c = metric-some _ (c .before .before .before .pre .1)
+div-entries c = metric-some _ (c .before .before .before .before .pre .1)
 
 loop-holds : tie.Need-loop-holds Inv-loop μ-loop
 loop-holds c = (omega arith, omega arith, lowest-start _)
 
 cast-entry-number : tie.Need-cast-entry-number Inv-loop μ-loop
 cast-entry-number c =
-    let start = c .before .before .before .before .before in
+    let start = c .before .before .before .before .before .before in
     omega (arith, start .pre .0, div-le-self (length (start .args .metrics .now)) (start .args .l .«metrics_entry»))
 
 returns : tie.Need-returns Inv-loop μ-loop
 returns c =
     let entry = c .before in
     let w = entry .before .before .loop in
-    let a = entry .before .before .before .before .before .before .args in
-    numbered-search (a .version) (a .l) _ _ _ _ (omega arith)
-    (lowest-zero _ _ _ _ _ _ (w .inv .2) (w .inv .1) (omega arith) (entry .entry-number .ensures) (c .if1 .taken))
+    lowest-zero _ _ _ _ _ _ (w .inv .2) (w .inv .1) (omega arith) (entry .entry-number .ensures) (c .if1 .taken)
 
 add-i : tie.Need-add-i Inv-loop μ-loop
 add-i c =
-    let start = c .before .before .before .before .before .before .before .before in
+    let start = c .before .before .before .before .before .before .before .before .before in
     omega (arith, start .pre .0, div-le-self (length (start .args .metrics .now)) (start .args .l .«metrics_entry»))
 
 loop-again : tie.Need-loop-again Inv-loop μ-loop
@@ -56,16 +54,14 @@ loop-again c =
 returns-2 : tie.Need-returns-2 Inv-loop μ-loop
 returns-2 c =
     let w = c .before .before .loop in
-    let a = c .before .before .before .before .before .before .args in
     let all = lowest-end _ _ (w .i) _ _ (w .inv .2) (w .inv .0) (c .before .loop-test .left) in
-    numbered-search (a .version) (a .l) _ _ _ _ (omega arith) (lowest-at _ _ _ _ all (c .if3 .taken))
+    lowest-at _ _ _ _ all (c .if3 .taken)
 
 returns-3 : tie.Need-returns-3 Inv-loop μ-loop
 returns-3 c =
     let w = c .before .before .loop in
-    let a = c .before .before .before .before .before .before .args in
     let all = lowest-end _ _ (w .i) _ _ (w .inv .2) (w .inv .0) (c .before .loop-test .left) in
-    numbered-search (a .version) (a .l) _ _ _ _ (omega arith) (lowest-none _ _ (w .least) (w .index) all (c .if3 .left))
+    lowest-none _ _ (w .least) (w .index) all (c .if3 .left)
 
 pub search-spec : {M : Type 1} → statement M
 search-spec =

@@ -5,8 +5,8 @@ use native.Mathlib.Omega.{arith}
 use borrow.Author.Needs.{needs}
 use Rattle.path_hash.specs.Hash.{xpEnd}
 use borrow.Author.Tests.{lt-ltb, le-ltb}
-use Rattle.path_hash.proofs.signed_end.Statement.{statement}
-use Rattle.path_hash.proofs.signed_end.Tie as tie
+use Rattle.path_hash.proofs.xp_end.Statement.{statement}
+use Rattle.path_hash.proofs.xp_end.Tie as tie
 
 returns : tie.Need-returns
 unfolding xpEnd
@@ -16,5 +16,5 @@ returns-2 : tie.Need-returns-2
 unfolding xpEnd
 returns-2 c = rw (le-ltb _ _ (c .if1 .left)) (ap (λ (x : ℕ). x % 1000000007) (omega arith))
 
-pub signed-end-spec : {M : Type 1} → statement M
-signed-end-spec = tie.close (tie.spec (λ c. search needs) (λ c. search needs) (λ c. search needs) (λ c. search needs) returns returns-2)
+pub xp-end-spec : {M : Type 1} → statement M
+xp-end-spec = tie.close (tie.spec (λ c. search needs) (λ c. search needs) (λ c. search needs) (λ c. search needs) returns returns-2)

@@ -7,8 +7,8 @@ use Rattle.lists.proofs.Table.{rest-all}
 use Rattle.path_hash.specs.Hash.{plain}
 use Rattle.path_hash.proofs.Laws.{plain-eight}
 use borrow.Author.Needs.{needs}
-use Rattle.path_hash.proofs.hash_bytes.Statement.{statement}
-use Rattle.path_hash.proofs.hash_bytes.Tie as tie
+use Rattle.path_hash.proofs.carry_bytes.Statement.{statement}
+use Rattle.path_hash.proofs.carry_bytes.Tie as tie
 
 abbrev Inv-loop : tie.InvT-loop
 Inv-loop from text h₀ i₀ h i = (i ≤ length text) × (plain h (drop i text) ≡ plain from text)
@@ -28,8 +28,8 @@ returns c =
     let b = c .before .before .before in
     c .plain-bytes .ensures ∙ rw (rest-all (b .loop .i) (b .before .before .args .text .now)) (b .loop .inv .1)
 
-pub hash-bytes-spec : {M : Type 1} → statement M
-hash-bytes-spec =
+pub carry-bytes-spec : {M : Type 1} → statement M
+carry-bytes-spec =
     tie.close
     (tie.spec
     Inv-loop
