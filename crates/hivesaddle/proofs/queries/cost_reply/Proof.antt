@@ -4,12 +4,11 @@ use Rattle.hivesaddle.proofs.queries.cost_reply.Statement.{statement}
 use Rattle.hivesaddle.proofs.queries.cost_reply.Tie as tie
 
 returns : tie.Need-returns
-returns c = rw (c .before .before .before .answer .given .1) (c .two .ensures)
+returns c = rw (c .before .before .answer .given .1) (c .two .ensures)
 
 returns-2 : tie.Need-returns-2
 returns-2 c = rw (c .before .enum-told .given .1) (c .two2 .ensures)
 
 pub cost-reply-spec : {M : Type 1} → statement M
 cost-reply-spec =
-    tie.close
-    (tie.spec (λ c. search needs) (λ c. search needs) (λ c κs. search needs) (λ c. search needs) (λ c κs. search needs) returns returns-2)
+    tie.close (tie.spec (λ c. search needs) (λ c κs. search needs) (λ c. search needs) (λ c κs. search needs) returns returns-2)
