@@ -17,7 +17,7 @@ use Rattle.little_endian.specs.Number.{le}
 use Rattle.layout.specs.Versions.{metricsEntry, volumeEntry}
 use Rattle.sections.specs.Fields.{part}
 use Rattle.head.specs.declared.checks.Opening.{Opening}
-use Rattle.names.specs.Names.{nameAt, nameUnits}
+use Rattle.names.specs.Names.{fits, nameAt, nameUnits}
 use Rattle.volumes.specs.Volumes.{entryAt, directoriesAt, directoryCount, referenceCount, referenceOf, volumeOf}
 use Rattle.volumes.specs.SoundVolume.{SoundDirectory, directoryAt}
 use Rattle.volumes.proofs.SoundVolume.{is-step}
@@ -142,7 +142,9 @@ module _ (p : List ℕ) (o : Opening) (a : Allowed p o) where
   names-few : NamesApart o p → namesCost o p ≤ o .head .strings .len
   unfolding namesCost
   names-few apart =
-      le-trans (sum-less (nameCost (o .layout) b (o .head .strings .len)) long n (λ k _. pick-most _ (long k)))
+      le-trans
+      (sum-less (nameCost (o .layout) b (o .head .strings .len)) long n
+      (λ k _. pick-most (fits (o .head .strings .len) (nameAt (o .layout) b k) (nameUnits (o .layout) b k)) (long k)))
       (intervals-fit (nameAt (o .layout) b) long (o .head .strings .len) n
       (λ k h. omega (arith, a .names k (omega arith) .inside, part-there (o .head .strings) p))
       (λ byte j k x y u v. apart byte j k (omega arith) (omega arith) (record { from = u .0; to = u .1 }) (record { from = v .0; to = v .1 })))

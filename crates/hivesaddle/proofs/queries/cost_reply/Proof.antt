@@ -11,5 +11,4 @@ returns-2 c = rw (c .before .enum-told .given .1) (c .two2 .ensures)
 
 pub cost-reply-spec : {M : Type 1} → statement M
 cost-reply-spec =
-    tie.close
-    (tie.spec (λ c. search needs) (λ c κs. search needs) (λ c. search needs) (λ c κs. search needs) returns returns-2)
+    tie.close (tie.spec (λ c. search needs) (λ c κs. search needs) (λ c. search needs) (λ c κs. search needs) returns returns-2)

@@ -12,4 +12,12 @@ returns-2 c = rw (c .before .enum-told .given .1) (c .three2 .ensures)
 pub entry-reference-reply-spec : {M : Type 1} → statement M
 entry-reference-reply-spec =
     tie.close
-    (tie.spec (λ c. search needs) (λ c. search needs) (λ c. search needs) (λ c κs. search needs) (λ c. search needs) (λ c κs. search needs) returns returns-2)
+    (tie.spec
+    (λ c. search needs)
+    (λ c. search needs)
+    (λ c. search needs)
+    (λ c κs. search needs)
+    (λ c. search needs)
+    (λ c κs. search needs)
+    returns
+    returns-2)
