@@ -24,23 +24,23 @@ example: hivesaddle catalogue examples/samples >catalogue.txt
 
 pub fn run(words: Vec<OsString>) -> Outcome {
     match Args::of_files(words, Known::default()) {
-        Ok(args) => written(catalogue(&args.operands)),
+        Ok(args) => written(|worst| catalogue(&args.operands, worst)),
         Err(message) => usage("catalogue", message),
     }
 }
 
-fn catalogue(operands: &[OsString]) -> io::Result<Outcome> {
+fn catalogue(operands: &[OsString], worst: &mut Outcome) -> io::Result<()> {
     let mut out = BufWriter::new(io::stdout().lock());
-    let worst = each_look(operands, |name, look| {
+    each_look(operands, worst, |name, look| {
         match look {
+            Look::Ahead => return out.flush(),
             Look::Accepted(_, record) => return write_line(&mut out, &record),
             Look::Refused(file, refusal) => complain(name, refusal::line(file, refusal)),
             Look::Troubled(trouble) => complain(name, trouble),
         }
         Ok(())
     })?;
-    out.flush()?;
-    Ok(worst)
+    out.flush()
 }
 
 fn write_line(out: &mut impl Write, record: &Record) -> io::Result<()> {

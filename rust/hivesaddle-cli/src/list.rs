@@ -85,25 +85,28 @@ pub fn run(words: Vec<OsString>) -> Outcome {
         Err(message) => return usage("list", message),
     };
     match Style::of(&args) {
-        Ok(style) => written(list(&args.operands, style)),
+        Ok(style) => written(|worst| list(&args.operands, style, worst)),
         Err(message) => usage("list", message),
     }
 }
 
-fn list(operands: &[OsString], style: Style) -> io::Result<Outcome> {
+fn list(operands: &[OsString], style: Style, worst: &mut Outcome) -> io::Result<()> {
     let titles = if style.is_for_programs() { FOR_PROGRAMS } else { FOR_PEOPLE };
     let mut table = Table::new(BufWriter::new(io::stdout().lock()), style, titles);
-    let worst = each_look(operands, |name, look| {
+    each_look(operands, worst, |name, look| {
+        if let Look::Ahead = look {
+            return table.flush();
+        }
         let row = Row::new(name, &look);
         table.row(if style.is_for_programs() { row.for_programs() } else { row.for_people() })
     })?;
-    table.end()?;
-    Ok(worst)
+    table.end()
 }
 
 impl Row {
     fn new(name: &OsStr, look: &Look) -> Row {
         let mut row = match look {
+            Look::Ahead => Row::default(),
             Look::Accepted(file, record) => Row::accepted(file, record),
             Look::Refused(file, refusal) => Row::refused(file, *refusal),
             Look::Troubled(trouble) => {

@@ -3,7 +3,7 @@
 use crate::args::{Args, Known};
 use crate::files::{Reader, Trouble};
 use crate::outcome::{complain, failed, usage, Outcome};
-use crate::output::{say, write};
+use crate::output::{say, write_made};
 use crate::text::{self, count};
 use crate::{odd, refusal};
 use hivesaddle::{
@@ -15,8 +15,9 @@ pub const HELP: &str = r"usage: hivesaddle make DESCRIPTION FILE
        hivesaddle make --list [NUMBER ..]
 
 Makes a test file of version 17 or 23 from a description in plain text, and says what is in it. A
-FILE that is there already is written over; - is standard output. A file that would be refused is
-not made, unless a line of the description is `odd`.
+FILE that is there already is written over, but no Prefetch file that Windows wrote; - is standard
+output. A file that would be refused is not made, unless a line of the description is `odd`; with
+that line files of versions 26 and 30 are made too, and of versions that nobody knows.
 
 A description has one thing on a line: a word, a blank, and what it says. Empty lines and lines that
 begin with # are passed over. Numbers are decimal, or hexadecimal after 0x. The first line says the
@@ -92,7 +93,7 @@ fn make(description: &OsStr, path: &OsStr) -> Outcome {
         TestFile::from_description(&text).map_err(shown)
     });
     match described.map(|described| described.make().map_err(|refusal| why(&described, refusal))) {
-        Ok(Ok(file)) => match write(path, &file, &[description.to_owned()]) {
+        Ok(Ok(file)) => match write_made(path, &file, &[description.to_owned()]) {
             // What it says would stand behind the file.
             Outcome::Done if path != "-" => say(summary(&file).as_bytes()),
             outcome => outcome,

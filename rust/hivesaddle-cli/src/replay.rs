@@ -54,12 +54,10 @@ fn replay(starts: &OsStr, recording: &OsStr) -> Result<Outcome, Outcome> {
     let starts: Vec<Start> = lines::read(starts)?.iter().map(|line| line.start).collect();
     let answers = answers(recording, &starts)?;
     let out = BufWriter::new(io::stdout().lock());
-    let shown = if io::stdout().is_terminal() {
-        show(out, &starts, &answers)
-    } else {
-        write(out, &answers)
-    };
-    Ok(written(shown.map(|()| Outcome::Done)))
+    Ok(written(|_| match io::stdout().is_terminal() {
+        true => show(out, &starts, &answers),
+        false => write(out, &answers),
+    }))
 }
 
 /// Bytes of a reading's line.

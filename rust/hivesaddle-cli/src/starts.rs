@@ -36,7 +36,7 @@ pub fn run(words: Vec<OsString>) -> Outcome {
         input_once(boards.iter().map(|(_, name)| name)).map(|()| boards)
     };
     match boards.and_then(once) {
-        Ok(boards) => written(write(&boards)),
+        Ok(boards) => written(|worst| write(&boards, worst)),
         Err(message) => usage("starts", message),
     }
 }
@@ -54,22 +54,20 @@ fn board(operand: &OsStr) -> Result<(u8, OsString), String> {
     })
 }
 
-fn write(boards: &[(u8, OsString)]) -> io::Result<Outcome> {
+fn write(boards: &[(u8, OsString)], worst: &mut Outcome) -> io::Result<()> {
     let mut out = BufWriter::new(io::stdout().lock());
-    let mut worst = Outcome::Done;
     for (board, name) in boards {
-        let outcome = each_look(std::slice::from_ref(name), |name, look| {
+        each_look(std::slice::from_ref(name), worst, |name, look| {
             match look {
+                Look::Ahead => return out.flush(),
                 Look::Accepted(_, record) => return write_starts(&mut out, *board, &record),
                 Look::Refused(file, refusal) => complain(name, refusal::line(file, refusal)),
                 Look::Troubled(trouble) => complain(name, trouble),
             }
             Ok(())
         })?;
-        worst = worst.worst(outcome);
     }
-    out.flush()?;
-    Ok(worst)
+    out.flush()
 }
 
 fn write_starts(out: &mut impl Write, board: u8, record: &Record) -> io::Result<()> {

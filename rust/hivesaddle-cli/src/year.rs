@@ -84,7 +84,7 @@ fn year(files: [&OsStr; 3], folders: &[OsString], out: Out) -> Result<Outcome, O
     let rows = inputs.table(recording)?;
     let names = Names::read(folders, rows.iter().map(|row| row.stored_hash));
     let made = match out {
-        Out::Table(style) => written(show(&rows, &names, style)),
+        Out::Table(style) => written(|_| show(&rows, &names, style)),
         Out::Page(out) => {
             let name = |hash| text::shown(&names.joined(hash));
             let page = Page { rows: &rows, name: &name, times: inputs.times() };
@@ -98,7 +98,7 @@ fn year(files: [&OsStr; 3], folders: &[OsString], out: Out) -> Result<Outcome, O
 const TITLES: &[&str] =
     &["hash", "program", "files", "runs", "readings", "lowest", "mean", "highest"];
 
-fn show(rows: &[YearRow], names: &Names, style: Style) -> io::Result<Outcome> {
+fn show(rows: &[YearRow], names: &Names, style: Style) -> io::Result<()> {
     let out = BufWriter::new(io::stdout().lock());
     let mut table = Table::new(out, style, TITLES);
     for row in rows {
@@ -118,5 +118,5 @@ fn show(rows: &[YearRow], names: &Names, style: Style) -> io::Result<Outcome> {
         });
         table.row(cells)?;
     }
-    table.end().map(|_| Outcome::Done)
+    table.end()
 }

@@ -126,6 +126,10 @@ impl DescribedFile {
     /// // Cut short, and a byte too long.
     /// assert_eq!(made("version 17\nfile-length 151").unwrap_err().number, 16);
     /// assert_eq!(made("version 17\nfile-length 153").unwrap_err().number, 17);
+    ///
+    /// // Versions that the writer does not write are odd, though the reader takes them.
+    /// assert_eq!(made("version 26\nbytes-at 8 11").unwrap_err().number, 1);
+    /// assert!(read_file_alloc(&made("version 26\nbytes-at 8 11\nodd").unwrap()).is_ok());
     /// ```
     pub fn make(&self) -> Result<Vec<u8>, Refusal> {
         if self.changes.is_empty() {
@@ -133,6 +137,9 @@ impl DescribedFile {
                 Err(_) if self.odd => Ok(self.file.lay_out()),
                 written => written,
             };
+        }
+        if let (false, Some(refusal)) = (self.odd, self.file.version_refusal()) {
+            return Err(refusal);
         }
         let mut bytes = self.file.lay_out();
         self.changes.iter().for_each(|change| change.apply(&mut bytes));

@@ -22,8 +22,11 @@ impl Names {
     pub fn read(files: &[OsString], hashes: impl Iterator<Item = u32>) -> Names {
         let mut of_hash: BTreeMap<u32, Vec<Vec<u8>>> =
             hashes.map(|hash| (hash, Vec::new())).collect();
-        let looked = each_look(files, |name, look| {
+        let mut outcome = Outcome::Done;
+        // Nothing is written here that could fail.
+        let _ = each_look(files, &mut outcome, |name, look| {
             match look {
+                Look::Ahead => {}
                 Look::Accepted(file, record) => {
                     if let Some(known) = of_hash.get_mut(&record.stored_hash) {
                         add(known, program_name(file).unwrap_or_default());
@@ -34,7 +37,7 @@ impl Names {
             }
             Ok(())
         });
-        Names { of_hash, outcome: looked.unwrap_or(Outcome::Failed) }
+        Names { of_hash, outcome }
     }
 
     /// All names of a hash, with commas between them; empty where none is known.
