@@ -30,7 +30,9 @@ version. What a file or a volume has one of is said once.
   run-time 133761942000000000  a FILETIME: tenths of microseconds since the start of 1601
   run-count 42
   file \DEVICE\..              a file that the program loaded
-  chain 3 1 4                  trace entries that lead to each other, by their block counts
+  chain 8 16 64                trace entries that lead to each other, by their second numbers: the
+                               papers call it block load count, and in files that Windows wrote it
+                               is a position, which rises along the chain
   volume \DEVICE\..            a volume; the next four words are about the last one
   serial 0x5C0A70E1
   created 129000000000000000   a FILETIME
@@ -42,7 +44,7 @@ For odd files, as they stand in the file:
   odd                          make the file also where it is refused
   name-units 65 0xD800 0 66    the program name by its UTF-16 units
   metrics OFFSET LENGTH        a metrics entry: its name's place in the strings, its units
-  trace NEXT BLOCKS            a trace entry; NEXT is an entry or `end`
+  trace NEXT NUMBER            a trace entry; NEXT is an entry or `end`, which version 30 has not
   strings-hex 41 00 00 00      bytes at the end of the strings so far
   volumes-hex 00 01 02         bytes at the end of the volumes section
   volume-count 3               another count than there are volumes

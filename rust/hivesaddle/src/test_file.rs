@@ -136,7 +136,8 @@ impl TestFile {
     }
 
     /// A chain of new trace entries, one for each block count, each leading to
-    /// the one behind it.
+    /// the one behind it. What the papers call a block count is a position in
+    /// files that Windows wrote, and rises along the chain.
     pub fn chain(mut self, block_counts: &[u32]) -> TestFile {
         for (i, &blocks) in block_counts.iter().enumerate() {
             let behind = (self.trace.len() / 2 + 1) as u32;

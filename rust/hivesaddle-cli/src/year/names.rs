@@ -2,6 +2,7 @@
 
 use crate::look::{each_look, Look};
 use crate::outcome::{complain, Outcome};
+use crate::pulls::Pull;
 use crate::refusal;
 use hivesaddle::program_name;
 use std::collections::BTreeMap;
@@ -38,6 +39,15 @@ impl Names {
             Ok(())
         });
         Names { of_hash, outcome }
+    }
+
+    /// The names that files read already have.
+    pub fn of_pulls(pulls: &[Pull]) -> Names {
+        let mut of_hash: BTreeMap<u32, Vec<Vec<u8>>> = BTreeMap::new();
+        for pull in pulls {
+            add(of_hash.entry(pull.record.stored_hash).or_default(), &pull.program);
+        }
+        Names { of_hash, outcome: Outcome::Done }
     }
 
     /// All names of a hash, with commas between them; empty where none is known.
