@@ -1,59 +1,83 @@
 //! `hivesaddle catalogue`: a catalogue line for each file.
 
 use crate::args::{Args, Known};
-use crate::look::{each_look, Look};
-use crate::outcome::{complain, usage, written, Outcome};
-use crate::refusal;
-use hivesaddle::{catalogue_write, CatalogueFields, Record, CATALOGUE_LINE_LENGTH};
+use crate::board::{sources, Source};
+use crate::outcome::{usage, written, Outcome};
+use crate::pulls::{each_pull, joined, Pull, Twice};
 use std::ffi::OsString;
 use std::io::{self, BufWriter, Write};
 
 pub const HELP: &str = "\
-usage: hivesaddle catalogue FILE|FOLDER ..
+usage: hivesaddle catalogue [--all] FILE|FOLDER|BOARD=FILE|BOARD=FOLDER ..
 
 A catalogue line for each file: 26 digits 0-9 A-F and a line feed, being size (8 digits), stored
 hash (8), run count (8) and version (2). Files that are refused, or that can't be read, go to
 standard error, a line each. `hivesaddle year` takes the lines.
 
+BOARD is the number of the board that the files were taken from, 0 to 255. Run counts are
+cumulative, so several pulls of one board must not be added up: files of one board, program name
+and hash are joined. In the order of their latest run time, then of their run count, a count at
+least as high takes the place of the one before. A lower one means that Windows began the file
+anew: both count, and standard error names it. A new beginning that has already passed the old count
+can't be seen. Without BOARD= nothing is joined, and what comes twice is warned of. A file whose
+name looks so is given as ./3=x.
+
 Of a folder, the files whose names end in .pf, or .PF, are taken, in the order of their names.
+
+  --all    a line for every file, joined or not
 
 Exit status: 0; 1 if a file was refused; 2 if one could not be read, or a folder has none.
 
-example: hivesaddle catalogue examples/samples >catalogue.txt
+example: hivesaddle catalogue 3=examples/samples >catalogue.txt
 ";
 
 pub fn run(words: Vec<OsString>) -> Outcome {
-    match Args::of_files(words, Known::default()) {
-        Ok(args) => written(catalogue(&args.operands)),
+    let args = Args::of_files(words, Known { flags: &["all"], valued: &[] });
+    let parsed = args.and_then(|args| Ok((sources(&args.operands)?, args.has("all"))));
+    match parsed {
+        Ok((sources, true)) => written(|worst| write_each(&sources, worst, |_| {})),
+        Ok((sources, false)) if sources.iter().all(|source| source.board.is_none()) => {
+            written(|worst| {
+                let mut twice = Twice::default();
+                write_each(&sources, worst, |pull| twice.add(pull))?;
+                twice.warn("catalogue".as_ref());
+                Ok(())
+            })
+        }
+        Ok((sources, false)) => written(|worst| write_joined(&sources, worst)),
         Err(message) => usage("catalogue", message),
     }
 }
 
-fn catalogue(operands: &[OsString]) -> io::Result<Outcome> {
+/// A line as soon as its file is read.
+fn write_each(
+    sources: &[Source],
+    worst: &mut Outcome,
+    mut see: impl FnMut(&Pull),
+) -> io::Result<()> {
     let mut out = BufWriter::new(io::stdout().lock());
-    let worst = each_look(operands, |name, look| {
-        match look {
-            Look::Accepted(_, record) => return write_line(&mut out, &record),
-            Look::Refused(file, refusal) => complain(name, refusal::line(file, refusal)),
-            Look::Troubled(trouble) => complain(name, trouble),
+    each_pull(sources, worst, |pull| match pull {
+        None => out.flush(),
+        Some(pull) => {
+            see(&pull);
+            out.write_all(&pull.line())
         }
-        Ok(())
     })?;
-    out.flush()?;
-    Ok(worst)
+    out.flush()
 }
 
-fn write_line(out: &mut impl Write, record: &Record) -> io::Result<()> {
-    let fields = CatalogueFields {
-        size: record.declared_size,
-        stored_hash: record.stored_hash,
-        run_count: record.run_count,
-        version: record.version,
-    };
-    let mut line = [0; CATALOGUE_LINE_LENGTH];
-    // The fields of an accepted file form a line.
-    match catalogue_write(fields, &mut line) {
-        Ok(()) => out.write_all(&line),
-        Err(refusal) => Err(io::Error::other(refusal::line(&[], refusal))),
+/// Which files are joined is known when all are read.
+fn write_joined(sources: &[Source], worst: &mut Outcome) -> io::Result<()> {
+    let (mut pulls, mut twice) = (Vec::new(), Twice::default());
+    each_pull(sources, worst, |pull| {
+        pulls.extend(pull.inspect(|pull| twice.add(pull)));
+        Ok(())
+    })?;
+    let mut out = BufWriter::new(io::stdout().lock());
+    for pull in joined(pulls, "catalogue".as_ref()) {
+        out.write_all(&pull.line())?;
     }
+    out.flush()?;
+    twice.warn("catalogue".as_ref());
+    Ok(())
 }

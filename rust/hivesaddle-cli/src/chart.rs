@@ -17,11 +17,15 @@ use std::ffi::{OsStr, OsString};
 pub const HELP: &str = "\
 usage: hivesaddle chart FILE OUT.svg
 
-Draws the loading chart: a row for each file that the program loaded, and along
-the axis a bar for each trace entry, as wide as its blocks, in the order of the
-walk along the chains. A browser opens it. The first chain is the first file's,
-and so on. Version 30 has no chains: there the entries stand in the order of the
-array, in the rows that name them.
+Draws the loading chart: a row for each file that the program loaded, with its
+number of trace entries and a map of where in the file they lie. Each row has a
+scale of its own, from 0 to its greatest position. A browser opens it. What all
+names begin with stands above the rows, which show their ends.
+
+The first chain of trace entries is the first file's, and so on. Version 30 has
+no chains: there each file names its entries. What the papers call the block
+load count of an entry rises along every chain in files that Windows wrote: it
+is a position, and is drawn as one and not added up.
 
 FILE may be -, standard input, and OUT.svg may be -, standard output. An OUT.svg
 that is there already is written over, unless it is a Prefetch file. A file that

@@ -27,14 +27,15 @@ example: hivesaddle make --list 13 >ring.txt
 
 pub fn run(words: Vec<OsString>) -> Outcome {
     match Args::of_files(words, Known::default()) {
-        Ok(args) => written(check(&args.operands)),
+        Ok(args) => written(|worst| check(&args.operands, worst)),
         Err(message) => usage("check", message),
     }
 }
 
-fn check(operands: &[OsString]) -> io::Result<Outcome> {
+fn check(operands: &[OsString], worst: &mut Outcome) -> io::Result<()> {
     let mut out = BufWriter::new(io::stdout().lock());
-    let worst = each_look(operands, |name, look| match look {
+    each_look(operands, worst, |name, look| match look {
+        Look::Ahead => out.flush(),
         Look::Accepted(..) => writeln!(out, "{}: accepted", text::shown_name(name)),
         Look::Refused(file, refusal) => out.write_all(refused(name, file, refusal).as_bytes()),
         Look::Troubled(trouble) => {
@@ -42,8 +43,7 @@ fn check(operands: &[OsString]) -> io::Result<Outcome> {
             Ok(())
         }
     })?;
-    out.flush()?;
-    Ok(worst)
+    out.flush()
 }
 
 fn refused(name: &OsStr, file: &[u8], refusal: Refusal) -> String {

@@ -11,8 +11,10 @@ use std::time::SystemTime;
 
 /// The largest Prefetch file that the library reads.
 pub const LARGEST: usize = 67_108_864;
-/// Stands for standard input.
-const INPUT: &str = "-";
+/// Stands for standard input, and as an output for standard output.
+pub const INPUT: &str = "-";
+/// Bytes from which on a file may take more than a moment to look at.
+const LONG: u64 = 262_144;
 /// Names of a folder that are held at a time, so that a folder of any size is
 /// gone through in order with bounded memory.
 const HELD: usize = 8_192;
@@ -130,6 +132,12 @@ fn may_be_file(entry: &DirEntry) -> io::Result<bool> {
 fn has_ending(name: &OsStr) -> bool {
     let ending = Path::new(name).extension();
     ending.is_some_and(|ending| ending.eq_ignore_ascii_case("pf"))
+}
+
+/// Whether a file is large, or has to be waited for, as a pipe.
+pub fn takes_long(name: &OsStr) -> bool {
+    let is_short = |data: Metadata| data.is_file() && data.len() < LONG;
+    name == INPUT || fs::metadata(name).is_ok_and(|data| !is_short(data))
 }
 
 /// Reads one file after another into the same memory.

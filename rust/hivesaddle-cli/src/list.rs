@@ -3,10 +3,11 @@
 use crate::args::{Args, Known};
 use crate::look::{each_look, Look};
 use crate::outcome::{usage, written, Outcome};
+use crate::path::{self, How};
 use crate::refusal;
 use crate::table::{Cell, Style, Table};
 use crate::time;
-use hivesaddle::{entry_name, find_path, program_name, Record, Refusal};
+use hivesaddle::{program_name, Record, Refusal};
 use std::ffi::{OsStr, OsString};
 use std::io::{self, BufWriter};
 
@@ -16,8 +17,10 @@ usage: hivesaddle list [--csv | --json] FILE|FOLDER ..
 A row for each file: its name, the program's name, the stored hash, the version, how often the
 program ran and when last (UTC), how many files it loaded, in how many chains, from how many
 volumes, and its path, if one of the files loaded has the stored hash. A path with (+6) behind it
-has the hash less 6, which the program's /prefetch switch added. A file that is refused, or that
-can't be read, has a row too, with the problem in place of the path; `hivesaddle check` says more.
+has the hash less 6, which the program's /prefetch switch added. Where no file has the hash, the one
+with the program's name is shown, with (by name) behind it: the hash of a hosting program, such as
+SVCHOST.EXE, covers its command line too, and no path has it. A file that is refused, or that can't
+be read, has a row too, with the problem in place of the path; `hivesaddle check` says more.
 
 What is not printable in a name is shown as an escape, \\u{1B}. JSON has each name as it is.
 
@@ -64,6 +67,7 @@ const FOR_PROGRAMS: &[&str] = &[
     "index",
     "offset",
     "problem",
+    "path_found",
 ];
 
 /// One file's row, as its columns are for programs.
@@ -73,7 +77,7 @@ struct Row {
     name: Cell,
     record: [Cell; 7],
     path: Cell,
-    path_number: u32,
+    how: Option<How>,
     refusal: [Cell; 3],
     problem: Cell,
 }
@@ -85,25 +89,28 @@ pub fn run(words: Vec<OsString>) -> Outcome {
         Err(message) => return usage("list", message),
     };
     match Style::of(&args) {
-        Ok(style) => written(list(&args.operands, style)),
+        Ok(style) => written(|worst| list(&args.operands, style, worst)),
         Err(message) => usage("list", message),
     }
 }
 
-fn list(operands: &[OsString], style: Style) -> io::Result<Outcome> {
+fn list(operands: &[OsString], style: Style, worst: &mut Outcome) -> io::Result<()> {
     let titles = if style.is_for_programs() { FOR_PROGRAMS } else { FOR_PEOPLE };
     let mut table = Table::new(BufWriter::new(io::stdout().lock()), style, titles);
-    let worst = each_look(operands, |name, look| {
+    each_look(operands, worst, |name, look| {
+        if let Look::Ahead = look {
+            return table.flush();
+        }
         let row = Row::new(name, &look);
         table.row(if style.is_for_programs() { row.for_programs() } else { row.for_people() })
     })?;
-    table.end()?;
-    Ok(worst)
+    table.end()
 }
 
 impl Row {
     fn new(name: &OsStr, look: &Look) -> Row {
         let mut row = match look {
+            Look::Ahead => Row::default(),
             Look::Accepted(file, record) => Row::accepted(file, record),
             Look::Refused(file, refusal) => Row::refused(file, *refusal),
             Look::Troubled(trouble) => {
@@ -115,8 +122,7 @@ impl Row {
     }
 
     fn accepted(file: &[u8], record: &Record) -> Row {
-        let found = find_path(file);
-        let path = found.and_then(|found| entry_name(file, found.entry));
+        let found = path::find(file, record);
         Row {
             name: Cell::units(program_name(file)),
             record: [
@@ -128,8 +134,8 @@ impl Row {
                 Cell::Number(record.chain_count.into()),
                 Cell::Number(record.volume_count.into()),
             ],
-            path: Cell::units(path),
-            path_number: found.map_or(0, |found| found.number),
+            path: Cell::units(found.as_ref().map(|found| found.path)),
+            how: found.map(|found| found.how),
             ..Row::default()
         }
     }
@@ -145,18 +151,27 @@ impl Row {
     }
 
     fn for_programs(self) -> Vec<Cell> {
-        let number = match self.path {
-            Cell::Empty => Cell::Empty,
-            _ => Cell::Number(self.path_number.into()),
+        let (number, how) = match self.how {
+            Some(How::Hash(number)) => (Cell::Number(number.into()), Cell::words("hash")),
+            Some(How::Name) => (Cell::Empty, Cell::words("name")),
+            None if self.problem == Cell::Empty => (Cell::Empty, Cell::words(path::NONE)),
+            None => (Cell::Empty, Cell::Empty),
         };
         let start = [self.file, self.name].into_iter().chain(self.record);
-        start.chain([self.path, number]).chain(self.refusal).chain([self.problem]).collect()
+        let refusal = self.refusal.into_iter().chain([self.problem]);
+        start.chain([self.path, number]).chain(refusal).chain([how]).collect()
     }
 
     fn for_people(self) -> Vec<Cell> {
-        let last = match (self.problem, self.path_number) {
-            (Cell::Empty, 0) => self.path,
-            (Cell::Empty, number) => Cell::Words(format!("{} (+{number})", self.path.shown())),
+        let last = match (self.problem, self.how) {
+            (Cell::Empty, Some(How::Hash(0))) => self.path,
+            (Cell::Empty, Some(How::Hash(n))) => {
+                Cell::Words(format!("{} (+{n})", self.path.shown()))
+            }
+            (Cell::Empty, Some(How::Name)) => {
+                Cell::Words(format!("{} (by name)", self.path.shown()))
+            }
+            (Cell::Empty, None) => Cell::words(path::NONE),
             (problem, _) => problem,
         };
         [self.file, self.name].into_iter().chain(self.record).chain([last]).collect()

@@ -1,7 +1,7 @@
 //! One file after another before the library's reader, with the same memory for
 //! all.
 
-use crate::files::{each_file, Reader, Trouble};
+use crate::files::{each_file, takes_long, Reader, Trouble};
 use crate::outcome::Outcome;
 use hivesaddle::{places, read_file, Record, Refusal};
 use std::ffi::{OsStr, OsString};
@@ -9,6 +9,9 @@ use std::io;
 
 /// What became of a file.
 pub enum Look<'a> {
+    /// Nothing yet, and it will take a while: what is written so far should be
+    /// there to see.
+    Ahead,
     Accepted(&'a [u8], Record),
     Refused(&'a [u8], Refusal),
     Troubled(Trouble),
@@ -17,26 +20,28 @@ pub enum Look<'a> {
 impl Look<'_> {
     pub fn outcome(&self) -> Outcome {
         match self {
-            Look::Accepted(..) => Outcome::Done,
+            Look::Ahead | Look::Accepted(..) => Outcome::Done,
             Look::Refused(..) => Outcome::Refused,
             Look::Troubled(_) => Outcome::Failed,
         }
     }
 }
 
-/// Looks at each file named, those of folders too. Gives the worst outcome.
+/// Looks at each file named, those of folders too, and notes the worst outcome.
 pub fn each_look(
     operands: &[OsString],
+    worst: &mut Outcome,
     mut show: impl FnMut(&OsStr, Look) -> io::Result<()>,
-) -> io::Result<Outcome> {
+) -> io::Result<()> {
     let mut looker = Looker::default();
-    let mut worst = Outcome::Done;
     each_file(operands, |name, trouble| {
+        if trouble.is_none() && takes_long(name) {
+            show(name, Look::Ahead)?;
+        }
         let look = trouble.map_or_else(|| looker.look(name), Look::Troubled);
-        worst = worst.worst(look.outcome());
+        worst.note(look.outcome());
         show(name, look)
-    })?;
-    Ok(worst)
+    })
 }
 
 #[derive(Default)]

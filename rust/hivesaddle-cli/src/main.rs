@@ -1,6 +1,8 @@
 //! `hivesaddle`: what the library can do, from one command.
 
+mod age;
 mod args;
+mod board;
 mod catalogue;
 mod chart;
 mod check;
@@ -14,6 +16,8 @@ mod odd;
 mod outcome;
 mod output;
 mod page;
+mod path;
+mod pulls;
 mod refusal;
 mod replay;
 mod single;

@@ -3,7 +3,7 @@
 use crate::args::{Args, Known};
 use crate::files::{Reader, Trouble};
 use crate::outcome::{complain, failed, usage, Outcome};
-use crate::output::{say, write};
+use crate::output::{say, write_made};
 use crate::text::{self, count};
 use crate::{odd, refusal};
 use hivesaddle::{
@@ -15,8 +15,9 @@ pub const HELP: &str = r"usage: hivesaddle make DESCRIPTION FILE
        hivesaddle make --list [NUMBER ..]
 
 Makes a test file of version 17 or 23 from a description in plain text, and says what is in it. A
-FILE that is there already is written over; - is standard output. A file that would be refused is
-not made, unless a line of the description is `odd`.
+FILE that is there already is written over, but no Prefetch file that Windows wrote; - is standard
+output. A file that would be refused is not made, unless a line of the description is `odd`; with
+that line files of versions 26 and 30 are made too, and of versions that nobody knows.
 
 A description has one thing on a line: a word, a blank, and what it says. Empty lines and lines that
 begin with # are passed over. Numbers are decimal, or hexadecimal after 0x. The first line says the
@@ -29,7 +30,9 @@ version. What a file or a volume has one of is said once.
   run-time 133761942000000000  a FILETIME: tenths of microseconds since the start of 1601
   run-count 42
   file \DEVICE\..              a file that the program loaded
-  chain 3 1 4                  trace entries that lead to each other, by their block counts
+  chain 8 16 64                trace entries that lead to each other, by their second numbers: the
+                               papers call it block load count, and in files that Windows wrote it
+                               is a position, which rises along the chain
   volume \DEVICE\..            a volume; the next four words are about the last one
   serial 0x5C0A70E1
   created 129000000000000000   a FILETIME
@@ -41,7 +44,7 @@ For odd files, as they stand in the file:
   odd                          make the file also where it is refused
   name-units 65 0xD800 0 66    the program name by its UTF-16 units
   metrics OFFSET LENGTH        a metrics entry: its name's place in the strings, its units
-  trace NEXT BLOCKS            a trace entry; NEXT is an entry or `end`
+  trace NEXT NUMBER            a trace entry; NEXT is an entry or `end`, which version 30 has not
   strings-hex 41 00 00 00      bytes at the end of the strings so far
   volumes-hex 00 01 02         bytes at the end of the volumes section
   volume-count 3               another count than there are volumes
@@ -92,7 +95,7 @@ fn make(description: &OsStr, path: &OsStr) -> Outcome {
         TestFile::from_description(&text).map_err(shown)
     });
     match described.map(|described| described.make().map_err(|refusal| why(&described, refusal))) {
-        Ok(Ok(file)) => match write(path, &file, &[description.to_owned()]) {
+        Ok(Ok(file)) => match write_made(path, &file, &[description.to_owned()]) {
             // What it says would stand behind the file.
             Outcome::Done if path != "-" => say(summary(&file).as_bytes()),
             outcome => outcome,

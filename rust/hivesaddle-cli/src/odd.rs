@@ -46,7 +46,10 @@ const ODD: [Odd; 17] = [
     odd(15, "a directory without a zero behind it", "bytes-at 784 41 00"),
     odd(16, "a file that ends too early", "file-length 700"),
     odd(17, "a file that goes on behind its declared size", "file-length 2000"),
-    Odd { version: 30, ..odd(21, "a head of version 30 in a form that is not known", "") },
+    Odd {
+        version: 30,
+        ..odd(21, "a head of version 30 in a form that is not known", "bytes-at 84 28 01 00 00")
+    },
 ];
 
 /// Their numbers, rising.

@@ -21,6 +21,10 @@ impl Outcome {
     pub fn worst(self, other: Outcome) -> Outcome {
         self.max(other)
     }
+
+    pub fn note(&mut self, other: Outcome) {
+        *self = self.worst(other);
+    }
 }
 
 impl From<Outcome> for ExitCode {
@@ -52,12 +56,17 @@ pub fn usage(command: &str, message: impl Display) -> Outcome {
     failed(command.as_ref(), format_args!("{message}; see hivesaddle help {command}"))
 }
 
-/// What a command comes to that writes to standard output. A reader that has
-/// seen enough, as `head`, is no error.
-pub fn written(result: io::Result<Outcome>) -> Outcome {
-    match result {
-        Ok(outcome) => outcome,
-        Err(error) if error.kind() == io::ErrorKind::BrokenPipe => Outcome::Done,
+/// What a command comes to that writes to standard output, and notes the worst
+/// as it goes. A reader that has seen enough, as `head`, is no error: what was
+/// noted until then stands.
+///
+/// An output that was closed before the program began, `>&-`, is not seen: the
+/// standard library opens the null device in its place.
+pub fn written(write: impl FnOnce(&mut Outcome) -> io::Result<()>) -> Outcome {
+    let mut worst = Outcome::Done;
+    match write(&mut worst) {
+        Ok(()) => worst,
+        Err(error) if error.kind() == io::ErrorKind::BrokenPipe => worst,
         Err(error) => failed("standard output".as_ref(), plain(&error)),
     }
 }

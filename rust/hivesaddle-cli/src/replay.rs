@@ -1,23 +1,26 @@
 //! `hivesaddle replay`: the reading that each start has in a recording.
 
+mod boards;
 mod input;
 mod line;
 mod progress;
 
 pub use input::{has_no_lines, refused, Input};
-pub use line::refuse_line;
+pub use line::{refuse_catalogue_line, refuse_line};
 
+use crate::age;
 use crate::args::{input_once, Args, Known};
-use crate::outcome::{usage, written, Outcome};
-use crate::starts::lines;
+use crate::outcome::{complain, usage, written, Outcome};
+use crate::starts::lines::{self, StartLine};
 use crate::table::{Cell, Style, Table};
 use crate::time;
-use hivesaddle::{Reading, Replay, Start};
+use boards::Boards;
+use hivesaddle::{catalogue_read, Reading, Replay, Start};
 use std::ffi::{OsStr, OsString};
 use std::io::{self, BufWriter, IsTerminal, Write};
 
 pub const HELP: &str = "\
-usage: hivesaddle replay STARTS RECORDING
+usage: hivesaddle replay [--within AGE] STARTS RECORDING
 
 Writes for each start, in their order, the reading of its board with the
 greatest time not after the start's: 22 digits, or none. On a terminal these are
@@ -29,6 +32,11 @@ RECORDING has a line of 22 digits for each reading: run time (16), board (2) and
 temperature (4), tenths of a degree in two's complement, so FF38 is 20.0 below
 zero. It may be of any length. One of the two may be -, standard input.
 
+  --within AGE    a reading that is older at the start is none; AGE is a number
+                  and s, m, h or d, as 90m
+
+A board of the starts that has no reading at all is named on standard error.
+
 A line that is something else is refused with 22, and no answer is given.
 
 Exit status: 0; 1 if a line was refused; 2 if a file could not be read.
@@ -37,29 +45,38 @@ example: hivesaddle replay examples/year/starts.txt examples/year/chamber.txt
 ";
 
 pub fn run(words: Vec<OsString>) -> Outcome {
-    let operands = match Args::split(words, Known::default()) {
-        Ok(args) => args.operands,
+    let args = match Args::split(words, Known { flags: &[], valued: &["within"] }) {
+        Ok(args) => args,
         Err(message) => return usage("replay", message),
     };
-    match &operands[..] {
-        [starts, recording] => match input_once(&operands) {
-            Ok(()) => replay(starts, recording).unwrap_or_else(|stopped| stopped),
-            Err(message) => usage("replay", message),
-        },
-        _ => usage("replay", "it takes two files, STARTS and RECORDING"),
+    let [starts, recording] = &args.operands[..] else {
+        return usage("replay", "it takes two files, STARTS and RECORDING");
+    };
+    match input_once(&args.operands).and_then(|()| within(&args)) {
+        Ok(within) => replay(starts, recording, within).unwrap_or_else(|stopped| stopped),
+        Err(message) => usage("replay", message),
     }
 }
 
-fn replay(starts: &OsStr, recording: &OsStr) -> Result<Outcome, Outcome> {
-    let starts: Vec<Start> = lines::read(starts)?.iter().map(|line| line.start).collect();
-    let answers = answers(recording, &starts)?;
+/// The greatest age of a reading that counts.
+pub fn within(args: &Args) -> Result<u64, String> {
+    let given = args.value("within").map(|age| age::parse(&age.to_string_lossy()));
+    given.unwrap_or(Ok(u64::MAX))
+}
+
+fn replay(starts_file: &OsStr, recording: &OsStr, within: u64) -> Result<Outcome, Outcome> {
+    let lines = lines::read(starts_file)?;
+    let starts: Vec<Start> = lines.iter().map(|line| line.start).collect();
+    let answers = answers(recording, &starts, within)?;
+    if !starts.is_empty() && answers.iter().all(Option::is_none) && are_of_catalogue(&lines) {
+        let are = "every line reads as a catalogue line, and no start has a reading";
+        complain(starts_file, format_args!("{are}; is it the file that hivesaddle starts wrote?"));
+    }
     let out = BufWriter::new(io::stdout().lock());
-    let shown = if io::stdout().is_terminal() {
-        show(out, &starts, &answers)
-    } else {
-        write(out, &answers)
-    };
-    Ok(written(shown.map(|()| Outcome::Done)))
+    Ok(written(|_| match io::stdout().is_terminal() {
+        true => show(out, &starts, &answers),
+        false => write(out, &answers),
+    }))
 }
 
 /// Bytes of a reading's line.
@@ -69,24 +86,47 @@ const LOOKED_AT: usize = 64;
 
 /// What a recording says about each start. It is read in pieces, so that memory
 /// does not grow with its length.
-pub fn answers(recording: &OsStr, starts: &[Start]) -> Result<Vec<Option<Reading>>, Outcome> {
+/// A reading that is older at the start than is allowed is none.
+pub fn answers(
+    recording: &OsStr,
+    starts: &[Start],
+    within: u64,
+) -> Result<Vec<Option<Reading>>, Outcome> {
     let mut replay = Replay::new(starts);
+    let mut boards = Boards::default();
     let mut input = Input::open(recording)?;
     let mut is_empty = true;
     input.each_piece(|piece| {
         is_empty = false;
         replay.feed(piece);
+        boards.feed(piece);
         replay.bad_line().is_none()
     })?;
     if is_empty {
         has_no_lines(recording);
     }
-    replay.finish().map_err(|bad| {
+    let answers = replay.finish().map_err(|bad| {
         // All lines before it are readings.
         let bytes = input.bytes_at(READING * (bad.line - 1), LOOKED_AT);
         let rule = "reading, 22 digits 0-9 A-F and a line feed";
         refuse_line(recording, bad.line, rule, &bytes, LOOKED_AT)
-    })
+    })?;
+    if !is_empty {
+        boards.warn(recording, starts);
+    }
+    let in_time = |(start, answer): (&Start, Option<Reading>)| {
+        answer.filter(|reading| start.time - reading.time <= within)
+    };
+    Ok(starts.iter().zip(answers).map(in_time).collect())
+}
+
+/// Lines of starts and of the catalogue both have 26 digits.
+fn are_of_catalogue(lines: &[StartLine]) -> bool {
+    let is_line = |line: &StartLine| {
+        let digits = line.stored_hash.map(|hash| lines::line(line.start, hash) + "\n");
+        digits.is_some_and(|digits| catalogue_read(digits.as_bytes()).is_ok())
+    };
+    lines.iter().all(is_line)
 }
 
 /// For programs: the digits as they stand in the recording.
@@ -104,17 +144,25 @@ fn write(mut out: impl Write, answers: &[Option<Reading>]) -> io::Result<()> {
 
 /// For people.
 fn show(out: impl Write, starts: &[Start], answers: &[Option<Reading>]) -> io::Result<()> {
-    let titles = &["start", "board", "reading", "degrees"];
+    let titles = &["start", "board", "reading", "degrees", "age"];
     let mut table = Table::new(out, Style::Aligned, titles);
     let time = |filetime| time::iso(filetime).map_or(Cell::words("time 0"), Cell::Words);
     for (start, answer) in starts.iter().zip(answers) {
-        let (read_at, degrees) = match answer {
-            Some(Reading { time: at, temperature, .. }) => {
-                (time(*at), Cell::Decimal(degrees(i64::from(*temperature))))
-            }
-            None => (Cell::words("none"), Cell::Empty),
+        let [read_at, degrees, age] = match answer {
+            Some(Reading { time: at, temperature, .. }) => [
+                time(*at),
+                Cell::Decimal(degrees(i64::from(*temperature))),
+                Cell::words(age::shown(start.time - at)),
+            ],
+            None => [Cell::words("none"), Cell::Empty, Cell::Empty],
         };
-        table.row(vec![time(start.time), Cell::Number(start.board.into()), read_at, degrees])?;
+        table.row(vec![
+            time(start.time),
+            Cell::Number(start.board.into()),
+            read_at,
+            degrees,
+            age,
+        ])?;
     }
     table.end().map(|_| ())
 }

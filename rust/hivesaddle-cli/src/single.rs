@@ -27,24 +27,26 @@ impl Single {
             Err(message) => return usage(self.command, message),
         };
         match (&args.operands[..], Style::of(&args)) {
-            ([name], Ok(style)) => written(self.show(name, style)),
+            ([name], Ok(style)) => written(|worst| self.show(name, style, worst)),
             (_, Ok(_)) => usage(self.command, "one file is wanted"),
             (_, Err(message)) => usage(self.command, message),
         }
     }
 
-    fn show(&self, name: &OsStr, style: Style) -> io::Result<Outcome> {
+    fn show(&self, name: &OsStr, style: Style, worst: &mut Outcome) -> io::Result<()> {
         let mut looker = Looker::default();
         let look = looker.look(name);
+        worst.note(look.outcome());
         match look {
+            Look::Ahead => {}
             Look::Accepted(file, _) => self.write(file, style)?,
             Look::Refused(file, refusal) => {
                 self.write(file, style)?;
                 complain(name, refusal::line(file, refusal));
             }
-            Look::Troubled(ref trouble) => complain(name, trouble),
+            Look::Troubled(trouble) => complain(name, trouble),
         }
-        Ok(look.outcome())
+        Ok(())
     }
 
     fn write(&self, file: &[u8], style: Style) -> io::Result<()> {

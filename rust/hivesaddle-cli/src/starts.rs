@@ -2,12 +2,11 @@
 
 pub mod lines;
 
-use crate::args::{input_once, Args, Known};
-use crate::look::{each_look, Look};
-use crate::outcome::{complain, usage, written, Outcome};
-use crate::{refusal, text};
-use hivesaddle::{Record, Start};
-use std::ffi::{OsStr, OsString};
+use crate::args::{Args, Known};
+use crate::board::{sources_of_boards, Source};
+use crate::outcome::{usage, written, Outcome};
+use crate::pulls::{each_pull, Once};
+use std::ffi::OsString;
 use std::io::{self, BufWriter, Write};
 
 pub const HELP: &str = "\
@@ -19,7 +18,10 @@ board that the files were taken from, 0 to 255. The year and the replay take
 such lines.
 
 Files of versions 17 and 23 tell of the last start, those of 26 and 30 of the
-last eight. A file that is refused goes to standard error.
+last eight. Several pulls of one board tell of more: a start is written once for
+its board, program name, hash and time, however often it stands, and standard
+error says how many stood more than once. A file that is refused goes to
+standard error.
 
 Exit status: 0; 1 if a file was refused; 2 if one could not be read.
 
@@ -27,55 +29,24 @@ example: hivesaddle starts 3=examples/samples/small.pf >starts.txt
 ";
 
 pub fn run(words: Vec<OsString>) -> Outcome {
-    let operands = match Args::of_files(words, Known::default()) {
-        Ok(args) => args.operands,
-        Err(message) => return usage("starts", message),
-    };
-    let boards: Result<Vec<_>, String> = operands.iter().map(|operand| board(operand)).collect();
-    let once = |boards: Vec<(u8, OsString)>| {
-        input_once(boards.iter().map(|(_, name)| name)).map(|()| boards)
-    };
-    match boards.and_then(once) {
-        Ok(boards) => written(write(&boards)),
+    let args = Args::of_files(words, Known::default());
+    match args.and_then(|args| sources_of_boards(&args.operands)) {
+        Ok(sources) => written(|worst| write(&sources, worst)),
         Err(message) => usage("starts", message),
     }
 }
 
-/// The number before the first `=`, and the name behind it.
-fn board(operand: &OsStr) -> Result<(u8, OsString), String> {
-    let parts = operand.to_str().and_then(|operand| operand.split_once('='));
-    let parts = parts.filter(|parts| !parts.1.is_empty());
-    // A plus sign would pass as part of a number.
-    let is_number = |digits: &str| digits.bytes().all(|byte| byte.is_ascii_digit());
-    let board = parts.filter(|parts| is_number(parts.0)).and_then(|parts| parts.0.parse().ok());
-    board.zip(parts.map(|parts| parts.1.into())).ok_or_else(|| {
-        let operand = text::shown_name(operand);
-        format!("{operand} is not BOARD=FILE with a board from 0 to 255, as in 3=FOLDER")
-    })
-}
-
-fn write(boards: &[(u8, OsString)]) -> io::Result<Outcome> {
+fn write(sources: &[Source], worst: &mut Outcome) -> io::Result<()> {
+    let mut once = Once::default();
     let mut out = BufWriter::new(io::stdout().lock());
-    let mut worst = Outcome::Done;
-    for (board, name) in boards {
-        let outcome = each_look(std::slice::from_ref(name), |name, look| {
-            match look {
-                Look::Accepted(_, record) => return write_starts(&mut out, *board, &record),
-                Look::Refused(file, refusal) => complain(name, refusal::line(file, refusal)),
-                Look::Troubled(trouble) => complain(name, trouble),
-            }
-            Ok(())
-        })?;
-        worst = worst.worst(outcome);
-    }
+    each_pull(sources, worst, |pull| match pull {
+        None => out.flush(),
+        Some(pull) => once
+            .new_starts(&pull)
+            .into_iter()
+            .try_for_each(|start| writeln!(out, "{}", lines::line(start, pull.record.stored_hash))),
+    })?;
     out.flush()?;
-    Ok(worst)
-}
-
-fn write_starts(out: &mut impl Write, board: u8, record: &Record) -> io::Result<()> {
-    // A time of 0 is a start that has not been.
-    for &time in record.times().iter().filter(|time| **time != 0) {
-        writeln!(out, "{}", lines::line(Start { time, board }, record.stored_hash))?;
-    }
+    once.say("starts".as_ref());
     Ok(())
 }

@@ -184,6 +184,12 @@ impl<W: Write> Table<W> {
         Ok(())
     }
 
+    /// Writes what there is, aligned or not with what follows.
+    pub fn flush(&mut self) -> io::Result<()> {
+        self.write_block()?;
+        self.out.flush()
+    }
+
     /// Writes what is left.
     pub fn end(mut self) -> io::Result<()> {
         match self.style {

@@ -52,7 +52,7 @@ impl TestFile {
     /// run-time 133761942000000000  a FILETIME
     /// run-count 42
     /// file \DEVICE\..              a file that the program read
-    /// chain 3 1 4                  trace entries that lead to each other, by their block counts
+    /// chain 8 16 64                trace entries that lead to each other, by their second numbers
     /// volume \DEVICE\..            a volume; the next four words are about the last one
     /// serial 0x5C0A70E1
     /// created 129000000000000000   a FILETIME
@@ -66,7 +66,7 @@ impl TestFile {
     /// odd                          make the file also where the reader refuses it
     /// name-units 65 0xD800 0 66    the program name by its units
     /// metrics OFFSET LENGTH        a metrics entry: its name's place in the strings, its units
-    /// trace NEXT BLOCKS            a trace entry; NEXT is an entry or `end`
+    /// trace NEXT NUMBER            a trace entry; NEXT is an entry or `end`
     /// strings-hex 41 00 00 00      bytes at the end of the strings so far
     /// volumes-hex 00 01 02         bytes at the end of the volumes section
     /// volume-count 3               another count than there are volumes
@@ -126,6 +126,10 @@ impl DescribedFile {
     /// // Cut short, and a byte too long.
     /// assert_eq!(made("version 17\nfile-length 151").unwrap_err().number, 16);
     /// assert_eq!(made("version 17\nfile-length 153").unwrap_err().number, 17);
+    ///
+    /// // Versions that the writer does not write are odd, though the reader takes them.
+    /// assert_eq!(made("version 26\nbytes-at 8 11").unwrap_err().number, 1);
+    /// assert!(read_file_alloc(&made("version 26\nbytes-at 8 11\nodd").unwrap()).is_ok());
     /// ```
     pub fn make(&self) -> Result<Vec<u8>, Refusal> {
         if self.changes.is_empty() {
@@ -133,6 +137,9 @@ impl DescribedFile {
                 Err(_) if self.odd => Ok(self.file.lay_out()),
                 written => written,
             };
+        }
+        if let (false, Some(refusal)) = (self.odd, self.file.version_refusal()) {
+            return Err(refusal);
         }
         let mut bytes = self.file.lay_out();
         self.changes.iter().for_each(|change| change.apply(&mut bytes));
@@ -283,7 +290,7 @@ fn of_file(file: TestFile, word: &str, rest: &str) -> Result<TestFile, String> {
             file.metrics(offset, length)
         }
         "trace" => {
-            let (next, blocks) = two(rest, "a next index, or `end`, and a block count are wanted")?;
+            let (next, blocks) = two(rest, "a next index, or `end`, and a number are wanted")?;
             let next = if next == "end" { NONE } else { number(next)? };
             file.trace(next, number(blocks)?)
         }

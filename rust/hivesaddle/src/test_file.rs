@@ -1,6 +1,6 @@
 //! A builder of test files from texts, chains and volumes.
 
-use crate::writer::{widths, Description, Widths, TRACE_ENTRY};
+use crate::writer::{widths, Description, Widths};
 use crate::{
     hash_vista_bytes, hash_xp_bytes, write_file, write_file_alloc, Record, Reference, Refusal, NONE,
 };
@@ -75,7 +75,7 @@ pub struct TestVolume {
 
 impl TestFile {
     /// A file without a name or an entry. The version is 17 or 23; the file of
-    /// another is refused with 1.
+    /// another is refused with 1, and [`TestFile::lay_out`] makes it all the same.
     pub fn new(version: u32) -> TestFile {
         TestFile {
             version,
@@ -136,7 +136,8 @@ impl TestFile {
     }
 
     /// A chain of new trace entries, one for each block count, each leading to
-    /// the one behind it.
+    /// the one behind it. What the papers call a block count is a position in
+    /// files that Windows wrote, and rises along the chain.
     pub fn chain(mut self, block_counts: &[u32]) -> TestFile {
         for (i, &blocks) in block_counts.iter().enumerate() {
             let behind = (self.trace.len() / 2 + 1) as u32;
@@ -196,6 +197,12 @@ impl TestFile {
         write_file(&self.description(&self.volumes_section()), predecessors, output)
     }
 
+    /// The writer writes 17 and 23.
+    pub(crate) fn version_refusal(&self) -> Option<Refusal> {
+        let is_written = matches!(self.version, 17 | 23);
+        (!is_written).then_some(Refusal { number: 1, index: 0, offset: 0 })
+    }
+
     fn description<'a>(&'a self, volumes: &'a [u8]) -> Description<'a> {
         Description {
             version: self.version,
@@ -213,12 +220,23 @@ impl TestFile {
 
     /// The file as [`TestFile::write`] would lay it out, taken by the reader or
     /// not: a file to try readers on, ours and others. It is laid out here and
-    /// not by the proved writer. A version that is neither 17 nor 23 has the
-    /// layout of 23; as one of 26 the reader may well take it.
+    /// not by the proved writer. Versions 26 and 30 have layouts of their own,
+    /// which the reader takes; one that is not known has that of 23.
+    ///
+    /// ```
+    /// # use hivesaddle::{read_file_alloc, TestFile};
+    /// for version in [26, 30] {
+    ///     let file = TestFile::new(version).run_count(42).file("A").chain(&[8, 16]);
+    ///     assert_eq!(file.write().unwrap_err().number, 1);
+    ///     let record = read_file_alloc(&file.lay_out()).unwrap().record;
+    ///     assert_eq!((record.version, record.run_count, record.trace_count), (version, 42, 2));
+    /// }
+    /// ```
     pub fn lay_out(&self) -> Vec<u8> {
         let volumes = self.volumes_section();
         let described = self.description(&volumes);
-        let Widths { head, metrics_entry, name_offset, run_time, .. } = widths(self.version);
+        let Widths { head, metrics_entry, name_offset, run_time, run_count, .. } =
+            widths(self.version);
         let mut file = vec![0; head];
         let name: Vec<u16> = self.name.iter().copied().take_while(|&unit| unit != 0).collect();
         for (place, unit) in name.iter().take(30).enumerate() {
@@ -229,10 +247,17 @@ impl TestFile {
         set(&mut file, 0, self.version);
         set(&mut file, 12, described.size().try_into().unwrap_or(u32::MAX));
         set(&mut file, 76, self.stored_hash);
-        set(&mut file, run_time + 24, self.run_count);
+        set(&mut file, run_count, self.run_count);
         set(&mut file, 116, volumes.len() as u32);
-        let metrics = entries(&self.metrics, metrics_entry, name_offset);
-        let trace = entries(&self.trace, TRACE_ENTRY, 0);
+        let mut metrics = entries(&self.metrics, metrics_entry, name_offset);
+        let trace = match self.version {
+            30 => {
+                self.name_ranges(&mut metrics, metrics_entry);
+                self.trace.chunks_exact(2).flat_map(|pair| [pair[1], 0]).collect()
+            }
+            _ => self.trace.clone(),
+        };
+        let trace = entries(&trace, widths(self.version).trace_entry, 0);
         let sections = [
             (84, self.metrics.len() as u32 / 2, &metrics),
             (92, self.trace.len() as u32 / 2, &trace),
@@ -246,6 +271,20 @@ impl TestFile {
             file.extend(section);
         }
         file
+    }
+
+    /// Version 30 has no next index: metrics entry k says where chain k begins in
+    /// the array, and how many entries it has.
+    fn name_ranges(&self, metrics: &mut [u8], metrics_entry: usize) {
+        let next: Vec<u32> = self.trace.chunks_exact(2).map(|pair| pair[0]).collect();
+        let ends = |i: &usize| next[*i] != *i as u32 + 1;
+        let behind = (0..next.len()).filter(ends).map(|last| last + 1);
+        let mut start = 0;
+        for (entry, end) in metrics.chunks_exact_mut(metrics_entry).zip(behind) {
+            set(entry, 0, start as u32);
+            set(entry, 4, (end - start) as u32);
+            start = end;
+        }
     }
 
     /// The entries; then for each volume its path, references and directories;

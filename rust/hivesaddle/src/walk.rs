@@ -9,7 +9,9 @@ pub struct Walk {
     /// Entries visited: all that the file has, and none in version 30.
     pub steps: u32,
     /// The block load counts along the chains added up, which is their total
-    /// over the array; 0 in version 30.
+    /// over the array; 0 in version 30. That is what the papers call the number.
+    /// In files that Windows wrote it rises along every chain of more than one
+    /// entry: there it is a position, and the total means nothing.
     pub total: u64,
 }
 

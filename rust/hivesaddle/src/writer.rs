@@ -36,9 +36,10 @@ pub(crate) struct Widths {
     pub metrics_entry: usize,
     /// In a metrics entry; the length follows.
     pub name_offset: usize,
+    pub trace_entry: usize,
     pub volume_entry: usize,
-    /// The run count stands 24 bytes behind it.
     pub run_time: usize,
+    pub run_count: usize,
     /// The number that file references begin with.
     pub references_mark: u32,
 }
@@ -47,24 +48,31 @@ const OF_17: Widths = Widths {
     head: 152,
     metrics_entry: 20,
     name_offset: 8,
+    trace_entry: 12,
     volume_entry: 40,
     run_time: 120,
+    run_count: 144,
     references_mark: 1,
 };
 const OF_23: Widths = Widths {
     head: 240,
     metrics_entry: 32,
     name_offset: 12,
+    trace_entry: 12,
     volume_entry: 104,
     run_time: 128,
+    run_count: 152,
     references_mark: 3,
 };
-pub(crate) const TRACE_ENTRY: usize = 12;
+const OF_26: Widths = Widths { head: 304, run_count: 208, ..OF_23 };
+const OF_30: Widths = Widths { trace_entry: 8, volume_entry: 96, ..OF_26 };
 
-/// Any version but 17 has those of 23.
+/// A version that is not known has those of 23.
 pub(crate) fn widths(version: u32) -> Widths {
     match version {
         17 => OF_17,
+        26 => OF_26,
+        30 => OF_30,
         _ => OF_23,
     }
 }
@@ -73,10 +81,10 @@ impl Description<'_> {
     /// How many bytes the file has as laid out: the length that `output` of
     /// [`write_file`] needs. A sum past 64 bits is given as the greatest number.
     pub fn size(&self) -> usize {
-        let Widths { head, metrics_entry, .. } = widths(self.version);
+        let Widths { head, metrics_entry, trace_entry, .. } = widths(self.version);
         (self.metrics.len() / 2)
             .saturating_mul(metrics_entry)
-            .saturating_add((self.trace.len() / 2).saturating_mul(TRACE_ENTRY))
+            .saturating_add((self.trace.len() / 2).saturating_mul(trace_entry))
             .saturating_add(self.strings.len())
             .saturating_add(self.volumes.len())
             .saturating_add(head)

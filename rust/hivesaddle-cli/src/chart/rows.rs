@@ -1,5 +1,9 @@
-//! The rows of a loading chart: which trace entries each has, and where they
-//! stand along the axis.
+//! The rows of a loading chart: how many trace entries each file has, and where
+//! in the file they lie.
+//!
+//! The papers call the number that is read here the block load count. In files
+//! that Windows wrote it rises along every chain: it is a position, and no sum of
+//! positions means anything.
 
 use crate::text;
 use hivesaddle::{entry_name, read_file_alloc, walk, Record, Refusal, NONE};
@@ -10,17 +14,17 @@ const MOST_ROWS: usize = 1_000;
 
 pub struct Chart {
     pub record: Record,
-    /// The blocks before each place of the axis; at its end, all of them.
-    pub blocks: Vec<u64>,
+    /// What all names of files begin with, up to a backslash.
+    pub start: String,
     pub rows: Vec<Row>,
 }
 
 pub struct Row {
+    /// Of a file, its whole name.
     pub name: String,
-    /// A file, and not a row of what is left.
-    pub is_file: bool,
-    /// Places of the axis.
-    pub places: Vec<Range<usize>>,
+    pub entries: usize,
+    /// Of a file; what is left has no map, as it is of several.
+    pub positions: Option<Vec<u32>>,
 }
 
 impl Chart {
@@ -29,29 +33,16 @@ impl Chart {
         let (record, mut predecessors) = (contents.record, contents.predecessors);
         let mut order = vec![0; predecessors.len()];
         walk(file, &mut predecessors, &mut order)?;
-        let trace = Trace::of(file, &record);
         let claims = if has_chains(&record) {
             chains(&order, &predecessors, record.metrics_count as usize)
         } else {
             order = (0..record.trace_count).collect();
             named_ranges(file, &record)
         };
-        let blocks = running_sums(order.iter().map(|&entry| trace.blocks(entry)));
-        Ok(Chart { record, blocks, rows: rows(file, &claims, order.len()) })
-    }
-
-    pub fn total(&self) -> u64 {
-        self.blocks.last().copied().unwrap_or(0)
-    }
-}
-
-impl Row {
-    pub fn entries(&self) -> usize {
-        self.places.iter().map(Range::len).sum()
-    }
-
-    pub fn blocks(&self, chart: &Chart) -> u64 {
-        self.places.iter().map(|places| chart.blocks[places.end] - chart.blocks[places.start]).sum()
+        let trace = Trace::of(file, &record);
+        let positions: Vec<u32> = order.iter().map(|&entry| trace.position(entry)).collect();
+        let rows = rows(file, &claims, &positions);
+        Ok(Chart { record, start: common_start(&rows), rows })
     }
 }
 
@@ -64,18 +55,18 @@ pub fn has_chains(record: &Record) -> bool {
 struct Trace<'a> {
     entries: &'a [u8],
     length: usize,
-    blocks_at: usize,
+    position_at: usize,
 }
 
 impl<'a> Trace<'a> {
     fn of(file: &'a [u8], record: &Record) -> Trace<'a> {
-        let (length, blocks_at) = if has_chains(record) { (12, 4) } else { (8, 0) };
+        let (length, position_at) = if has_chains(record) { (12, 4) } else { (8, 0) };
         let entries = file.get(number(file, 92) as usize..).unwrap_or_default();
-        Trace { entries, length, blocks_at }
+        Trace { entries, length, position_at }
     }
 
-    fn blocks(&self, entry: u32) -> u32 {
-        number(self.entries, entry as usize * self.length + self.blocks_at)
+    fn position(&self, entry: u32) -> u32 {
+        number(self.entries, entry as usize * self.length + self.position_at)
     }
 }
 
@@ -83,15 +74,6 @@ impl<'a> Trace<'a> {
 fn number(bytes: &[u8], at: usize) -> u32 {
     let four = bytes.get(at..).and_then(|rest| rest.first_chunk());
     four.map_or(0, |four| u32::from_le_bytes(*four))
-}
-
-fn running_sums(counts: impl Iterator<Item = u32>) -> Vec<u64> {
-    let mut sum = 0;
-    let sums = counts.map(|count| {
-        sum += u64::from(count);
-        sum
-    });
-    std::iter::once(0).chain(sums).collect()
 }
 
 /// The first chain is that of the first file, and so on. So a file's chain is
@@ -117,33 +99,50 @@ fn named_ranges(file: &[u8], record: &Record) -> Vec<Range<usize>> {
 }
 
 /// A row for each file, and one for what no file has.
-fn rows(file: &[u8], claims: &[Range<usize>], length: usize) -> Vec<Row> {
+fn rows(file: &[u8], claims: &[Range<usize>], positions: &[u32]) -> Vec<Row> {
     let (own, further) = claims.split_at(claims.len().min(MOST_ROWS));
     let mut rows: Vec<Row> = own
         .iter()
         .enumerate()
         .map(|(i, places)| Row {
             name: text::shown(entry_name(file, i as u64).unwrap_or_default()),
-            is_file: true,
-            places: vec![places.clone()],
+            entries: places.len(),
+            positions: Some(positions[places.clone()].to_vec()),
         })
         .collect();
-    let mut left = |name: String, places: Vec<Range<usize>>| {
-        rows.push(Row { name, is_file: false, places });
+    let mut left = |name: String, ranges: &[Range<usize>]| {
+        let entries = ranges.iter().map(Range::len).sum();
+        rows.push(Row { name, entries, positions: None });
     };
     if !further.is_empty() {
-        left(format!("{} further files", further.len()), joined(further));
+        left(format!("{} further files", further.len()), &joined(further));
     }
-    let unclaimed = gaps(&joined(claims), length);
+    let unclaimed = gaps(&joined(claims), positions.len());
     if !unclaimed.is_empty() {
-        left("no file".to_string(), unclaimed);
+        left("no file".to_string(), &unclaimed);
     }
     rows
 }
 
-/// The same places in rising order, each once.
+/// What the names of all files begin with, their last part left whole.
+fn common_start(rows: &[Row]) -> String {
+    let mut names = rows.iter().filter(|row| row.positions.is_some()).map(|row| row.name.as_str());
+    let Some(first) = names.next() else {
+        return String::new();
+    };
+    let length = names.fold(first.len(), |length, name| {
+        let same = first.bytes().zip(name.bytes()).take_while(|(a, b)| a == b).count();
+        length.min(same)
+    });
+    let is_end = |at: &usize| first.as_bytes()[at - 1] == b'\\';
+    let length = (1..=length).rev().find(is_end).unwrap_or(0);
+    first.get(..length).unwrap_or_default().to_string()
+}
+
+/// In rising order, and none on another or next to one.
 fn joined(ranges: &[Range<usize>]) -> Vec<Range<usize>> {
-    let mut rising: Vec<_> = ranges.iter().filter(|range| !range.is_empty()).cloned().collect();
+    let mut rising: Vec<Range<usize>> =
+        ranges.iter().filter(|range| !range.is_empty()).cloned().collect();
     rising.sort_by_key(|range| range.start);
     let mut joined: Vec<Range<usize>> = Vec::new();
     for range in rising {
@@ -172,74 +171,65 @@ mod tests {
     }
 
     fn shape(chart: &Chart) -> Vec<String> {
-        chart.rows.iter().map(|row| format!("{} {:?}", row.name, row.places)).collect()
+        let map = |row: &Row| row.positions.as_ref().map_or("-".into(), |map| format!("{map:?}"));
+        chart.rows.iter().map(|row| format!("{} {} {}", row.name, row.entries, map(row))).collect()
     }
 
     #[test]
     fn a_chain_for_each_file() {
-        let chart = chart(TestFile::new(23).file("A").file("B").chain(&[8, 16]).chain(&[u32::MAX]));
-        assert_eq!(shape(&chart), ["A [0..2]", "B [2..3]"]);
-        assert_eq!(chart.blocks, [0, 8, 24, 24 + u64::from(u32::MAX)]);
-        let blocks: Vec<u64> = chart.rows.iter().map(|row| row.blocks(&chart)).collect();
-        assert_eq!((chart.rows[0].entries(), blocks), (2, vec![24, u32::MAX.into()]));
+        let file = TestFile::new(23).file("A").file("B").chain(&[8, 16]).chain(&[u32::MAX]);
+        assert_eq!(shape(&chart(file)), ["A 2 [8, 16]", "B 1 [4294967295]"]);
     }
 
     #[test]
-    fn the_walk_orders_the_places() {
+    fn the_walk_orders_the_entries() {
         // The chains 1 and 2 -> 0.
         let file = TestFile::new(17).file("A").file("B");
         let chart = chart(file.trace(NONE, 1).trace(NONE, 10).trace(0, 100));
-        assert_eq!(chart.blocks, [0, 10, 110, 111]);
-        assert_eq!(shape(&chart), ["A [0..1]", "B [1..3]"]);
+        assert_eq!(shape(&chart), ["A 1 [10]", "B 2 [100, 1]"]);
     }
 
     #[test]
     fn files_without_a_chain_and_chains_without_a_file() {
         let few = chart(TestFile::new(23).file("A").file("B").chain(&[1]));
-        assert_eq!(shape(&few), ["A [0..1]", "B [1..1]"]);
+        assert_eq!(shape(&few), ["A 1 [1]", "B 0 []"]);
         let many = chart(TestFile::new(23).file("A").chain(&[1]).chain(&[2, 3]).chain(&[4]));
-        assert_eq!(shape(&many), ["A [0..1]", "no file [1..4]"]);
-        let none = chart(TestFile::new(23));
-        assert_eq!((none.rows.len(), none.total()), (0, 0));
+        assert_eq!(shape(&many), ["A 1 [1]", "no file 3 -"]);
+        assert!(chart(TestFile::new(23)).rows.is_empty());
     }
 
     #[test]
     fn further_files_share_a_row() {
         let file = (0..1_003).fold(TestFile::new(17), |file, i| file.file("F").chain(&[i]));
         let chart = chart(file.chain(&[7]));
-        assert_eq!(chart.rows.len(), 1_002);
-        let left = ["3 further files [1000..1003]", "no file [1003..1004]"];
-        assert_eq!(shape(&chart)[1_000..], left);
-    }
-
-    /// Version 30: five trace entries at 304 + 32 for each metrics entry.
-    fn version_30(ranges: &[(u32, u32)]) -> Vec<u8> {
-        let trace = 304 + 32 * ranges.len();
-        let (strings, size) = (trace + 40, trace + 42);
-        let mut file = vec![0; size];
-        let mut set = |at: usize, number: usize| {
-            file[at..at + 4].copy_from_slice(&(number as u32).to_le_bytes());
-        };
-        set(0, 30);
-        let sections = [(84, 304), (88, ranges.len()), (92, trace), (96, 5), (100, strings)];
-        for (at, number) in sections.into_iter().chain([(12, size), (104, 2)]) {
-            set(at, number);
-        }
-        for (i, &(start, count)) in ranges.iter().enumerate() {
-            set(304 + 32 * i, start as usize);
-            set(304 + 32 * i + 4, count as usize);
-        }
-        (0..5).for_each(|entry| set(trace + 8 * entry, 1 << entry));
-        file[4..8].copy_from_slice(b"SCCA");
-        file
+        assert_eq!(shape(&chart)[1_000..], ["3 further files 3 -", "no file 1 -"]);
     }
 
     #[test]
     fn version_30_has_the_ranges_that_its_entries_name() {
-        let chart = Chart::of(&version_30(&[(1, 2), (4, u32::MAX), (u32::MAX, u32::MAX), (2, 1)]));
-        let chart = chart.unwrap();
-        assert_eq!(chart.blocks, [0, 1, 3, 7, 15, 31]);
-        let named = [" [1..3]", " [4..5]", " [5..5]", " [2..3]", "no file [0..1, 3..4]"];
-        assert_eq!(shape(&chart), named);
+        let file = TestFile::new(30).file("A").file("B").file("C").chain(&[1, 2]).chain(&[4, 8]);
+        let mut file = file.chain(&[16]).lay_out();
+        let shape = |file: &[u8]| shape(&Chart::of(file).unwrap());
+        assert_eq!(shape(&file), ["A 2 [1, 2]", "B 2 [4, 8]", "C 1 [16]"]);
+        // Of B all from entry 4 on, however many, and of C some that are not there.
+        let mut set = |at: usize, number: u32| {
+            file[at..at + 4].copy_from_slice(&number.to_le_bytes());
+        };
+        for (at, number) in [(336, 4), (340, u32::MAX), (368, u32::MAX), (372, u32::MAX)] {
+            set(at, number);
+        }
+        assert_eq!(shape(&file), ["A 2 [1, 2]", "B 1 [16]", "C 0 []", "no file 2 -"]);
+    }
+
+    #[test]
+    fn what_all_names_begin_with() {
+        let start = |names: &[&str]| {
+            chart(names.iter().fold(TestFile::new(17), |file, name| file.file(name))).start
+        };
+        assert_eq!(start(&[r"\A\B\C.EXE", r"\A\B\CD.DLL", r"\A\BX\D"]), r"\A\");
+        assert_eq!(start(&[r"\A\B\C.EXE"]), r"\A\B\");
+        assert_eq!(start(&["A", r"\A"]), "");
+        assert_eq!(start(&["\\\u{E9}\\A", "\\\u{E8}\\A"]), "\\");
+        assert_eq!(start(&[]), "");
     }
 }

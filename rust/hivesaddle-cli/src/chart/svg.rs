@@ -1,62 +1,52 @@
-//! The loading chart as a picture.
+//! The loading chart as a picture. Places are per cent of the width, and texts
+//! keep their size, so that it can be read on a wide screen and on a narrow one.
 
 use super::rows::{has_chains, Chart, Row};
 use crate::text::xml_text;
 use std::fmt::Write;
-use std::ops::Range;
 
-const WIDTH: f64 = 1_200.0;
-/// Where the axis begins and ends, in pixels. Names stand before it, and counts
-/// behind.
-const LEFT: f64 = 360.0;
-const RIGHT: f64 = 1_080.0;
 /// Where the first row begins.
-const TOP: f64 = 112.0;
-const ROW: f64 = 20.0;
-/// Below the last row: the axis' numbers and the caption.
-const BELOW: f64 = 96.0;
-/// Entries are drawn as one until their bar is so wide.
-const THINNEST: f64 = 0.5;
-/// Bars of all rows, more or less, where rows lie on each other.
-const MOST_BARS: f64 = 10_000.0;
-/// Characters of a name that fit before the axis.
-const LABEL: usize = 48;
+const TOP: u64 = 92;
+/// A line of text, and the map below it.
+const ROW: u64 = 36;
+/// Below the last row: the caption.
+const BELOW: u64 = 96;
+/// Parts of a map that are told apart.
+const PARTS: u64 = 400;
+/// Characters of a name's end that fit a narrow screen.
+const LABEL: usize = 40;
 /// Characters of a name that are kept to be read by pointing at it.
 const FULL: usize = 512;
 
 const STYLE: &str = "\
 text{font:12px system-ui,sans-serif;fill:#5b6270}\
-.title{font-size:20px;font-weight:600;fill:#1b1f27}\
-.name{font:11px ui-monospace,Menlo,Consolas,monospace;text-anchor:end;fill:#1b1f27}\
-.left,.unit{font-style:italic}\
-.count,.tick{font-variant-numeric:tabular-nums;text-anchor:end}\
-.tick{text-anchor:middle}\
-.paper{fill:#fff}.grid{stroke:#dfe3e9}\
-.band{fill:#8a92a0;fill-opacity:0}g:nth-of-type(odd)>.band{fill-opacity:.09}\
-.bars{fill:#2f6db5}.bars.left{fill:#8a92a0}\
+.title{font-size:18px;font-weight:600;fill:#1b1f27}\
+.name{font:11px ui-monospace,Menlo,Consolas,monospace;fill:#1b1f27}\
+.left{font-style:italic}\
+.count{font-variant-numeric:tabular-nums;text-anchor:end}\
+.paper{fill:#fff}.ground{fill:#8a92a0;fill-opacity:.14}.marks{fill:#2f6db5}\
 @media(prefers-color-scheme:dark){text{fill:#a3abb8}.title,.name{fill:#e8ebf0}\
-.paper{fill:#14171c}.grid{stroke:#2b313b}\
-.bars{fill:#6ea8e8}.bars.left{fill:#7c8594}}";
+.paper{fill:#14171c}.marks{fill:#6ea8e8}}";
 
 /// The picture of a file with this program name, fit to show.
 pub fn svg(chart: &Chart, program: &str) -> String {
-    let height = TOP + ROW * chart.rows.len() as f64 + BELOW;
+    let height = TOP + ROW * chart.rows.len() as u64 + BELOW;
     let title = xml_text(&shortened(program, FULL));
     let mut out = format!(
-        "<svg xmlns=\"http://www.w3.org/2000/svg\" width=\"{WIDTH}\" height=\"{height}\" \
-         viewBox=\"0 0 {WIDTH} {height}\" role=\"img\" aria-labelledby=\"t\">\n\
+        "<svg xmlns=\"http://www.w3.org/2000/svg\" width=\"100%\" height=\"{height}\" \
+         role=\"img\" aria-labelledby=\"t\">\n\
          <title id=\"t\">Loading chart of {title}</title>\n<style>{STYLE}</style>\n\
-         <clipPath id=\"n\"><rect width=\"{}\" height=\"{height}\"/></clipPath>\n\
-         <rect class=\"paper\" width=\"{WIDTH}\" height=\"{height}\"/>\n\
-         <text class=\"title\" x=\"24\" y=\"42\">{title}</text>\n\
-         <text x=\"24\" y=\"66\">{}</text>\n",
-        LEFT - 8.0,
+         <rect class=\"paper\" width=\"100%\" height=\"100%\"/>\n\
+         <text class=\"title\" x=\"12\" y=\"30\">{title}</text>\n\
+         <text x=\"12\" y=\"52\">{}</text>\n",
         counts(chart),
     );
-    let scale = Scale::of(chart);
-    push_axis(&mut out, &scale, height);
+    if !chart.start.is_empty() {
+        let start = xml_text(&end_of(&chart.start, LABEL));
+        let _ = writeln!(out, "<text x=\"12\" y=\"72\">all in {start}</text>");
+    }
     for (i, row) in chart.rows.iter().enumerate() {
-        push_row(&mut out, chart, row, i, &scale);
+        push_row(&mut out, &chart.start, row, TOP + ROW * i as u64);
     }
     push_caption(&mut out, chart, height);
     out.push_str("</svg>\n");
@@ -70,8 +60,7 @@ fn counts(chart: &Chart) -> String {
     if has_chains(record) {
         entries += &format!(" in {}", several(record.chain_count.into(), "chain", "chains"));
     }
-    let blocks = several(chart.total(), "block", "blocks");
-    format!("Version {} \u{B7} {files} \u{B7} {entries} \u{B7} {blocks}", record.version)
+    format!("Version {} \u{B7} {files} \u{B7} {entries}", record.version)
 }
 
 /// A number of things, one or more.
@@ -92,129 +81,71 @@ pub fn grouped(number: u64) -> String {
     text
 }
 
-/// From blocks to pixels.
-struct Scale {
-    total: u64,
-    thinnest: f64,
-}
-
-impl Scale {
-    /// Rows share no entry as a rule. Where a file of version 30 has thousands
-    /// that do, bars are wider, so that the picture stays small.
-    fn of(chart: &Chart) -> Scale {
-        let total = chart.total();
-        let drawn: u128 = chart.rows.iter().map(|row| u128::from(row.blocks(chart))).sum();
-        let pixels = (RIGHT - LEFT) * (drawn as f64 / total.max(1) as f64);
-        Scale { total, thinnest: THINNEST.max(pixels / MOST_BARS) }
-    }
-
-    fn x(&self, blocks: u64) -> f64 {
-        LEFT + (RIGHT - LEFT) * (blocks as f64 / self.total.max(1) as f64)
-    }
-
-    /// Blocks between two lines of the grid: 1, 2 or 5 and zeros, so that there
-    /// are few of them.
-    fn step(&self) -> u64 {
-        let mut steps = (0..18).flat_map(|zeros| [1, 2, 5].map(|digit| digit * 10u64.pow(zeros)));
-        steps.find(|step| self.total / step <= 6).unwrap_or(self.total)
-    }
-}
-
-fn push_row(out: &mut String, chart: &Chart, row: &Row, i: usize, scale: &Scale) {
-    let top = TOP + ROW * i as f64;
-    let kind = if row.is_file { "" } else { " left" };
-    let blocks = row.blocks(chart);
+fn push_row(out: &mut String, start: &str, row: &Row, top: u64) {
+    let entries = several(row.entries as u64, "trace entry", "trace entries");
     let full = xml_text(&shortened(&row.name, FULL));
-    let label = xml_text(&shortened(&row.name, LABEL));
-    let entries = several(row.entries() as u64, "trace entry", "trace entries");
-    let all = several(blocks, "block", "blocks");
-    let _ = write!(out, "<g><title>{full}: {entries}, {all}</title>");
-    let _ = write!(out, "<rect class=\"band\" y=\"{top}\" width=\"{WIDTH}\" height=\"{ROW}\"/>");
-    let (base, after) = (top + 14.0, WIDTH - 24.0);
+    let (kind, end) = match row.positions {
+        Some(_) => ("", row.name.strip_prefix(start).unwrap_or(&row.name)),
+        None => (" left", &*row.name),
+    };
+    let label = xml_text(&end_of(end, LABEL));
+    let greatest = row.positions.iter().flatten().max();
+    let to = greatest.map_or(String::new(), |last| format!(", up to {}", grouped((*last).into())));
+    let base = top + 13;
     let _ = write!(
         out,
-        "<text class=\"name{kind}\" clip-path=\"url(#n)\" x=\"{}\" y=\"{base}\">{label}</text>\
-         <text class=\"count\" x=\"{after}\" y=\"{base}\">{}</text>",
-        LEFT - 12.0,
-        grouped(blocks),
+        "<g><title>{full}: {entries}{to}</title>\
+         <text class=\"name{kind}\" x=\"12\" y=\"{base}\">{label}</text>\
+         <svg x=\"-12\" width=\"100%\"><text class=\"count\" x=\"100%\" y=\"{base}\">{}</text></svg>",
+        grouped(row.entries as u64),
     );
-    let path: String = bars(&chart.blocks, &row.places, scale).iter().map(Bar::path).collect();
-    if !path.is_empty() {
-        let (start, top) = (format!("<path class=\"bars{kind}\""), top + 4.0);
-        let _ = write!(out, "{start} transform=\"translate(0 {top})\" d=\"{path}\"/>");
+    if let (Some(positions), Some(&last)) = (&row.positions, greatest) {
+        let path: String = marks(positions, last).into_iter().map(mark).collect();
+        let map = top + 19;
+        let _ = write!(
+            out,
+            "<svg x=\"1%\" width=\"98%\" y=\"{map}\" height=\"9\" viewBox=\"0 0 {PARTS} 9\" \
+             preserveAspectRatio=\"none\"><rect class=\"ground\" width=\"{PARTS}\" height=\"9\"/>\
+             <path class=\"marks\" d=\"{path}\"/></svg>",
+        );
     }
     out.push_str("</g>\n");
 }
 
-/// From here to there, in pixels.
-#[derive(Clone, Copy, Debug, PartialEq)]
-struct Bar(f64, f64);
-
-impl Bar {
-    /// A wide bar leaves a gap before the next, and a thin one can be seen.
-    fn path(&self) -> String {
-        let width = self.1 - self.0;
-        let width = if width > 3.0 { width - 0.75 } else { width.max(1.0) };
-        format!("M{:.2} 0h{width:.2}v12h-{width:.2}z", self.0)
-    }
+fn mark((from, to): (u64, u64)) -> String {
+    let width = to - from;
+    format!("M{from} 0h{width}v9h-{width}z")
 }
 
-/// A bar for each trace entry with blocks. Entries that would be too thin are
-/// drawn as one, so that there are no more bars than the axis has room for.
-fn bars(blocks: &[u64], places: &[Range<usize>], scale: &Scale) -> Vec<Bar> {
-    let mut bars: Vec<Bar> = Vec::new();
-    for places in places {
-        let mut from = places.start;
-        while from < places.end {
-            let x = scale.x(blocks[from]);
-            let behind = &blocks[from + 1..places.end];
-            let thin = behind.partition_point(|&end| scale.x(end) < x + scale.thinnest);
-            let to = from + 1 + thin;
-            let end = scale.x(blocks[to]);
-            match bars.last_mut() {
-                Some(last) if x < last.0 + scale.thinnest => last.1 = end,
-                _ if blocks[to] > blocks[from] => bars.push(Bar(x, end)),
-                _ => {}
-            }
-            from = to;
+/// The parts of the map in which entries lie, those next to each other as one.
+/// The row's greatest position lies in its last part.
+fn marks(positions: &[u32], last: u32) -> Vec<(u64, u64)> {
+    let part = |position: u32| u64::from(position) * (PARTS - 1) / u64::from(last.max(1));
+    let mut parts: Vec<u64> = positions.iter().map(|&position| part(position)).collect();
+    parts.sort_unstable();
+    let mut marks: Vec<(u64, u64)> = Vec::new();
+    for part in parts {
+        match marks.last_mut() {
+            Some((_, end)) if part <= *end => *end = (*end).max(part + 1),
+            _ => marks.push((part, part + 1)),
         }
     }
-    bars
+    marks
 }
 
-fn push_axis(out: &mut String, scale: &Scale, height: f64) {
-    let bottom = height - BELOW;
-    let (after, above, below) = (WIDTH - 24.0, TOP - 8.0, bottom + 16.0);
-    let _ = writeln!(out, "<text class=\"unit count\" x=\"{after}\" y=\"{above}\">blocks</text>");
-    if scale.total == 0 {
-        return;
-    }
-    let step = scale.step();
-    for k in 0..=scale.total / step {
-        let x = scale.x(k * step);
-        let label = grouped(k * step);
-        let _ = writeln!(
-            out,
-            "<path class=\"grid\" d=\"M{x:.2} {TOP}V{bottom}\"/>\
-             <text class=\"tick\" x=\"{x:.2}\" y=\"{above}\">{label}</text>\
-             <text class=\"tick\" x=\"{x:.2}\" y=\"{below}\">{label}</text>"
-        );
-    }
-}
+const CAPTION: [&str; 3] = [
+    "A row is a file that the program loaded, with its number of trace",
+    "entries. The map shows where in the file they lie, each row on a",
+    "scale of its own: from 0 to the greatest position of that row.",
+];
+const CHAINS: &str = "The first chain is the first file's, and so on.";
+const NO_CHAINS: &str = "Version 30 has no chains: each file names its entries.";
 
-const BARS: &str =
-    "A row is a file that the program loaded, and a bar a trace entry, as wide as its blocks.";
-const CHAINS: &str =
-    "Bars stand in the order of the walk along the chains; the first chain is the \
-    first file's, and so on.";
-const NO_CHAINS: &str =
-    "Version 30 has no chains: bars stand in the order of the array, in the row \
-    whose entry names them by start and count.";
-
-fn push_caption(out: &mut String, chart: &Chart, height: f64) {
+fn push_caption(out: &mut String, chart: &Chart, height: u64) {
     let order = if has_chains(&chart.record) { CHAINS } else { NO_CHAINS };
-    for (line, up) in [(BARS, 40.0), (order, 22.0)] {
-        let _ = writeln!(out, "<text x=\"24\" y=\"{}\">{line}</text>", height - up);
+    for (i, line) in CAPTION.into_iter().chain([order]).enumerate() {
+        let y = height - BELOW + 26 + 17 * i as u64;
+        let _ = writeln!(out, "<text x=\"12\" y=\"{y}\">{line}</text>");
     }
 }
 
@@ -231,51 +162,36 @@ fn shortened(text: &str, most: usize) -> String {
     first.chain(['\u{2026}']).chain(text.chars().skip(count - end)).collect()
 }
 
+/// Of a longer text its end alone.
+fn end_of(text: &str, most: usize) -> String {
+    let count = text.chars().count();
+    if count <= most {
+        return text.to_string();
+    }
+    std::iter::once('\u{2026}').chain(text.chars().skip(count - most + 1)).collect()
+}
+
 #[cfg(test)]
 mod tests {
     use super::*;
 
-    /// The bars of a row with these places, from one and up to another.
-    fn drawn(blocks: &[u64], places: &[(usize, usize)]) -> Vec<Bar> {
-        let scale = Scale { total: blocks[blocks.len() - 1], thinnest: THINNEST };
-        let places: Vec<Range<usize>> = places.iter().map(|&(from, to)| from..to).collect();
-        bars(blocks, &places, &scale)
+    #[test]
+    fn a_map_from_0_to_the_greatest_position() {
+        assert_eq!(marks(&[0], 0), [(0, 1)]);
+        assert_eq!(marks(&[7], 7), [(399, 400)]);
+        assert_eq!(marks(&[0, 399, 200, 201], 399), [(0, 1), (200, 202), (399, 400)]);
+        assert_eq!(marks(&[u32::MAX, 0, u32::MAX], u32::MAX), [(0, 1), (399, 400)]);
+        let all: Vec<u32> = (0..1_000_000).collect();
+        assert_eq!(marks(&all, 999_999), [(0, 400)]);
+        assert_eq!(mark((3, 5)), "M3 0h2v9h-2z");
     }
 
     #[test]
-    fn a_bar_for_each_entry_with_blocks() {
-        let (quarter, half) = (LEFT + 180.0, LEFT + 360.0);
-        let all = [Bar(LEFT, quarter), Bar(quarter, half), Bar(half, RIGHT)];
-        assert_eq!(drawn(&[0, 1, 2, 4], &[(0, 3)]), all);
-        assert_eq!(drawn(&[0, 1, 2, 4], &[(0, 1), (2, 3)]), [all[0], all[2]]);
-        assert_eq!(drawn(&[0, 1, 1, 1, 2, 4], &[(1, 3)]), []);
-        assert_eq!(drawn(&[0, 0, 0], &[(0, 2)]), []);
-        assert_eq!(drawn(&[0], &[(0, 0)]), []);
-    }
-
-    #[test]
-    fn thin_entries_are_drawn_as_one() {
-        let blocks: Vec<u64> = (0..=1_000_000).collect();
-        let whole = drawn(&blocks, &[(0, 1_000_000)]);
-        assert!(whole.len() <= 1_441, "{}", whole.len());
-        assert_eq!((whole[0].0, whole[whole.len() - 1].1), (LEFT, RIGHT));
-        let pieces: Vec<(usize, usize)> = (0..500_000).map(|i| (2 * i, 2 * i + 1)).collect();
-        assert!(drawn(&blocks, &pieces).len() <= 1_441);
-    }
-
-    #[test]
-    fn lines_of_the_grid() {
-        let step = |total| Scale { total, thinnest: THINNEST }.step();
-        assert_eq!(
-            [1, 6, 7, 912, u64::MAX / 512].map(step),
-            [1, 1, 2, 200, 10_000_000_000_000_000]
-        );
-    }
-
-    #[test]
-    fn long_names_lose_their_middle() {
+    fn long_names() {
         assert_eq!(shortened("abcdefghij", 10), "abcdefghij");
         assert_eq!(shortened("abcdefghijk", 10), "abc\u{2026}fghijk");
+        assert_eq!(end_of("abcdefghij", 10), "abcdefghij");
+        assert_eq!(end_of("abcdefghijk", 10), "\u{2026}cdefghijk");
         assert_eq!(grouped(0), "0");
         assert_eq!(grouped(u64::MAX), "18,446,744,073,709,551,615");
     }

@@ -3,7 +3,7 @@
   const body = document.querySelector("tbody");
   const plot = document.querySelector(".plot ol");
   const titles = [...document.querySelectorAll("thead th")];
-  const bars = new Map([...(plot ? plot.children : [])].map(bar => [bar.dataset.hash, bar]));
+  const bars = new Map([...(plot ? plot.children : [])].map(bar => [bar.dataset.row, bar]));
 
   // A number where the cell has one, its text otherwise, and null for none, which
   // stands last in either order.
@@ -20,7 +20,7 @@
     known.sort(([a], [b]) => (descending ? compare(b, a) : compare(a, b)));
     for (const [, row] of known.concat(unknown)) {
       body.append(row);
-      const bar = bars.get(row.dataset.hash);
+      const bar = bars.get(row.dataset.row);
       if (bar) plot.append(bar);
     }
     titles.forEach((title, i) => {

@@ -2,10 +2,11 @@
 //! to the highest, with the mean on it. Places are per cent of the width, so that
 //! it fits a wide page and a narrow one.
 
-use super::tenths;
+use super::{key, tenths};
 use crate::replay::degrees;
 use crate::text::xml_text;
-use hivesaddle::{Readings, YearRow};
+use crate::year::Line;
+use hivesaddle::Readings;
 use std::fmt::Write;
 
 /// From tenths of a degree to per cent of the axis.
@@ -46,10 +47,14 @@ impl Axis {
     }
 }
 
+/// Rows from which on the axis stands below them too.
+const LONG: usize = 20;
+
 /// Nothing where no program has a reading.
-pub fn plot(rows: &[YearRow], name: impl Fn(u32) -> String) -> String {
-    let read: Vec<(&YearRow, Readings)> =
-        rows.iter().filter_map(|row| Some((row, row.readings?))).collect();
+pub fn plot(lines: &[Line], name: impl Fn(u32) -> String) -> String {
+    let read: Vec<(&Line, Readings)> =
+        lines.iter().filter_map(|line| Some((line, line.row.readings?))).collect();
+    let is_long = read.len() >= LONG;
     let lowest = read.iter().map(|(_, readings)| readings.lowest).min();
     let highest = read.iter().map(|(_, readings)| readings.highest).max();
     let Some((lowest, highest)) = lowest.zip(highest) else {
@@ -58,11 +63,16 @@ pub fn plot(rows: &[YearRow], name: impl Fn(u32) -> String) -> String {
     let axis = Axis::around(lowest.into(), highest.into());
     let mut out = String::from("<div class=\"plot\">\n");
     push_grid(&mut out, &axis);
+    push_axis(&mut out, &axis, "axis");
     out.push_str("<ol>\n");
-    for (row, readings) in read {
-        push_row(&mut out, &axis, row.stored_hash, &name(row.stored_hash), &readings);
+    for (line, readings) in read {
+        push_row(&mut out, &axis, line, &name(line.row.stored_hash), &readings);
     }
-    out.push_str("</ol>\n</div>\n");
+    out.push_str("</ol>\n");
+    if is_long {
+        push_axis(&mut out, &axis, "axis below");
+    }
+    out.push_str("</div>\n");
     out
 }
 
@@ -72,23 +82,32 @@ fn push_grid(out: &mut String, axis: &Axis) {
         let x = axis.place(tenths);
         let _ = write!(out, "<line{class} x1=\"{x}\" x2=\"{x}\" y2=\"100%\"/>");
     }
-    out.push_str("</svg>\n<div class=\"axis\"><svg aria-hidden=\"true\">");
+    out.push_str("</svg>\n");
+}
+
+fn push_axis(out: &mut String, axis: &Axis, class: &str) {
+    let _ = write!(out, "<div class=\"{class}\"><svg aria-hidden=\"true\">");
+    let last = axis.ticks().last().map(|(tenths, _)| tenths);
     for (tenths, class) in axis.ticks() {
-        let (x, label) = (axis.place(tenths), axis.label(tenths));
+        // The unit stands once, where it is read last.
+        let unit = if Some(tenths) == last { " \u{B0}C" } else { "" };
+        let (x, label) = (axis.place(tenths), axis.label(tenths) + unit);
         let _ = write!(out, "<text{class} x=\"{x}\" y=\"18\">{label}</text>");
     }
     out.push_str("</svg></div>\n");
 }
 
-fn push_row(out: &mut String, axis: &Axis, hash: u32, name: &str, readings: &Readings) {
+fn push_row(out: &mut String, axis: &Axis, line: &Line, name: &str, readings: &Readings) {
     let tenths = tenths(readings);
     let [low, mean, high] = tenths.map(|tenths| axis.place(tenths));
     let [lowest, middle, highest] = tenths.map(degrees);
+    let (key, hash) = (key(line), line.row.stored_hash);
     let name = xml_text(name);
     let blank = if name.is_empty() { "" } else { " " };
+    let board = line.board.map_or(String::new(), |board| format!("board {board} "));
     let _ = writeln!(
         out,
-        "<li data-hash=\"{hash:08X}\"><span title=\"{name}\">{name}{blank}\
+        "<li data-row=\"{key}\"><span title=\"{board}{name}\">{board}{name}{blank}\
          <span class=\"hash\">{hash:08X}</span></span>\
          <svg role=\"img\"><title>lowest {lowest}, mean {middle}, highest {highest}</title>\
          <line class=\"range\" x1=\"{low}\" x2=\"{high}\" y1=\"50%\" y2=\"50%\"/>\

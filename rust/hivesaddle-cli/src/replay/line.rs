@@ -7,8 +7,19 @@ use std::ffi::OsStr;
 /// Refuses a line. Of its bytes the first `most` are known, or none, and what
 /// follows it may stand behind them.
 pub fn refuse_line(name: &OsStr, line: u64, is_no: &str, bytes: &[u8], most: usize) -> Outcome {
-    let why = why(bytes, most).map_or(String::new(), |why| format!(": {why}"));
-    refused(name, format_args!("refused 22: line {line} is no {is_no}{why}"))
+    refuse(22, name, line, is_no, why(bytes, most))
+}
+
+/// As [`refuse_line`], for a line of the catalogue, of which all bytes are known.
+pub fn refuse_catalogue_line(name: &OsStr, line: u64, bytes: &[u8]) -> Outcome {
+    let rule = "catalogue line, 26 digits 0-9 A-F, or 24 in an old one, and a line feed, \
+        with a known version and a size that it can have";
+    refuse(18, name, line, rule, why(bytes, usize::MAX))
+}
+
+fn refuse(number: u32, name: &OsStr, line: u64, is_no: &str, why: Option<&str>) -> Outcome {
+    let why = why.map_or(String::new(), |why| format!(": {why}"));
+    refused(name, format_args!("refused {number}: line {line} is no {is_no}{why}"))
 }
 
 /// For what an editor does not show, or another program did.
@@ -31,6 +42,9 @@ fn why(bytes: &[u8], most: usize) -> Option<&'static str> {
     if end.is_some() && digits.ends_with(b"\r") {
         return Some("it ends in a carriage return, as Windows writes it; save with line ends LF");
     }
+    if digits.ends_with(b" ") || digits.ends_with(b"\t") {
+        return Some("it has blanks behind its digits");
+    }
     if digits.iter().all(u8::is_ascii_hexdigit) && digits.iter().any(u8::is_ascii_lowercase) {
         return Some("it has lowercase digits");
     }
@@ -44,7 +58,7 @@ mod tests {
 
     #[test]
     fn reasons() {
-        let cases: [(&[u8], &str); 10] = [
+        let cases: [(&[u8], &str); 12] = [
             (b"\xEF\xBB\xBF00\r\n", "byte order mark"),
             (b"\xFF\xFE0\0", "UTF-16"),
             (b"\xFE\xFF\x000", "UTF-16"),
@@ -55,6 +69,8 @@ mod tests {
             (b"00ff\n00", "lowercase"),
             (b"00ff", "lowercase"),
             (b"00FF", "no line feed"),
+            (b"00FF \n", "blanks"),
+            (b"00FF\t\t\n00", "blanks"),
         ];
         for (bytes, expected) in cases {
             assert!(why(bytes, 28).is_some_and(|why| why.contains(expected)), "{bytes:?}");

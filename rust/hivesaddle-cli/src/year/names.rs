@@ -2,6 +2,7 @@
 
 use crate::look::{each_look, Look};
 use crate::outcome::{complain, Outcome};
+use crate::pulls::Pull;
 use crate::refusal;
 use hivesaddle::program_name;
 use std::collections::BTreeMap;
@@ -22,8 +23,11 @@ impl Names {
     pub fn read(files: &[OsString], hashes: impl Iterator<Item = u32>) -> Names {
         let mut of_hash: BTreeMap<u32, Vec<Vec<u8>>> =
             hashes.map(|hash| (hash, Vec::new())).collect();
-        let looked = each_look(files, |name, look| {
+        let mut outcome = Outcome::Done;
+        // Nothing is written here that could fail.
+        let _ = each_look(files, &mut outcome, |name, look| {
             match look {
+                Look::Ahead => {}
                 Look::Accepted(file, record) => {
                     if let Some(known) = of_hash.get_mut(&record.stored_hash) {
                         add(known, program_name(file).unwrap_or_default());
@@ -34,7 +38,16 @@ impl Names {
             }
             Ok(())
         });
-        Names { of_hash, outcome: looked.unwrap_or(Outcome::Failed) }
+        Names { of_hash, outcome }
+    }
+
+    /// The names that files read already have.
+    pub fn of_pulls(pulls: &[Pull]) -> Names {
+        let mut of_hash: BTreeMap<u32, Vec<Vec<u8>>> = BTreeMap::new();
+        for pull in pulls {
+            add(of_hash.entry(pull.record.stored_hash).or_default(), &pull.program);
+        }
+        Names { of_hash, outcome: Outcome::Done }
     }
 
     /// All names of a hash, with commas between them; empty where none is known.

@@ -98,6 +98,7 @@ fn row(file_name: &str, file: &[u8], name: &str, path: &str) -> Vec<String> {
     row.extend(numbers.map(|number| number.to_string()));
     row.extend([path.to_string(), found.number.to_string()]);
     row.extend(vec!["-".to_string(); 4]);
+    row.push(words("hash"));
     row
 }
 

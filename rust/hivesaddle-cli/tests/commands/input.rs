@@ -190,6 +190,59 @@ fn a_reader_that_has_seen_enough() {
     }
 }
 
+/// What was refused before that is not forgotten.
+#[test]
+fn a_reader_that_has_seen_enough_after_a_refusal() {
+    let folder = Folder::new("enough-refused");
+    folder.put("small.pf", small());
+    folder.put("odd.pf", "no Prefetch file");
+    for command in ["list", "check"] {
+        let mut child = folder
+            .command()
+            .args([command, "odd.pf"])
+            .args(vec!["small.pf"; 8_000])
+            .stdout(Stdio::piped())
+            .spawn()
+            .unwrap();
+        let mut line = String::new();
+        BufReader::with_capacity(64, child.stdout.take().unwrap()).read_line(&mut line).unwrap();
+        assert!(line.contains("refused 1"), "{line}");
+        assert_eq!(child.wait().unwrap().code(), Some(1), "{command}");
+    }
+}
+
+/// A pipe that nobody writes to takes as long as can be. Rows before it are there.
+#[test]
+fn rows_before_a_file_that_takes_long() {
+    let folder = Folder::new("long");
+    folder.put("small.pf", small());
+    let pipe = folder.0.join("pipe");
+    assert!(Command::new("mkfifo").arg(&pipe).status().unwrap().success());
+    for words in [
+        &["list", "small.pf", "pipe"][..],
+        &["list", "--json", "small.pf", "pipe"],
+        &["check", "small.pf", "pipe"],
+        &["catalogue", "small.pf", "pipe"],
+    ] {
+        let mut child =
+            folder.command().args(words).stdout(Stdio::piped()).stderr(Stdio::null()).spawn();
+        let child = child.as_mut().unwrap();
+        let (send, receive) = std::sync::mpsc::channel();
+        let mut out = BufReader::new(child.stdout.take().unwrap());
+        let reader = std::thread::spawn(move || {
+            let mut line = String::new();
+            out.read_line(&mut line).unwrap();
+            send.send(line).unwrap();
+        });
+        let line = receive.recv_timeout(std::time::Duration::from_secs(20));
+        // Lets it go on, and end.
+        child.kill().unwrap();
+        child.wait().unwrap();
+        reader.join().unwrap();
+        assert!(line.is_ok_and(|line| !line.is_empty()), "{words:?}");
+    }
+}
+
 /// A device that is full is no reader that has seen enough.
 #[cfg(target_os = "linux")]
 #[test]

@@ -5,4 +5,6 @@ mod folder;
 mod formats;
 mod help;
 mod input;
+#[cfg(unix)]
+mod output;
 mod stored;

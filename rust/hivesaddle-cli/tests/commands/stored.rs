@@ -37,6 +37,10 @@ fn files(name: &str) -> Folder {
     // Of each version, and one whose path has the hash less 6.
     let switched = "hash 0x158781ED\nfile A";
     folder.make("switch.pf", &format!("version 17\nname A.EXE\n{switched}\nrun-time 1\nchain 2 3"));
+    // A hosting program, whose hash no file has, and one that is not among its files.
+    let host = "hash 0x12345678\nfile \\DISK\\HOST.DLL\nfile \\DISK\\HOST.EXE";
+    folder.make("host.pf", &format!("version 23\nname HOST.EXE\n{host}"));
+    folder.make("strange.pf", &format!("version 23\nname STRANGE.EXE\n{host}"));
     folder.make("eight.pf", "version 26\nodd\nname EIGHT.EXE\nhash-of B\nfile B\nchain 1");
     folder
         .make("ten.pf", "version 30\nodd\nname TEN.EXE\nbytes-at 84 30 01 00 00\nbytes-at 208 07");

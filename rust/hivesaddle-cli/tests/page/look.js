@@ -24,7 +24,7 @@ onload = () => {
   const cells = i => [...page.querySelectorAll("tbody tr")].map(row => row.cells[i]);
   const numbers = i => cells(i).filter(c => c.dataset.n !== undefined).map(c => +c.dataset.n);
   const rises = list => list.every((v, i) => i === 0 || list[i - 1] <= v);
-  const bars = () => [...page.querySelectorAll(".plot li")].map(bar => bar.dataset.hash);
+  const bars = () => [...page.querySelectorAll(".plot li")].map(bar => bar.dataset.row);
   const click = i => titles[i].querySelector("button").click();
 
   for (const name of ["Runs", "Lowest", "Mean", "Highest"]) {
@@ -41,7 +41,7 @@ onload = () => {
   }
   const read = [...page.querySelectorAll("tbody tr")]
     .filter(row => row.cells[column("Lowest")].dataset.n !== undefined);
-  check("the plot in the table's order", String(read.map(r => r.dataset.hash)) === String(bars()));
+  check("the plot in the table's order", String(read.map(r => r.dataset.row)) === String(bars()));
   click(column("Program"));
   check("programs by name", rises(cells(column("Program")).map(cell => cell.textContent)));
   click(column("Hash"));

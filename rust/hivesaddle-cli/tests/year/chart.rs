@@ -56,23 +56,36 @@ fn rows_of(name: &str, file: TestFile) -> Vec<String> {
 #[test]
 fn odd_files_have_charts() {
     assert_eq!(rows_of("nothing", TestFile::new(17)), [""; 0]);
-    let few = TestFile::new(23).file("A").file("B").chain(&[1, 1]);
-    let expected = ["A: 2 trace entries, 2 blocks | A | 2", "B: 0 trace entries, 0 blocks | B | 0"];
+    let few = TestFile::new(23).file("A").file("B").chain(&[1, 9]);
+    let expected = ["A: 2 trace entries, up to 9 | A | 2", "B: 0 trace entries | B | 0"];
     assert_eq!(rows_of("few", few), expected);
     let many = TestFile::new(17).file("A").chain(&[1]).chain(&[2]).chain(&[0, 4]);
-    let expected =
-        ["A: 1 trace entry, 1 block | A | 1", "no file: 3 trace entries, 6 blocks | no file | 2"];
+    let expected = ["A: 1 trace entry, up to 1 | A | 1", "no file: 3 trace entries | no file | 0"];
     assert_eq!(rows_of("many", many), expected);
     let none = TestFile::new(17).file("A").chain(&[0, 0]);
-    assert_eq!(rows_of("none", none), ["A: 2 trace entries, 0 blocks | A | 0"]);
+    assert_eq!(rows_of("none", none), ["A: 2 trace entries, up to 0 | A | 1"]);
 }
 
+/// Positions are drawn, each row on a scale of its own, and nothing is added up.
 #[test]
-fn counts_are_added_up_in_64_bits() {
-    let file = TestFile::new(23).file("A").file("B").chain(&[u32::MAX, u32::MAX]).chain(&[1]);
-    let expected =
-        ["A: 2 trace entries, 8,589,934,590 blocks | A | 2", "B: 1 trace entry, 1 block | B | 1"];
-    assert_eq!(rows_of("huge", file), expected);
+fn a_map_for_each_file() {
+    let file = TestFile::new(23)
+        .file(r"\DISK\A.EXE")
+        .file(r"\DISK\SYSTEM\B.DLL")
+        .chain(&[0, 4_096, u32::MAX])
+        .chain(&[8, 16]);
+    let folder = Folder::new("maps");
+    let rows = rows(&folder, &file.write().expect("a sound file"));
+    let expected = [
+        r"\DISK\A.EXE: 3 trace entries, up to 4,294,967,295 | A.EXE | 2",
+        r"\DISK\SYSTEM\B.DLL: 2 trace entries, up to 16 | SYSTEM\B.DLL | 2",
+    ];
+    assert_eq!(rows, expected);
+    let svg = out(&run(&folder, "chart file.pf -"));
+    assert!(svg.contains(r">all in \DISK\</text>"), "{svg}");
+    assert!(svg.contains("scale of its own") && !svg.contains("block"), "{svg}");
+    // Texts keep their size, and places are parts of the width.
+    assert!(svg.contains("width=\"100%\"") && !svg.contains("viewBox=\"0 0 1"), "{svg}");
 }
 
 #[test]
@@ -85,12 +98,8 @@ fn names_are_text() {
     let folder = Folder::new("names");
     let rows = rows(&folder, &file.write().expect("a sound file"));
     let shown = "</script><b>'\"&amp;\\u{1B}]\\u{202E}";
-    assert_eq!(rows[0], format!("{shown}: 1 trace entry, 1 block | {shown} | 1"));
-    assert!(
-        rows[1].contains("| LONG\\LONG\\LONG\\L\u{2026}") && rows[1].len() < 700,
-        "{}",
-        rows[1]
-    );
+    assert_eq!(rows[0], format!("{shown}: 1 trace entry, up to 1 | {shown} | 1"));
+    assert!(rows[1].contains("| \u{2026}ONG\\LONG\\LONG") && rows[1].len() < 700, "{}", rows[1]);
     let svg = out(&run(&folder, "chart file.pf -"));
     let title = "<title id=\"t\">Loading chart of &lt;/title&gt;&amp;\\u{1B}&quot;</title>";
     assert!(svg.contains(title), "{svg}");
@@ -109,8 +118,8 @@ fn a_large_file_has_a_small_chart() {
     let folder = Folder::new("large");
     let rows = rows(&folder, &file.write().expect("a sound file"));
     assert_eq!(rows.len(), 1_002);
-    assert!(rows[1_000].starts_with("200 further files: 160,000 trace entries, 320,000 blocks |"));
-    assert!(rows[1_001].starts_with("no file: 40,000 trace entries, 80,000 blocks | no file |"));
+    assert_eq!(rows[1_000], "200 further files: 160,000 trace entries | 200 further files | 0");
+    assert_eq!(rows[1_001], "no file: 40,000 trace entries | no file | 0");
     let length = run(&folder, "chart file.pf -").stdout.len();
     assert!(length < 1_000_000, "{length} bytes");
 }
@@ -142,8 +151,8 @@ fn version_30() {
     (0..entries).for_each(|entry| set(trace + 8 * entry, 3));
     let rows = rows(&folder, &file);
     assert_eq!(rows.len(), 1_001);
-    assert!(rows[0].starts_with(": 1 trace entry, 3 blocks |"), "{}", rows[0]);
-    assert!(rows[1_000].starts_with("500 further files: 6,000 trace entries, 18,000 blocks |"));
+    assert!(rows[0].starts_with(": 1 trace entry, up to 3 |"), "{}", rows[0]);
+    assert!(rows[1_000].starts_with("500 further files: 6,000 trace entries |"));
     let svg = run(&folder, "chart file.pf -").stdout;
     assert!(svg.len() < 2_000_000, "{} bytes", svg.len());
     assert!(String::from_utf8_lossy(&svg).contains("Version 30 has no chains"));

@@ -7,6 +7,7 @@ mod folder;
 
 mod chart;
 mod page;
+mod pulls;
 mod replay;
 mod table;
 

@@ -14,9 +14,9 @@ fn the_page_of_the_example() {
     crate::is_expected("year.html", &page);
     assert_eq!(out(&run(&folder, &format!("{words} -"))), page);
     let expected = "\
-['Program', 'Hash', 'Files', 'Runs', 'Readings', 'Lowest', 'Mean', 'Highest']
-['CHAMBER.EXE', '978DAB15', '2', '84', '9', '-20.5', '-5.1', '21.5']
-['', '9DE758B4', '1', '42', '0', 'none', 'none', 'none']
+['Program', 'Hash', 'Lowest', 'Mean', 'Highest', 'Files', 'Runs', 'Readings', 'Oldest']
+['CHAMBER.EXE', '978DAB15', '-20.5', '-5.1', '21.5', '2', '84', '9', '1m 0s']
+['', '9DE758B4', 'none', 'none', 'none', '1', '42', '0', 'none']
 CHAMBER.EXE 978DAB15lowest -20.5, mean -5.1, highest 21.5
 ";
     assert_eq!(read_back("html", page.as_bytes()), expected);
@@ -38,11 +38,11 @@ fn odd_pages() {
     let words = "year catalogue.txt starts.txt recording.txt --html -";
     let page = run(&folder, &format!("{words} --names ."));
     let expected = "\
-['Program', 'Hash', 'Files', 'Runs', 'Readings', 'Lowest', 'Mean', 'Highest']
-[\"</script><b onload='x'>&amp;\", '00000001', '1', '1', '1', '3276.7', '3276.7', '3276.7']
-['\" onload=\"x\\\\u{1B}', '00000002', '1', '2', '1', '-3276.8', '-3276.8', '-3276.8']
-['--></style>', '00000003', '1', '3', '1', '-0.1', '-0.1', '-0.1']
-['', '00000004', '1', '4', '0', 'none', 'none', 'none']
+['Program', 'Hash', 'Lowest', 'Mean', 'Highest', 'Files', 'Runs', 'Readings', 'Oldest']
+[\"</script><b onload='x'>&amp;\", '00000001', '3276.7', '3276.7', '3276.7', '1', '1', '1', '0s']
+['\" onload=\"x\\\\u{1B}', '00000002', '-3276.8', '-3276.8', '-3276.8', '1', '2', '1', '0s']
+['--></style>', '00000003', '-0.1', '-0.1', '-0.1', '1', '3', '1', '0s']
+['', '00000004', 'none', 'none', 'none', '1', '4', '0', 'none']
 </script><b onload='x'>&amp; 00000001lowest 3276.7, mean 3276.7, highest 3276.7
 \" onload=\"x\\u{1B} 00000002lowest -3276.8, mean -3276.8, highest -3276.8
 --></style> 00000003lowest -0.1, mean -0.1, highest -0.1
@@ -50,7 +50,7 @@ fn odd_pages() {
     assert_eq!(read_back("html", &page.stdout), expected);
     // Without names there is no column for them.
     let nameless = read_back("html", &run(&folder, words).stdout);
-    assert!(nameless.starts_with("['Hash', 'Files', "), "{nameless}");
+    assert!(nameless.starts_with("['Hash', 'Lowest', "), "{nameless}");
 
     folder.put("none.txt", "");
     let nothing = run(&folder, "year none.txt none.txt none.txt --html -");

@@ -63,14 +63,18 @@ fn temperatures_of_every_sign() {
     let csv = run(&folder, "year catalogue.txt starts.txt recording.txt --csv");
     let row = |(i, d): (usize, &&str)| {
         let readings = if d.is_empty() { 0 } else { 1 };
-        format!("['0000000{i}', '', '1', '{}', '{readings}', '{d}', '{d}', '{d}']\n", i + 1)
+        let age = if d.is_empty() { "" } else { "0" };
+        format!(
+            "['0000000{i}', '', '1', '{}', '{readings}', '{d}', '{d}', '{d}', '{age}']\n",
+            i + 1
+        )
     };
     let expected: String = degrees.iter().enumerate().map(row).collect();
     assert_eq!(read_back("csv", &csv.stdout), expected);
     let json = run(&folder, "year catalogue.txt starts.txt recording.txt --json");
     let row = |(i, d): (usize, &&str)| match *d {
-        "" => format!("['0000000{i}', None, 1, {}, 0, None, None, None]\n", i + 1),
-        d => format!("['0000000{i}', None, 1, {}, 1, {d}, {d}, {d}]\n", i + 1),
+        "" => format!("['0000000{i}', None, 1, {}, 0, None, None, None, None]\n", i + 1),
+        d => format!("['0000000{i}', None, 1, {}, 1, {d}, {d}, {d}, 0]\n", i + 1),
     };
     let expected: String = degrees.iter().enumerate().map(row).collect();
     assert_eq!(read_back("json", &json.stdout), expected);
@@ -85,7 +89,7 @@ fn means_are_rounded_down() {
     folder.put("starts.txt", starts.map(|start| format!("{start}00000041\n")).concat());
     folder.put("recording.txt", "000000000000000501FFFC\n000000000000000502FFFF\n");
     let table = out(&run(&folder, "year catalogue.txt starts.txt recording.txt"));
-    assert_eq!(table, "00000041\t\t2\t4294967297\t2\t-0.4\t-0.3\t-0.1\n");
+    assert_eq!(table, "00000041\t\t2\t4294967297\t2\t-0.4\t-0.3\t-0.1\t0s\n");
 }
 
 #[test]
@@ -179,8 +183,8 @@ fn a_catalogue_in_place_of_the_starts() {
 
     folder.put("starts.txt", [start, other].concat());
     let made = year("starts.txt");
-    let rows = "00000041\t\t1\t1\t1\t-20.0\t-20.0\t-20.0\n\
-                00000042\t\t0\t0\t1\t-20.0\t-20.0\t-20.0\n";
+    let rows = "00000041\t\t1\t1\t1\t-20.0\t-20.0\t-20.0\t0s\n\
+                00000042\t\t0\t0\t1\t-20.0\t-20.0\t-20.0\t0s\n";
     let hash = "1 start is of a hash that no catalogue line has";
     let error = format!("-- standard error\nhivesaddle: starts.txt: {hash}; {order}\n");
     assert_eq!(crate::said(&made), format!("{rows}{error}-- status 0\n"));
@@ -196,6 +200,6 @@ fn the_largest_year() {
     let table = run(&folder, "year catalogue.txt starts.txt recording.txt --json");
     assert_eq!(status(&table), 0, "{}", said(&table));
     let expected =
-        "['00000041', None, 1048576, 4503599626321920, 1048576, -3276.8, -3276.8, -3276.8]\n";
+        "['00000041', None, 1048576, 4503599626321920, 1048576, -3276.8, -3276.8, -3276.8, 0]\n";
     assert_eq!(read_back("json", &table.stdout), expected);
 }
