@@ -8,7 +8,7 @@ use native.Mathlib.Nat.{le-trans, add-zero, zero-add}
 use native.Mathlib.Omega.{arith}
 use borrow.Author.Tests.{ltb-true, ltb-false}
 use lib.Dec.{ltb}
-use lib.ListN.{length, getD, take, length-take, List·getD-append}
+use lib.ListN.{length, getD, take, drop, length-take, List·getD-append}
 use lib.Seq.{getD-take}
 use Rattle.lists.specs.Count.{pick}
 use Rattle.lists.specs.Pairs.{pairsIn, PairsListed}
