@@ -4,7 +4,7 @@
 use crate::random::Random;
 
 /// Values on either side that are not handed over.
-const MARGIN: usize = 4;
+pub(super) const MARGIN: usize = 4;
 
 #[derive(Clone)]
 pub struct Guarded<T> {

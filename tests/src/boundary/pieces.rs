@@ -1,7 +1,7 @@
 //! The three calls of the replay in pieces, with the lists that they share and
 //! their `out`. The lists keep their noise between the calls.
 
-use super::guarded::{guarded_u32, guarded_u64, Guarded};
+use super::guarded::{guarded_u32, guarded_u64, Guarded, MARGIN};
 use super::replaying::ReplayLengths;
 use crate::random::Random;
 use hivesaddle::raw::{hs_replay_begin, hs_replay_feed, hs_replay_finish};
@@ -13,6 +13,15 @@ pub struct Told {
     pub out: Vec<u64>,
     pub work: Vec<u32>,
     pub answers: Vec<u64>,
+}
+
+impl Told {
+    /// With the first so many answers of another: what stands there between two
+    /// calls is the library's own affair.
+    pub fn with_answers_of(mut self, other: &Told, count: usize) -> Told {
+        self.answers[MARGIN..][..count].copy_from_slice(&other.answers[MARGIN..][..count]);
+        self
+    }
 }
 
 /// The lists of a replay. `out` is filled with new noise for each call.

@@ -2,7 +2,7 @@
 
 use super::pieces::{begun, fed, finished, State};
 use super::replay_points::{reading, start, three, LAST};
-use crate::boundary::{answer_numbers, PieceLists, ReplayLengths};
+use crate::boundary::{PieceLists, ReplayLengths};
 use crate::generate::recordings::lines_of;
 use crate::random::Random;
 use crate::reference::pieces::{finish, order, Fed};
@@ -97,8 +97,9 @@ impl Points<'_> {
         lists.renew_out(self.random, 3);
         let own = state.feed(piece);
         self.tally.named(name, &expected, &[own.lines, own.bad, own.used]);
-        let expected = fed(&lists, &own);
-        self.tally.named(name, &expected, &lists.feed(lines, 0, piece));
+        let untouched = lists.clone();
+        let given = lists.feed(lines, 0, piece);
+        self.tally.named(name, &fed(&untouched, &own, &given), &given);
     }
 
     /// Once so many bytes are there as a reading has, and not before.
@@ -159,11 +160,10 @@ impl Points<'_> {
                 found.map(|(time, temperature)| reading(time, start.board, temperature))
             };
             let answers: Vec<_> = starts.iter().zip(expected).map(place).collect();
-            self.tally.named("answers between", &Some(answers.clone()), &own.answers);
-            let numbers: Vec<u64> = answers.iter().flat_map(answer_numbers).collect();
-            let out = [own.lines, own.bad, own.used];
-            let expected = lists.expected(0, &out, &[], &numbers);
-            self.tally.named("answers between", &expected, &lists.feed(lines, 0, &piece));
+            self.tally.named("answers between", &Some(answers), &own.answers);
+            let untouched = lists.clone();
+            let given = lists.feed(lines, 0, &piece);
+            self.tally.named("between", &fed(&untouched, &own, &given), &given);
         }
         self.tally.named("the bad line", &(5, 6), &(state.lines, state.bad));
         // Behind it nothing changes.
@@ -195,8 +195,9 @@ impl Points<'_> {
                 let Fed { lines, bad, used, .. } = own;
                 self.tally.named("a wrong place goes on", &(3, 0, 69), &(lines, bad, used));
                 self.tally.named("a wrong place", &(place == 3), &own.answers.is_some());
-                let expected = fed(&lists, &own);
-                self.tally.named("a wrong place", &expected, &lists.feed(0, 0, &three()));
+                let untouched = lists.clone();
+                let given = lists.feed(0, 0, &three());
+                self.tally.named("a wrong place", &fed(&untouched, &own, &given), &given);
             }
         }
     }
@@ -248,8 +249,9 @@ impl Points<'_> {
             let expected = begun(&lists, &state);
             self.tally.named("out of begin", &expected, &lists.begin());
             lists.renew_out(self.random, out);
-            let expected = fed(&lists, &state.feed(&three()));
-            self.tally.named("out of feed", &expected, &lists.feed(0, 0, &three()));
+            let untouched = lists.clone();
+            let (own, given) = (state.feed(&three()), lists.feed(0, 0, &three()));
+            self.tally.named("out of feed", &fed(&untouched, &own, &given), &given);
             lists.renew_out(self.random, out);
             let expected = finished(&lists, &state, 2);
             self.tally.named("out of finish", &expected, &lists.finish(3, 0, 2));

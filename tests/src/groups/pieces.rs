@@ -106,18 +106,23 @@ pub fn begun(lists: &PieceLists, state: &State) -> Told {
     lists.expected(0, &[0, 0, state.starts.len() as u64], &state.order, &zeros)
 }
 
-/// What a call that feeds has to leave.
-pub fn fed(lists: &PieceLists, fed: &Fed) -> Told {
-    let answers = fed.answers.iter().flatten().flat_map(answer_numbers);
-    lists.expected(0, &[fed.lines, fed.bad, fed.used], &[], &answers.collect::<Vec<u64>>())
+/// What a call that feeds has to leave, beside what it gave. The papers say what
+/// the answers are at the end, and between only where they stay.
+pub fn fed(lists: &PieceLists, fed: &Fed, given: &Told) -> Told {
+    let expected = lists.expected(0, &[fed.lines, fed.bad, fed.used], &[], &[]);
+    match &fed.answers {
+        Some(served) => expected.with_answers_of(given, 4 * served.len()),
+        None => expected,
+    }
 }
 
 /// What the last call has to leave.
 pub fn finished(lists: &PieceLists, state: &State, waiting: u64) -> Told {
     let work = vec![HS_NONE; lists.clone().work.inner().len()];
+    let answers: Vec<u64> = state.answers.iter().flat_map(answer_numbers).collect();
     match finish(state.lines, state.bad, waiting) {
         Some(line) => lists.expected(22, &[line], &work, &vec![0; 4 * state.starts.len()]),
-        None => lists.expected(0, &[0], &work, &[]),
+        None => lists.expected(0, &[0], &work, &answers),
     }
 }
 
@@ -184,8 +189,9 @@ impl Pieces<'_> {
         self.new_out(lists, 3);
         let before = state.clone();
         let after = state.feed(piece);
-        let expected = fed(lists, &after);
+        let untouched = lists.clone();
         let given = lists.feed(before.lines, before.bad, piece);
+        let expected = fed(&untouched, &after, &given);
         let input = || format!("{before:?}, {:?}", String::from_utf8_lossy(piece));
         self.tally.same("feed", &expected, &given, input);
         let kinds = &mut self.seen;
@@ -201,8 +207,13 @@ impl Pieces<'_> {
 
     fn finish(&mut self, lists: &mut PieceLists, state: &State, waiting: u64) -> Told {
         self.new_out(lists, 1);
-        let expected = finished(lists, state, waiting);
+        let mut expected = finished(lists, state, waiting);
         let given = lists.finish(state.lines, state.bad, waiting);
+        // Without an order of all starts served the answers are not given.
+        if state.order.iter().any(|&start| start as usize >= state.starts.len()) && given.code == 0
+        {
+            expected = expected.with_answers_of(&given, 4 * state.starts.len());
+        }
         let input = || format!("{state:?}, {waiting}");
         self.tally.same("finish", &expected, &given, input);
         given
@@ -447,6 +458,8 @@ impl Pieces<'_> {
             let any = self.random.next();
             let odd = [0, 0, 1, 22, 23, 1 << 32, 1 << 63, u64::MAX - 1, u64::MAX, any];
             let mut state = State::begun(&lists);
+            // Noise is no order.
+            state.order.fill(HS_NONE);
             state.lines = *self.random.pick(&odd);
             state.bad = *self.random.pick(&[0, 0, 0, 1, any, u64::MAX]);
             let waiting = *self.random.pick(&odd);
