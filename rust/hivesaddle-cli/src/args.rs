@@ -1,5 +1,6 @@
 //! The words behind a command: options, which begin with `--`, and operands.
 
+use crate::files::Wanted;
 use crate::text;
 use std::ffi::{OsStr, OsString};
 
@@ -46,6 +47,11 @@ impl Args {
             return Err("no file is named".to_string());
         }
         Ok(args)
+    }
+
+    /// The files and folders that are the operands.
+    pub fn wanted(&self) -> Wanted<'_> {
+        Wanted { operands: &self.operands, recursive: self.has("recursive") }
     }
 
     pub fn has(&self, flag: &str) -> bool {

@@ -53,5 +53,5 @@ fn chart(name: &OsStr, out: &OsStr) -> Result<Outcome, Outcome> {
     let file = reader.read(name).map_err(|trouble| failed(name, trouble))?;
     let chart = Chart::of(file).map_err(|refusal| refused(name, refusal::line(file, refusal)))?;
     let program = text::shown(program_name(file).unwrap_or_default());
-    Ok(output::write_view(out, &svg::svg(&chart, &program), &[name.to_owned()]))
+    Ok(output::write_view(out, &svg::svg(&chart, &program), output::one(&name.to_owned())))
 }

@@ -1,6 +1,7 @@
 //! `hivesaddle check`: accepted, or what is wrong and where.
 
 use crate::args::{Args, Known};
+use crate::files::Wanted;
 use crate::look::{each_look, Look};
 use crate::outcome::{complain, usage, written, Outcome};
 use crate::{hex, refusal, text};
@@ -9,7 +10,7 @@ use std::ffi::{OsStr, OsString};
 use std::io::{self, BufWriter, Write};
 
 pub const HELP: &str = "\
-usage: hivesaddle check FILE|FOLDER ..
+usage: hivesaddle check [--recursive] FILE|FOLDER ..
 
 Says of each file that it is accepted, or why it is refused: the number of the refusal, what it
 means and with which section, entry or volume, where the field at fault stands, and the bytes
@@ -17,6 +18,9 @@ there as a hex editor shows them, with ^^ below the field. A byte that the file 
 have is shown as --. README has a table of all refusals.
 
 Of a folder, the files whose names end in .pf, or .PF, are checked.
+
+  --recursive  the files of folders inside folders too, also those that only begin as a Prefetch
+               file does
 
 Exit status: 0 all are accepted; 1 one was refused; 2 one could not be read.
 
@@ -26,15 +30,15 @@ example: hivesaddle make --list 13 >ring.txt
 ";
 
 pub fn run(words: Vec<OsString>) -> Outcome {
-    match Args::of_files(words, Known::default()) {
-        Ok(args) => written(|worst| check(&args.operands, worst)),
+    match Args::of_files(words, Known { flags: &["recursive"], valued: &[] }) {
+        Ok(args) => written(|worst| check(args.wanted(), worst)),
         Err(message) => usage("check", message),
     }
 }
 
-fn check(operands: &[OsString], worst: &mut Outcome) -> io::Result<()> {
+fn check(wanted: Wanted, worst: &mut Outcome) -> io::Result<()> {
     let mut out = BufWriter::new(io::stdout().lock());
-    each_look(operands, worst, |name, look| match look {
+    each_look(wanted, worst, |name, look| match look {
         Look::Ahead => out.flush(),
         Look::Accepted(..) => writeln!(out, "{}: accepted", text::shown_name(name)),
         Look::Refused(file, refusal) => out.write_all(refused(name, file, refusal).as_bytes()),

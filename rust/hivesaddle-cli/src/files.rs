@@ -6,7 +6,7 @@ use std::ffi::{OsStr, OsString};
 use std::fmt;
 use std::fs::{self, DirEntry, File, Metadata};
 use std::io::{self, Read};
-use std::path::Path;
+use std::path::{Path, PathBuf};
 use std::time::SystemTime;
 
 /// The largest Prefetch file that the library reads.
@@ -28,7 +28,7 @@ pub fn has_signature(bytes: &[u8]) -> bool {
     bytes.get(4..8) == Some(b"SCCA")
 }
 
-/// As Windows 10 keeps them.
+/// As Windows 10 keeps them: the letters, and how the rest is compressed.
 pub fn is_compressed(bytes: &[u8]) -> bool {
     bytes.starts_with(b"MAM")
 }
@@ -40,8 +40,8 @@ pub enum Trouble {
     AboveLimit,
     Empty,
     Changed,
-    /// A folder in which no name ends in .pf.
-    NoFiles,
+    /// A folder in which no name ends in .pf, and whether it has folders inside.
+    NoFiles(bool),
 }
 
 impl fmt::Display for Trouble {
@@ -51,7 +51,10 @@ impl fmt::Display for Trouble {
             Trouble::AboveLimit => write!(f, "above the limit of {LARGEST} bytes"),
             Trouble::Empty => write!(f, "empty"),
             Trouble::Changed => write!(f, "changed while it was read"),
-            Trouble::NoFiles => write!(f, "no .pf files in this folder"),
+            Trouble::NoFiles(false) => write!(f, "no .pf files in this folder"),
+            Trouble::NoFiles(true) => {
+                write!(f, "no .pf files in this folder; --recursive looks into its subfolders")
+            }
         }
     }
 }
@@ -62,56 +65,91 @@ impl From<io::Error> for Trouble {
     }
 }
 
+/// Files and folders named on the command line.
+#[derive(Clone, Copy)]
+pub struct Wanted<'a> {
+    pub operands: &'a [OsString],
+    /// Folders inside folders too.
+    pub recursive: bool,
+}
+
 /// Hands over each file named: a file as it is, a folder's files that end in
-/// .pf, in whatever letter case, in the order of their names and not those of
-/// folders inside it. Where a folder can't be read, its own name with the
-/// trouble.
+/// .pf, in whatever letter case, in the order of their names. Those of folders
+/// inside it come behind them, if they are wanted. Where a folder can't be read,
+/// its own name with the trouble.
 pub fn each_file<E>(
-    operands: &[OsString],
+    wanted: Wanted,
     mut take: impl FnMut(&OsStr, Option<Trouble>) -> Result<(), E>,
 ) -> Result<(), E> {
-    for operand in operands {
-        if operand != INPUT && Path::new(operand).is_dir() {
-            each_of_folder(operand, &mut take)?;
-        } else {
+    for operand in wanted.operands {
+        let folder = Path::new(operand);
+        if operand == INPUT || !folder.is_dir() {
             take(operand, None)?;
+        } else if each_of_folder(folder, wanted.recursive, &mut take)? == 0 {
+            let has_folders = !wanted.recursive && !folders_in(folder).is_empty();
+            take(operand, Some(Trouble::NoFiles(has_folders)))?;
         }
     }
     Ok(())
 }
 
+/// Gives how many files, or troubles, there were.
 fn each_of_folder<E>(
-    folder: &OsStr,
+    folder: &Path,
+    recursive: bool,
     take: &mut impl FnMut(&OsStr, Option<Trouble>) -> Result<(), E>,
-) -> Result<(), E> {
-    let folder = Path::new(folder);
-    let mut last = None;
+) -> Result<usize, E> {
+    let (mut last, mut count) = (None, 0);
     loop {
-        let names = match names_behind(folder, last.as_deref(), HELD) {
+        let names = match names_behind(folder, last.as_deref(), HELD, recursive) {
             Ok(names) => names,
-            Err(error) => return take(folder.as_os_str(), Some(error.into())),
+            Err(error) => {
+                take(folder.as_os_str(), Some(error.into()))?;
+                return Ok(count + 1);
+            }
         };
-        if names.is_empty() && last.is_none() {
-            return take(folder.as_os_str(), Some(Trouble::NoFiles));
-        }
         for name in &names {
             take(folder.join(name).as_os_str(), None)?;
         }
+        count += names.len();
         match names.into_iter().last() {
             Some(name) => last = Some(name),
-            None => return Ok(()),
+            None => break,
         }
     }
+    if recursive {
+        for inner in folders_in(folder) {
+            count += each_of_folder(&inner, recursive, take)?;
+        }
+    }
+    Ok(count)
+}
+
+/// In the order of their names. Links are not followed, so that there is no way
+/// in a circle.
+fn folders_in(folder: &Path) -> Vec<PathBuf> {
+    let entries = fs::read_dir(folder).into_iter().flatten().flatten();
+    let folders = entries.filter(|entry| entry.file_type().is_ok_and(|kind| kind.is_dir()));
+    let mut folders: Vec<PathBuf> = folders.map(|entry| entry.path()).collect();
+    folders.sort();
+    folders
 }
 
 /// The next names in order behind the last one, as many as are to be held.
-fn names_behind(folder: &Path, last: Option<&OsStr>, held: usize) -> io::Result<Vec<OsString>> {
+/// Where folders are searched through, files are also known by how they begin.
+fn names_behind(
+    folder: &Path,
+    last: Option<&OsStr>,
+    held: usize,
+    recursive: bool,
+) -> io::Result<Vec<OsString>> {
     let mut names = BinaryHeap::new();
     for entry in fs::read_dir(folder)? {
         let entry = entry?;
         let name = entry.file_name();
-        let is_next = has_ending(&name) && last.is_none_or(|last| &*name > last);
-        if is_next && may_be_file(&entry)? {
+        let is_next = last.is_none_or(|last| &*name > last);
+        let is_wanted = |entry: &DirEntry| has_ending(&name) || recursive && begins_so(entry);
+        if is_next && may_be_file(&entry)? && is_wanted(&entry) {
             names.push(name);
         }
         if names.len() > held {
@@ -127,6 +165,14 @@ fn may_be_file(entry: &DirEntry) -> io::Result<bool> {
     let kind = entry.file_type()?;
     let leads_to_file = || fs::metadata(entry.path()).map_or(true, |data| data.is_file());
     Ok(kind.is_file() || kind.is_symlink() && leads_to_file())
+}
+
+/// A regular file that begins as a Prefetch file does, whatever its name.
+fn begins_so(entry: &DirEntry) -> bool {
+    let mut start = Vec::new();
+    let is_file = entry.file_type().is_ok_and(|kind| kind.is_file());
+    let mut read = || File::open(entry.path())?.take(8).read_to_end(&mut start);
+    is_file && read().is_ok() && is_prefetch(&start)
 }
 
 fn has_ending(name: &OsStr) -> bool {
@@ -222,7 +268,8 @@ mod tests {
         for name in ["e.pf", "b.PF", "d.pf", "a.pf", "c.pf", "c.txt"] {
             fs::write(folder.join(name), "").unwrap();
         }
-        let behind = |last: Option<&str>| names_behind(&folder, last.map(OsStr::new), 2).unwrap();
+        let behind =
+            |last: Option<&str>| names_behind(&folder, last.map(OsStr::new), 2, false).unwrap();
         assert_eq!(behind(None), ["a.pf", "b.PF"]);
         assert_eq!(behind(Some("b.PF")), ["c.pf", "d.pf"]);
         assert_eq!(behind(Some("d.pf")), ["e.pf"]);

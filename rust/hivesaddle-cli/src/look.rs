@@ -1,10 +1,10 @@
 //! One file after another before the library's reader, with the same memory for
 //! all.
 
-use crate::files::{each_file, takes_long, Reader, Trouble};
+use crate::files::{each_file, takes_long, Reader, Trouble, Wanted};
 use crate::outcome::Outcome;
 use hivesaddle::{places, read_file, Record, Refusal};
-use std::ffi::{OsStr, OsString};
+use std::ffi::OsStr;
 use std::io;
 
 /// What became of a file.
@@ -29,12 +29,12 @@ impl Look<'_> {
 
 /// Looks at each file named, those of folders too, and notes the worst outcome.
 pub fn each_look(
-    operands: &[OsString],
+    wanted: Wanted,
     worst: &mut Outcome,
     mut show: impl FnMut(&OsStr, Look) -> io::Result<()>,
 ) -> io::Result<()> {
     let mut looker = Looker::default();
-    each_file(operands, |name, trouble| {
+    each_file(wanted, |name, trouble| {
         if trouble.is_none() && takes_long(name) {
             show(name, Look::Ahead)?;
         }

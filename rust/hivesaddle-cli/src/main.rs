@@ -11,6 +11,7 @@ mod hex;
 mod list;
 mod look;
 mod make;
+mod manual;
 mod names;
 mod odd;
 mod outcome;
@@ -23,8 +24,10 @@ mod replay;
 mod single;
 mod starts;
 mod table;
+mod terminal;
 mod text;
 mod time;
+mod timeline;
 mod volumes;
 mod year;
 
@@ -52,9 +55,10 @@ const fn command(
     Command { name, does, help, run }
 }
 
-const COMMANDS: [Command; 10] = [
+const COMMANDS: [Command; 11] = [
     command("list", "a row for each file", list::HELP, list::run),
     command("check", "accepted, or what is wrong and where", check::HELP, check::run),
+    command("timeline", "all starts, in the order of time", timeline::HELP, timeline::run),
     command("names", "the files that the program loaded", names::HELP, names::run),
     command("volumes", "the volumes that they lie on", volumes::HELP, volumes::run),
     command("catalogue", "a catalogue line for each file", catalogue::HELP, catalogue::run),
@@ -72,6 +76,8 @@ fn general_help() -> String {
         "hivesaddle reads Windows Prefetch files, and says what is wrong with those it refuses.\n\n\
          usage: hivesaddle COMMAND [OPTIONS] ..\n\n{commands}\n\
          hivesaddle COMMAND --help says more about one, with an example.\n\
+         hivesaddle help --man COMMAND writes the same as a manual page, and\n\
+         hivesaddle help --completion bash or fish a completion for that shell.\n\
          A - in place of a file is standard input.\n\
          Exit status: 0 all is well; 1 a file or a line was refused;\n\
          2 wrong usage, or something could not be read or written.\n"
@@ -86,8 +92,26 @@ fn no_such_command(name: &OsStr) -> Outcome {
     failed(name, "no such command; hivesaddle --help lists them")
 }
 
-/// `hivesaddle help`, with a command behind it or none.
+/// `hivesaddle help`, with a command behind it or none, or as other programs read
+/// it.
 fn help(words: &[OsString]) -> Outcome {
+    let topic = |command: &Command| (command.name, command.does, command.help);
+    let topics = || COMMANDS.iter().map(topic).collect::<Vec<manual::Topic>>();
+    match words {
+        [form, name] if form == "--man" => {
+            return find(name).map_or_else(
+                || no_such_command(name),
+                |command| say(manual::page(topic(command)).as_bytes()),
+            );
+        }
+        [form, shell] if form == "--completion" && shell == "bash" => {
+            return say(manual::bash(&topics()).as_bytes());
+        }
+        [form, shell] if form == "--completion" && shell == "fish" => {
+            return say(manual::fish(&topics()).as_bytes());
+        }
+        _ => {}
+    }
     match words.first().map(|name| (name, find(name))) {
         None => say(general_help().as_bytes()),
         Some((_, Some(command))) => say(command.help.as_bytes()),

@@ -95,7 +95,7 @@ fn make(description: &OsStr, path: &OsStr) -> Outcome {
         TestFile::from_description(&text).map_err(shown)
     });
     match described.map(|described| described.make().map_err(|refusal| why(&described, refusal))) {
-        Ok(Ok(file)) => match write_made(path, &file, &[description.to_owned()]) {
+        Ok(Ok(file)) => match write_made(path, &file, &description.to_owned()) {
             // What it says would stand behind the file.
             Outcome::Done if path != "-" => say(summary(&file).as_bytes()),
             outcome => outcome,

@@ -3,7 +3,7 @@
 mod beside;
 mod interrupt;
 
-use crate::files::{each_file, is_prefetch, INPUT};
+use crate::files::{each_file, is_prefetch, Wanted, INPUT};
 use crate::outcome::{failed, plain, written, Outcome};
 use std::ffi::{OsStr, OsString};
 use std::fs::{self, File, Metadata};
@@ -19,7 +19,7 @@ pub fn say(bytes: &[u8]) -> Outcome {
 
 /// Writes a file anew, or to standard output for `-`. What it is made from is
 /// not written over, nor a file of a folder among the inputs.
-fn write(name: &OsStr, bytes: &[u8], inputs: &[OsString]) -> Outcome {
+fn write(name: &OsStr, bytes: &[u8], inputs: Wanted) -> Outcome {
     if name == INPUT {
         return say(bytes);
     }
@@ -34,7 +34,7 @@ fn write(name: &OsStr, bytes: &[u8], inputs: &[OsString]) -> Outcome {
 
 /// As [`write`], for what is no Prefetch file: it takes the place of none, as in
 /// `chart *.pf`.
-pub fn write_view(name: &OsStr, view: &str, inputs: &[OsString]) -> Outcome {
+pub fn write_view(name: &OsStr, view: &str, inputs: Wanted) -> Outcome {
     if name != INPUT && is_prefetch(&start_of(name)) {
         let over = "is a Prefetch file, and would be written over; give the output another name";
         return failed(name, over);
@@ -45,14 +45,14 @@ pub fn write_view(name: &OsStr, view: &str, inputs: &[OsString]) -> Outcome {
 /// As [`write`], for a Prefetch file that is made: it takes the place of one that
 /// was made, and of none that Windows wrote. Windows has a number at 8, 15 or 17,
 /// and what is made has 0 there.
-pub fn write_made(name: &OsStr, file: &[u8], inputs: &[OsString]) -> Outcome {
+pub fn write_made(name: &OsStr, file: &[u8], input: &OsString) -> Outcome {
     let start = start_of(name);
     let is_made = start.get(8..12).is_none_or(|number| number == [0; 4]);
     if name != INPUT && is_prefetch(&start) && !is_made {
         let over = "is a Prefetch file that was not made with this command; give another name";
         return failed(name, over);
     }
-    write(name, file, inputs)
+    write(name, file, one(input))
 }
 
 /// The first bytes of a file; none where it can't be read. A pipe is not asked,
@@ -65,9 +65,14 @@ fn start_of(name: &OsStr) -> Vec<u8> {
     start
 }
 
+/// A single input, which is no folder to search through.
+pub fn one(input: &OsString) -> Wanted<'_> {
+    Wanted { operands: std::slice::from_ref(input), recursive: false }
+}
+
 /// By whatever names, hard links and standard input too. A file that is not
 /// there is the same as none, and a device is no file.
-pub fn is_among(name: &OsStr, inputs: &[OsString]) -> bool {
+pub fn is_among(name: &OsStr, inputs: Wanted) -> bool {
     let Some(place) = fs::metadata(name).ok().and_then(identity) else {
         return false;
     };

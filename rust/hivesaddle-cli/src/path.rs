@@ -19,6 +19,15 @@ pub enum How {
 /// What is said where there is none.
 pub const NONE: &str = "none: no file loaded has the stored hash or the program's name";
 
+/// For a column of its own.
+pub fn how_found(how: Option<How>) -> &'static str {
+    match how {
+        Some(How::Hash(_)) => "by hash",
+        Some(How::Name) => "by name",
+        None => NONE,
+    }
+}
+
 /// Of an accepted file. The hash decides where it can. That of a hosting program,
 /// such as SVCHOST.EXE, covers its command line, and no file loaded has it.
 pub fn find<'a>(file: &'a [u8], record: &Record) -> Option<Found<'a>> {

@@ -3,6 +3,7 @@
 //! not be added up.
 
 use crate::board::Source;
+use crate::files::Wanted;
 use crate::look::{each_look, Look};
 use crate::outcome::{complain, Outcome};
 use crate::{refusal, text};
@@ -26,11 +27,13 @@ pub struct Pull {
 /// What is refused goes to standard error.
 pub fn each_pull(
     sources: &[Source],
+    recursive: bool,
     worst: &mut Outcome,
     mut take: impl FnMut(Option<Pull>) -> io::Result<()>,
 ) -> io::Result<()> {
     for source in sources {
-        each_look(std::slice::from_ref(&source.name), worst, |name, look| {
+        let wanted = Wanted { operands: std::slice::from_ref(&source.name), recursive };
+        each_look(wanted, worst, |name, look| {
             match look {
                 Look::Ahead => return take(None),
                 Look::Accepted(file, record) => {

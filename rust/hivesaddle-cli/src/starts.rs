@@ -10,7 +10,7 @@ use std::ffi::OsString;
 use std::io::{self, BufWriter, Write};
 
 pub const HELP: &str = "\
-usage: hivesaddle starts BOARD=FILE|BOARD=FOLDER ..
+usage: hivesaddle starts [--recursive] BOARD=FILE|BOARD=FOLDER ..
 
 Writes a line for each start that the files tell of: 26 digits, which are the
 run time (16), the board (2) and the stored hash (8). BOARD is the number of the
@@ -23,23 +23,26 @@ its board, program name, hash and time, however often it stands, and standard
 error says how many stood more than once. A file that is refused goes to
 standard error.
 
+  --recursive  the files of folders inside folders too, also those that only
+               begin as a Prefetch file does
+
 Exit status: 0; 1 if a file was refused; 2 if one could not be read.
 
 example: hivesaddle starts 3=examples/samples/small.pf >starts.txt
 ";
 
 pub fn run(words: Vec<OsString>) -> Outcome {
-    let args = Args::of_files(words, Known::default());
-    match args.and_then(|args| sources_of_boards(&args.operands)) {
-        Ok(sources) => written(|worst| write(&sources, worst)),
+    let args = Args::of_files(words, Known { flags: &["recursive"], valued: &[] });
+    match args.and_then(|args| Ok((sources_of_boards(&args.operands)?, args.has("recursive")))) {
+        Ok((sources, recursive)) => written(|worst| write(&sources, recursive, worst)),
         Err(message) => usage("starts", message),
     }
 }
 
-fn write(sources: &[Source], worst: &mut Outcome) -> io::Result<()> {
+fn write(sources: &[Source], recursive: bool, worst: &mut Outcome) -> io::Result<()> {
     let mut once = Once::default();
     let mut out = BufWriter::new(io::stdout().lock());
-    each_pull(sources, worst, |pull| match pull {
+    each_pull(sources, recursive, worst, |pull| match pull {
         None => out.flush(),
         Some(pull) => once
             .new_starts(&pull)

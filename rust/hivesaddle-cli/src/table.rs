@@ -44,6 +44,11 @@ pub enum Cell {
     Words(String),
     /// UTF-16 as it stands in a file, low byte first.
     Units(Vec<u8>),
+    /// Eight digits. In CSV 0x stands before them, so that no spreadsheet takes
+    /// them for a number.
+    Hash(u32),
+    /// An array in JSON.
+    List(Vec<Cell>),
 }
 
 impl Cell {
@@ -70,7 +75,13 @@ impl Cell {
             Cell::Number(number) => number.to_string(),
             Cell::Decimal(text) | Cell::Words(text) => text.clone(),
             Cell::Units(bytes) => text::shown(bytes),
+            Cell::Hash(hash) => format!("{hash:08X}"),
+            Cell::List(cells) => Cell::joined(cells, Cell::shown, "; "),
         }
+    }
+
+    fn joined(cells: &[Cell], of: impl Fn(&Cell) -> String, between: &str) -> String {
+        cells.iter().map(of).collect::<Vec<String>>().join(between)
     }
 
     fn csv(&self) -> String {
@@ -78,6 +89,16 @@ impl Cell {
             Cell::Empty | Cell::Number(_) | Cell::Decimal(_) => self.shown(),
             Cell::Words(text) => text::csv_field(text),
             Cell::Units(bytes) => text::csv_field(&text::shown(bytes)),
+            Cell::Hash(hash) => format!("0x{hash:08X}"),
+            Cell::List(cells) => text::csv_field(&Cell::joined(cells, Cell::unguarded, "; ")),
+        }
+    }
+
+    /// As in CSV, inside a field that is guarded as a whole.
+    fn unguarded(&self) -> String {
+        match self {
+            Cell::Hash(_) => self.csv(),
+            _ => self.shown(),
         }
     }
 
@@ -87,11 +108,64 @@ impl Cell {
             Cell::Number(_) | Cell::Decimal(_) => self.shown(),
             Cell::Words(text) => text::json_string(text),
             Cell::Units(bytes) => text::json_units(text::units(bytes)),
+            Cell::Hash(_) => text::json_string(&self.shown()),
+            Cell::List(cells) => format!("[{}]", Cell::joined(cells, Cell::json, ", ")),
         }
     }
 
     fn is_number(&self) -> bool {
         matches!(self, Cell::Number(_) | Cell::Decimal(_))
+    }
+}
+
+/// How a row stays on one line of a terminal.
+#[derive(Clone, Copy)]
+pub struct Fit {
+    pub width: usize,
+    /// Columns, from the one that is left out first. The last of all is not among
+    /// them: it is cut.
+    pub order: &'static [usize],
+}
+
+/// What is left of the last column at least.
+const LEAST: usize = 20;
+
+impl Fit {
+    /// Which columns are shown, and how wide the last may be.
+    fn columns(&self, widths: &[usize]) -> (Vec<bool>, usize) {
+        let mut shown = vec![true; widths.len()];
+        let last = widths.len() - 1;
+        let before = |shown: &[bool]| -> usize {
+            (0..last).filter(|i| shown[*i]).map(|i| widths[i] + 2).sum()
+        };
+        for &column in self.order {
+            if before(&shown) + widths[last].min(LEAST) <= self.width {
+                break;
+            }
+            shown[column] = false;
+        }
+        let room = self.width.saturating_sub(before(&shown));
+        (shown, room)
+    }
+}
+
+/// At most so wide: of a path its end, and of anything else its start.
+fn cut(text: &str, room: usize) -> String {
+    if text::width(text) <= room {
+        return text.to_string();
+    }
+    let mut left = room.saturating_sub(1);
+    let fits = |character: &char| {
+        let width = text::width(character.encode_utf8(&mut [0; 4]));
+        let is_in = width <= left;
+        left = if is_in { left - width } else { 0 };
+        is_in
+    };
+    if text.starts_with('\\') {
+        let end: Vec<char> = text.chars().rev().take_while(fits).collect();
+        std::iter::once('\u{2026}').chain(end.into_iter().rev()).collect()
+    } else {
+        text.chars().take_while(fits).chain(['\u{2026}']).collect()
     }
 }
 
@@ -103,6 +177,7 @@ pub struct Table<W: Write> {
     /// Rows that wait to be aligned with those that follow.
     block: Vec<Vec<Cell>>,
     widths: Vec<usize>,
+    fit: Option<Fit>,
     started: bool,
 }
 
@@ -113,7 +188,12 @@ const BLOCK: usize = 256;
 impl<W: Write> Table<W> {
     pub fn new(out: W, style: Style, titles: &'static [&'static str]) -> Table<W> {
         let widths = titles.iter().map(|title| text::width(title)).collect();
-        Table { out, style, titles, block: Vec::new(), widths, started: false }
+        Table { out, style, titles, block: Vec::new(), widths, fit: None, started: false }
+    }
+
+    /// On a terminal, with each row on one line.
+    pub fn fitted(self, fit: Option<Fit>) -> Table<W> {
+        Table { fit, ..self }
     }
 
     /// As many cells as there are titles.
@@ -172,12 +252,17 @@ impl<W: Write> Table<W> {
                 *width = text::width(cell).max(*width);
             }
         }
+        let all = (vec![true; self.widths.len()], usize::MAX);
+        let (shown, room) = self.fit.map_or(all, |fit| fit.columns(&self.widths));
         for row in &rows {
             let mut line = String::new();
-            for ((cell, is_number), width) in row.iter().zip(&self.widths) {
-                let blanks = " ".repeat(width - text::width(cell));
+            for (i, (cell, is_number)) in row.iter().enumerate().filter(|(i, _)| shown[*i]) {
+                let blanks = " ".repeat(self.widths[i] - text::width(cell));
                 let (left, right) = if *is_number { (&*blanks, "") } else { ("", &*blanks) };
-                line.extend([left, cell, right, "  "]);
+                match i + 1 < row.len() {
+                    true => line.extend([left, cell, right, "  "]),
+                    false => line += &cut(cell, room),
+                }
             }
             writeln!(self.out, "{}", line.trim_end())?;
         }
@@ -254,6 +339,28 @@ A           7  \\u{1B},
         assert_eq!(table(Style::Tabs, Vec::new()), "");
         assert_eq!(table(Style::Csv, Vec::new()), "name,runs,path\n");
         assert_eq!(table(Style::Json, Vec::new()), "[]\n");
+    }
+
+    #[test]
+    fn a_narrow_terminal_has_fewer_columns() {
+        let lines = |width: usize| {
+            let mut out = Vec::new();
+            let fit = Some(Fit { width, order: &[1, 0] });
+            let mut table = Table::new(&mut out, Style::Aligned, TITLES).fitted(fit);
+            let path = Cell::words(r"\DISK\FOLDER\A-LONG-NAME.EXE");
+            table.row(vec![Cell::words("A"), Cell::Number(7), path]).unwrap();
+            table
+                .row(vec![Cell::words("B"), Cell::Number(7), Cell::words("x".repeat(30))])
+                .unwrap();
+            table.end().unwrap();
+            String::from_utf8(out).unwrap().lines().map(String::from).collect::<Vec<String>>()
+        };
+        assert_eq!(lines(42)[1], r"A        7  \DISK\FOLDER\A-LONG-NAME.EXE");
+        assert_eq!(lines(34)[1], "A        7  \u{2026}OLDER\\A-LONG-NAME.EXE");
+        assert_eq!(lines(34)[2], format!("B        7  {}\u{2026}", "x".repeat(21)));
+        assert_eq!(lines(31)[0], "name  path");
+        assert_eq!(lines(20)[1], "\u{2026}DER\\A-LONG-NAME.EXE");
+        assert!(lines(20).iter().all(|line| line.chars().count() <= 20));
     }
 
     /// A wide row widens those that follow it, and not those long before it.

@@ -1,5 +1,7 @@
 //! FILETIMEs: hundreds of nanoseconds since the start of 1601, UTC.
 
+use std::time::SystemTime;
+
 /// As ISO 8601, `2026-11-16T17:01:42.1234567Z`; none for 0, which Windows writes
 /// where there is no time. The last year is 60056, and has five digits.
 pub fn iso(filetime: u64) -> Option<String> {
@@ -10,6 +12,20 @@ pub fn iso(filetime: u64) -> Option<String> {
     let (year, month, day) = date(seconds / 86_400);
     let (hour, minute, second) = (seconds / 3_600 % 24, seconds / 60 % 60, seconds % 60);
     Some(format!("{year}-{month:02}-{day:02}T{hour:02}:{minute:02}:{second:02}.{ticks:07}Z"))
+}
+
+/// The start of 1970 as a FILETIME.
+const UNIX: u64 = 116_444_736_000_000_000;
+
+/// Whole seconds since the start of 1970; 0 for what was before.
+pub fn unix_seconds(filetime: u64) -> u64 {
+    filetime.saturating_sub(UNIX) / 10_000_000
+}
+
+/// A time of this system as a FILETIME; none before 1970.
+pub fn filetime(time: SystemTime) -> Option<u64> {
+    let since = time.duration_since(SystemTime::UNIX_EPOCH).ok()?;
+    u64::try_from(since.as_nanos() / 100).ok()?.checked_add(UNIX)
 }
 
 /// Year, month and day of a day counted from the start of 1601. The calendar
@@ -53,7 +69,7 @@ fn days_of_month(year: u64, month: u64) -> u64 {
 
 #[cfg(test)]
 mod tests {
-    use super::iso;
+    use super::*;
 
     /// Days since the start of 1601, and the time of day in hundreds of nanoseconds.
     fn at(days: u64, ticks: u64) -> String {
@@ -69,6 +85,13 @@ mod tests {
         // What .NET shows for the largest that fits 63 bits.
         assert_eq!(iso(i64::MAX as u64).unwrap(), "30828-09-14T02:48:05.4775807Z");
         assert_eq!(iso(u64::MAX).unwrap(), "60056-05-28T05:36:10.9551615Z");
+    }
+
+    #[test]
+    fn other_clocks() {
+        let seconds = [0, UNIX, UNIX + 9_999_999, UNIX + 10_000_000].map(unix_seconds);
+        assert_eq!(seconds, [0, 0, 0, 1]);
+        assert_eq!(filetime(SystemTime::UNIX_EPOCH), Some(UNIX));
     }
 
     #[test]

@@ -7,6 +7,7 @@ mod names;
 use crate::age;
 use crate::args::{input_once, Args, Known};
 use crate::board::{source, sources_of_boards};
+use crate::files::Wanted;
 use crate::outcome::{usage, written, Outcome};
 use crate::page::{tenths, Page};
 use crate::pulls::each_pull;
@@ -43,6 +44,8 @@ CATALOGUE and STARTS are what these two commands wrote. One of the files may be
                   Prefetch file is not written over
   --by-board      a table for each board, with its number in the first column;
                   with BOARD=FOLDER
+  --recursive     the files of folders inside folders too, also those that only
+                  begin as a Prefetch file does
   --within AGE    a reading that is older at the start is none; AGE is a number
                   and s, m, h or d, as 90m
   --names FOLDER  with the programs' names, from a folder of their Prefetch
@@ -62,8 +65,10 @@ read or written, or if no start is of the catalogue.
 example: hivesaddle year examples/year/chamber.txt 3=examples/samples/small.pf --html year.html
 ";
 
-const KNOWN: Known =
-    Known { flags: &["csv", "json", "by-board"], valued: &["html", "names", "within"] };
+const KNOWN: Known = Known {
+    flags: &["csv", "json", "by-board", "recursive"],
+    valued: &["html", "names", "within"],
+};
 
 pub fn run(words: Vec<OsString>) -> Outcome {
     match Args::split(words, KNOWN) {
@@ -79,7 +84,12 @@ fn asked(args: &Args) -> Result<Outcome, String> {
     }
     let style = Style::of(args)?;
     let out = args.value("html").map_or(Out::Table(style), Out::Page);
-    let show = Show { out, by_board: args.has("by-board"), within: within(args)? };
+    let show = Show {
+        out,
+        by_board: args.has("by-board"),
+        recursive: args.has("recursive"),
+        within: within(args)?,
+    };
     let folders: Vec<OsString> = args.values("names").map(OsStr::to_owned).collect();
     let has_board = |name: &OsString| source(name).map_or(true, |source| source.board.is_some());
     let made = match &args.operands[..] {
@@ -107,6 +117,7 @@ fn asked(args: &Args) -> Result<Outcome, String> {
 struct Show<'a> {
     out: Out<'a>,
     by_board: bool,
+    recursive: bool,
     within: u64,
 }
 
@@ -128,7 +139,7 @@ fn of_boards(
     input_once(&files)?;
     let (mut pulls, mut worst) = (Vec::new(), Outcome::Done);
     // Nothing is written here that could fail.
-    let _ = each_pull(&sources, &mut worst, |pull| {
+    let _ = each_pull(&sources, show.recursive, &mut worst, |pull| {
         pulls.extend(pull);
         Ok(())
     });
@@ -143,7 +154,8 @@ fn of_files(files: [&OsString; 3], folders: &[OsString], show: &Show) -> Result<
     let [catalogue, starts, recording] = files;
     let inputs = Inputs::read(catalogue, starts)?;
     let table = inputs.table(recording, show.within, false)?;
-    let names = Names::read(folders, table.iter().map(|line| line.row.stored_hash));
+    let wanted = Wanted { operands: folders, recursive: show.recursive };
+    let names = Names::read(wanted, table.iter().map(|line| line.row.stored_hash));
     let files: Vec<OsString> = files.into_iter().chain(folders).cloned().collect();
     Ok(show.table(&table, &names, inputs.times(), &files).worst(names.outcome))
 }
@@ -161,6 +173,7 @@ impl Show<'_> {
             Out::Page(out) => {
                 let name = |hash| text::shown(&names.joined(hash));
                 let page = Page { lines: table, name: &name, times };
+                let inputs = Wanted { operands: inputs, recursive: self.recursive };
                 output::write_view(out, &page.html(), inputs)
             }
         }
@@ -200,7 +213,7 @@ fn cells(line: &Line, names: &Names, style: Style) -> Vec<Cell> {
     let name = names.joined(row.stored_hash);
     let mut cells = vec![
         line.board.map_or(Cell::Empty, |board| Cell::Number(board.into())),
-        Cell::words(format!("{:08X}", row.stored_hash)),
+        Cell::Hash(row.stored_hash),
         if name.is_empty() { Cell::Empty } else { Cell::Units(name) },
         Cell::Number(row.lines),
         Cell::Number(row.run_counts),

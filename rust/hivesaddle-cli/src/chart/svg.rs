@@ -10,7 +10,7 @@ const TOP: u64 = 92;
 /// A line of text, and the map below it.
 const ROW: u64 = 36;
 /// Below the last row: the caption.
-const BELOW: u64 = 96;
+const BELOW: u64 = 112;
 /// Parts of a map that are told apart.
 const PARTS: u64 = 400;
 /// Characters of a name's end that fit a narrow screen.
@@ -133,10 +133,11 @@ fn marks(positions: &[u32], last: u32) -> Vec<(u64, u64)> {
     marks
 }
 
-const CAPTION: [&str; 3] = [
-    "A row is a file that the program loaded, with its number of trace",
-    "entries. The map shows where in the file they lie, each row on a",
-    "scale of its own: from 0 to the greatest position of that row.",
+const CAPTION: [&str; 4] = [
+    "A row is a file that the program loaded, with its",
+    "number of trace entries. The map shows where in the",
+    "file they lie, each row on a scale of its own: from 0",
+    "to the greatest position of that row.",
 ];
 const CHAINS: &str = "The first chain is the first file's, and so on.";
 const NO_CHAINS: &str = "Version 30 has no chains: each file names its entries.";

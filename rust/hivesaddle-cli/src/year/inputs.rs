@@ -3,7 +3,7 @@
 use crate::age::{self, HOUR};
 use crate::files::{Reader, Trouble};
 use crate::outcome::{complain, failed, Outcome};
-use crate::output::is_among;
+use crate::output::{is_among, one};
 use crate::pulls::{joined, Once, Pull};
 use crate::replay::{answers, has_no_lines, refuse_catalogue_line, refused};
 use crate::starts::lines::{self, StartLine};
@@ -162,7 +162,7 @@ impl<'a> Inputs<'a> {
         if self.lines.is_empty() || self.starts.is_empty() {
             return Ok(());
         }
-        if is_among(starts_file, &[catalogue.to_owned()]) {
+        if is_among(starts_file, one(&catalogue.to_owned())) {
             return Err(failed(starts_file, format_args!("is the catalogue too; {ORDER}")));
         }
         let missing: BTreeSet<u32> =

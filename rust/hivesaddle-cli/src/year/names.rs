@@ -1,12 +1,12 @@
 //! The names of programs, from the files that they left.
 
+use crate::files::Wanted;
 use crate::look::{each_look, Look};
 use crate::outcome::{complain, Outcome};
 use crate::pulls::Pull;
 use crate::refusal;
 use hivesaddle::program_name;
 use std::collections::BTreeMap;
-use std::ffi::OsString;
 
 /// Names shown of one hash. There is one as a rule.
 const MOST: usize = 4;
@@ -20,7 +20,7 @@ pub struct Names {
 }
 
 impl Names {
-    pub fn read(files: &[OsString], hashes: impl Iterator<Item = u32>) -> Names {
+    pub fn read(files: Wanted, hashes: impl Iterator<Item = u32>) -> Names {
         let mut of_hash: BTreeMap<u32, Vec<Vec<u8>>> =
             hashes.map(|hash| (hash, Vec::new())).collect();
         let mut outcome = Outcome::Done;

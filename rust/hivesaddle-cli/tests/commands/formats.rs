@@ -8,7 +8,7 @@ use std::io::Write;
 use std::os::unix::ffi::OsStrExt;
 use std::process::{Command, Stdio};
 
-/// A line for each row: `-` for null, numbers, and texts as the digits of their
+/// A line for each row, of its first columns: `-` for null, numbers, and texts as the digits of their
 /// UTF-16 units behind a u.
 const SHOW: &str = "
 def show(value):
@@ -18,8 +18,9 @@ def show(value):
 for row in rows: print(' '.join(map(show, row)))
 ";
 const OF_JSON: &str =
-    "import json, sys\nrows = [list(row.values()) for row in json.load(sys.stdin)]";
-const OF_CSV: &str = "import csv, sys\nrows = csv.reader(sys.stdin, strict=True)";
+    "import json, sys\nrows = [list(row.values())[:16] for row in json.load(sys.stdin)]";
+const OF_CSV: &str =
+    "import csv, sys\nrows = (row[:16] for row in csv.reader(sys.stdin, strict=True))";
 
 /// What Python makes of a text.
 fn python(read: &str, text: &str) -> Vec<String> {
@@ -98,7 +99,7 @@ fn row(file_name: &str, file: &[u8], name: &str, path: &str) -> Vec<String> {
     row.extend(numbers.map(|number| number.to_string()));
     row.extend([path.to_string(), found.number.to_string()]);
     row.extend(vec!["-".to_string(); 4]);
-    row.push(words("hash"));
+    row.push(words("by hash"));
     row
 }
 
@@ -122,7 +123,7 @@ fn json_has_every_unit() {
         assert_eq!(shown, expected.join(" "));
     }
     let rows = python(OF_JSON, &out(&folder.run(&["names", "--json", "11.pf"])));
-    assert_eq!(rows, [format!("0 {}", text(names()[11].iter().copied()))]);
+    assert_eq!(rows, [format!("0 {} {}", text(names()[11].iter().copied()), words("11.pf"))]);
 }
 
 /// As the text is shown, see src/text.rs; an apostrophe before a formula.
@@ -154,7 +155,9 @@ fn csv_has_what_is_shown() {
     for (i, name) in names().iter().enumerate() {
         let shown = words(SHOWN[i]);
         let expected = row(&format!("./{i:02}.pf"), &file(name), &shown, &shown);
-        let expected: Vec<String> = expected.iter().map(as_csv).collect();
+        let mut expected: Vec<String> = expected.iter().map(as_csv).collect();
+        // Two more units before the hash.
+        expected[2].insert_str(1, "00300078");
         assert_eq!(rows[1 + i], expected.join(" "));
     }
 }

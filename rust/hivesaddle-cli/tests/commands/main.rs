@@ -1,5 +1,7 @@
 //! The commands, run as a person runs them.
 
+#[cfg(unix)]
+mod analyst;
 mod folder;
 #[cfg(unix)]
 mod formats;

@@ -136,7 +136,7 @@ fn one_step_for_the_crew() {
     let folder = two_boards("step");
     let made = run(&folder, "year recording.txt 3=w1 3=w2 7=other --csv");
     let titles = "hash,program,files,runs,readings,lowest,mean,highest,oldest_seconds";
-    let row = "00000041,A.EXE,2,11,3,-20.0,-9.7,1.0,0";
+    let row = "0x00000041,A.EXE,2,11,3,-20.0,-9.7,1.0,0";
     assert_eq!(out(&made), format!("{titles}\n{row}\n"));
     let joined = "hivesaddle: year: of 3 files 1 is an earlier pull of others, and joined\n";
     assert_eq!((err(&made), status(&made)), (joined.to_string(), 0));
@@ -158,7 +158,8 @@ fn a_table_for_each_board() {
     let folder = two_boards("by-board");
     let made = run(&folder, "year recording.txt 3=w1 3=w2 7=other --by-board --csv");
     let titles = "board,hash,program,files,runs,readings,lowest,mean,highest,oldest_seconds";
-    let rows = "3,00000041,A.EXE,1,6,2,-20.0,-15.0,-10.0,0\n7,00000041,A.EXE,1,5,1,1.0,1.0,1.0,0\n";
+    let rows =
+        "3,0x00000041,A.EXE,1,6,2,-20.0,-15.0,-10.0,0\n7,0x00000041,A.EXE,1,5,1,1.0,1.0,1.0,0\n";
     assert_eq!(out(&made), format!("{titles}\n{rows}"));
     let page = run(&folder, "year recording.txt 3=w1 3=w2 7=other --by-board --html -");
     let page = read_back("html", &page.stdout);

@@ -65,7 +65,7 @@ fn temperatures_of_every_sign() {
         let readings = if d.is_empty() { 0 } else { 1 };
         let age = if d.is_empty() { "" } else { "0" };
         format!(
-            "['0000000{i}', '', '1', '{}', '{readings}', '{d}', '{d}', '{d}', '{age}']\n",
+            "['0x0000000{i}', '', '1', '{}', '{readings}', '{d}', '{d}', '{d}', '{age}']\n",
             i + 1
         )
     };
