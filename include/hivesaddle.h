@@ -165,6 +165,8 @@ uint32_t hs_places(const uint8_t *file, size_t length, uint64_t *out, size_t out
  *
  * The trace entries of version 30 have no next index: steps and total are 0, order is as it was, every slot holds
  * HS_NONE, and 23 is never the answer. Such an entry has a block load count too, which is not added up.
+ * What the papers call a block load count rises along every chain of more than one entry in files that Windows wrote:
+ * there it is a position, and the total means nothing.
  *
  * Gives HS_ACCEPTED where it walked, or HS_REFUSED.
  */

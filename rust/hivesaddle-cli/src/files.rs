@@ -167,12 +167,16 @@ fn may_be_file(entry: &DirEntry) -> io::Result<bool> {
     Ok(kind.is_file() || kind.is_symlink() && leads_to_file())
 }
 
-/// A regular file that begins as a Prefetch file does, whatever its name.
+/// A regular file that begins as a Prefetch file does, whatever its name. Behind
+/// the letters MAM stands how it is compressed, so that no text is taken for one.
 fn begins_so(entry: &DirEntry) -> bool {
     let mut start = Vec::new();
     let is_file = entry.file_type().is_ok_and(|kind| kind.is_file());
     let mut read = || File::open(entry.path())?.take(8).read_to_end(&mut start);
-    is_file && read().is_ok() && is_prefetch(&start)
+    if !is_file || read().is_err() {
+        return false;
+    }
+    has_signature(&start) || start.starts_with(b"MAM\x04") || start.starts_with(b"MAM\x84")
 }
 
 fn has_ending(name: &OsStr) -> bool {

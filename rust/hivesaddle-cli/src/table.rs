@@ -261,7 +261,7 @@ impl<W: Write> Table<W> {
                 let (left, right) = if *is_number { (&*blanks, "") } else { ("", &*blanks) };
                 match i + 1 < row.len() {
                     true => line.extend([left, cell, right, "  "]),
-                    false => line += &cut(cell, room),
+                    false => line.extend([left, &cut(cell, room)]),
                 }
             }
             writeln!(self.out, "{}", line.trim_end())?;

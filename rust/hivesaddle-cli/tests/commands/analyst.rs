@@ -100,7 +100,7 @@ fn folders_inside_folders() {
     // Known by how they begin.
     folder.put("top/inner/evidence.bin", small());
     folder.put("top/inner/packed", b"MAM\x04\x10\0\0\0packed");
-    folder.put("top/inner/notes.txt", "no file of ours");
+    folder.put("top/inner/notes.txt", "MAMMALS, and no file of ours");
     symlink("..", folder.0.join("top/inner/loop")).unwrap();
     let listed = folder.run(&["list", "top"]);
     let subfolders = "no .pf files in this folder; --recursive looks into its subfolders";

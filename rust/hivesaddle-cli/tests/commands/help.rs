@@ -1,6 +1,7 @@
 //! The help of every command, and whether its examples work.
 
 use crate::folder::{out, root, said, small, status, Folder};
+use std::ffi::OsString;
 use std::fs;
 use std::path::Path;
 use std::process::Command;
@@ -46,11 +47,6 @@ fn every_command_has_a_help_that_fits() {
 /// The lines from `example:` on are typed as they stand, where the examples are.
 #[test]
 fn every_example_works() {
-    let program = Path::new(env!("CARGO_BIN_EXE_hivesaddle")).parent().unwrap();
-    let path = std::env::join_paths(
-        std::iter::once(program.to_path_buf())
-            .chain(std::env::split_paths(&std::env::var_os("PATH").unwrap_or_default())),
-    );
     for command in commands() {
         let folder = Folder::new(&format!("example-{command}"));
         copy(&root().join("examples"), &folder.0.join("examples"));
@@ -60,7 +56,7 @@ fn every_example_works() {
         let output = Command::new("sh")
             .args(["-c", example])
             .current_dir(&folder.0)
-            .env("PATH", path.as_ref().unwrap())
+            .env("PATH", path_with_program())
             .output()
             .unwrap();
         // The examples of `check` and `make` end with a file that is refused.
@@ -70,8 +66,16 @@ fn every_example_works() {
     }
 }
 
+/// Where a shell finds the built program first.
+pub fn path_with_program() -> OsString {
+    let program = Path::new(env!("CARGO_BIN_EXE_hivesaddle")).parent().unwrap();
+    let others = std::env::var_os("PATH").unwrap_or_default();
+    let all = std::iter::once(program.to_path_buf()).chain(std::env::split_paths(&others));
+    std::env::join_paths(all).unwrap()
+}
+
 /// But for the samples, which are more where they have been made.
-fn copy(from: &Path, to: &Path) {
+pub fn copy(from: &Path, to: &Path) {
     fs::create_dir_all(to).unwrap();
     for entry in fs::read_dir(from).unwrap().map(|entry| entry.unwrap()) {
         let target = to.join(entry.file_name());

@@ -9,4 +9,5 @@ mod help;
 mod input;
 #[cfg(unix)]
 mod output;
+mod readme;
 mod stored;

@@ -18,6 +18,7 @@ const CHAIN: [u32; 27] = [8; 27];
 const DIRECTORIES: usize = 70;
 
 /// As a program of Windows 7 leaves it; its own path is the third that it loads.
+/// Every other is a hosting program, whose hash no path has.
 fn file(program: usize) -> Result<Vec<u8>, Refusal> {
     let name = format!("PROGRAM{program}.EXE");
     let path = format!(r"{DISK}\PROGRAM FILES\CHAMBER\{name}");
@@ -26,6 +27,9 @@ fn file(program: usize) -> Result<Vec<u8>, Refusal> {
         .hash_of(&path)
         .run_time(133_761_942_000_000_000 + 600_000_000 * program as u64)
         .run_count(program as u32);
+    if program % 2 == 1 {
+        file = file.hash(program as u32);
+    }
     for i in 0..FILES {
         let library = format!(r"{DISK}\{}\LIBRARY{i}.DLL", FOLDERS[i % FOLDERS.len()]);
         file = file.file(if i == 2 { &path } else { &library }).chain(&CHAIN);

@@ -117,7 +117,7 @@ see hivesaddle help catalogue
     assert_eq!(err(&made), expected);
 }
 
-/// The six runs of the issue: two pulls of one board, and one of another.
+/// Two pulls of one board, six runs in all, and one of another.
 fn two_boards(name: &str) -> Folder {
     let folder = Folder::new(name);
     pull(&folder, "w1", 0x41, 10, 4);
