@@ -1,3 +1,9 @@
+//! bench contents
+//!
+//! What document 03 adds, beside what a call has to do anyway: all directories of
+//! a volume beside its check, an entry's file reference beside its name, the cost
+//! of a file beside its reading.
+//!
 //! bench hashes
 //!
 //! The path hashes over the C boundary beside a plain Rust loop.
@@ -21,7 +27,8 @@
 //! bench overlap
 //!
 //! The whole-file reader on files whose entries all name the same bytes. The rules
-//! allow that, and then the work grows with the square of the file's size.
+//! allow that, and then the work grows with the square of the file's size; and the
+//! time that a unit of their cost takes.
 //!
 //! bench search
 //!
@@ -52,6 +59,7 @@
 //!
 //! The two run turn and turn about on the same input, and medians are shown.
 
+mod contents;
 mod hashes;
 mod overlap;
 mod powers;
@@ -69,6 +77,7 @@ use std::process::ExitCode;
 
 fn main() -> ExitCode {
     match std::env::args().nth(1).as_deref() {
+        Some("contents") => contents::run(),
         Some("hashes") => hashes::run(),
         Some("powers") => powers::run(),
         Some("readers") => readers::run(),
@@ -82,7 +91,7 @@ fn main() -> ExitCode {
         Some("year") => year::run(),
         _ => {
             eprintln!(
-                "bench hashes | powers | readers | trace | overlap | search | walk | replay | write | year"
+                "bench contents | hashes | powers | readers | trace | overlap | search | walk | replay | write | year"
             );
             return ExitCode::from(2);
         }

@@ -1,4 +1,4 @@
-use crate::timing::side_by_side;
+use crate::timing::{in_turn, median_of, side_by_side};
 use compare::generate::bare::bare;
 use compare::generate::set_32;
 use compare::plain;
@@ -14,6 +14,30 @@ pub fn run() {
         one_file("names", &names(bytes));
         one_file("directories", &directories(bytes));
     }
+    println!("time over cost: what, bytes, units, ns a unit");
+    for bytes in [65_536, 4_194_304] {
+        let (names, directories) = (names(bytes), directories(bytes));
+        a_unit("reader, names", &names, hivesaddle::cost(&names).expect("a cost").names, read);
+        let cost = hivesaddle::cost(&directories).expect("a cost").directories;
+        a_unit("reader, directories", &directories, cost, read);
+        a_unit("search, names", &names, hivesaddle::cost(&names).expect("a cost").names, search);
+    }
+}
+
+fn read(file: &[u8]) {
+    _ = black_box(hivesaddle::read_file(black_box(file), &mut []));
+}
+
+fn search(file: &[u8]) {
+    _ = black_box(hivesaddle::find_path(black_box(file)));
+}
+
+/// One call where it takes long, the median of some where it does not.
+fn a_unit(what: &str, file: &[u8], units: u64, call: fn(&[u8])) {
+    let turns = if file.len() < 1_000_000 { 11 } else { 1 };
+    let times = in_turn(turns, 1, [&mut || call(file)]);
+    let time = median_of(&times, |turn| turn[0]);
+    println!("{what}, {}, {units}, {:.4}", file.len(), time / units as f64);
 }
 
 /// Half of the file is entries, the other half the one name that they all have.
