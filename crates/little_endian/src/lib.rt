@@ -48,16 +48,6 @@ fn cut_u32(s: &[u8], at: usize) -> u32
     u16_at(s, at) as u32 + 65536 * (u16_at(s, at + 2) as u32)
 }
 
-// Of eight.
-fn cut_u64(s: &[u8], at: usize) -> u64
-    ensures { λ r. ⌜ r ≡ le 8 (now (s .entry)) at ⌝ }
-{
-    if s.len() <= at {
-        return 0;
-    }
-    u32_at(s, at) as u64 + 4294967296 * (u32_at(s, at + 4) as u64)
-}
-
 // The 16-bit number at an offset; so for the widths below. In a loop the first test is the same each time, and one is left.
 pub fn u16_at(s: &[u8], at: usize) -> u16
     ensures { λ r. ⌜ r ≡ le 2 (now (s .entry)) at ⌝ }
@@ -93,14 +83,15 @@ pub fn u48_at(s: &[u8], at: usize) -> u64
     u32_at(s, at) as u64 + 4294967296 * (u16_at(s, at + 4) as u64)
 }
 
+// A loop over the bytes asks how many are left, and then neither test is made.
 pub fn u64_at(s: &[u8], at: usize) -> u64
     ensures { λ r. ⌜ r ≡ le 8 (now (s .entry)) at ⌝ }
 {
-    if s.len() < 8 {
-        return cut_u64(s, at);
+    if s.len() <= at {
+        return 0;
     }
-    if s.len() - 8 < at {
-        return cut_u64(s, at);
+    if s.len() - at < 8 {
+        return u32_at(s, at) as u64 + 4294967296 * (u32_at(s, at + 4) as u64);
     }
     whole_u64(s, at)
 }
