@@ -104,9 +104,10 @@ mod tests {
         let (beside, file) = create_beside(&place).unwrap();
         assert!(watch.look().is_ok());
         let id = std::process::id().to_string();
-        assert!(Command::new("kill").args(["-s", "INT", &id]).status().unwrap().success());
+        // No INT: a shell's background processes ignore it.
+        assert!(Command::new("kill").args(["-s", "TERM", &id]).status().unwrap().success());
         // It may come a little later.
-        let is_seen = (0..1_000).any(|_| {
+        let is_seen = (0..10_000).any(|_| {
             std::thread::sleep(std::time::Duration::from_millis(1));
             watch.look().is_err()
         });
