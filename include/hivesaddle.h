@@ -307,6 +307,9 @@ uint32_t hs_find_path_from(const uint8_t *file, size_t length, uint64_t volume, 
  * Where no two names of an accepted file share a byte, the first is at most the strings size, and where no two directories
  * do, the second is at most the volumes size: more than that says that they do.
  *
+ * A unit of names took the readers about 0.05 nanoseconds and the path search 0.35, a unit of directories the readers 0.6, on
+ * the machine of docs/PERFORMANCE.md, whatever the size of the file.
+ *
  * Yes exactly when checks 1 to 6 pass. One pass over the entries, so quick whatever the numbers are; no sum wraps.
  * out: names, directories. */
 uint32_t hs_cost(const uint8_t *file, size_t length, uint64_t *out, size_t out_length);
