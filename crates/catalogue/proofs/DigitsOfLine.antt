@@ -8,9 +8,9 @@ use native.Mathlib.Omega.{arith}
 use lib.ListN.{length, get_or, take, drop, length-append, get_or-append, take-append-drop, drop_of_length-le}
 use lib.Seq.{drop-drop, drop-cons, get_or_at, get_or-append-add}
 use native.Mathlib.Decide.{dec_lt}
-use Rattle.hex.specs.Hex.{is_digit, hex_at, hex_digits}
-use Rattle.hex.proofs.Hex.{length_digits, digits_are, hex_digits_lem, digits_hex}
-use Rattle.hex.proofs.Laws.{digits_all}
+use Rattle.digits.specs.Hex.{is_digit, hex_at, hex_digits}
+use Rattle.digits.proofs.Hex.{length_digits, digits_are, hex_digits_lem, digits_hex}
+use Rattle.digits.proofs.Laws.{digits_all}
 use Rattle.catalogue.specs.declared.Fields.{Fields}
 use Rattle.catalogue.specs.Line.{line_of, fields_in}
 use Rattle.lines.specs.Lines.{is_line}

@@ -7,7 +7,7 @@ use native.Mathlib.Nat.{pow-le-pow_right}
 use native.Mathlib.Omega.{arith}
 use lib.ListN.{length, drop}
 use borrow.Author.Tests.{le-leb, lt-leb}
-use Rattle.hex.specs.Hex.{number_in}
+use Rattle.digits.specs.Hex.{number_in}
 use Rattle.lines.specs.Lines.{is_line}
 use Rattle.lines.proofs.Lines.{line_size, line_number, line_below}
 use Rattle.layout.specs.Versions.{version_of, size_limit}

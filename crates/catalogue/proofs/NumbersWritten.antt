@@ -5,9 +5,9 @@ use Prim.Native.Nat.{ℕ, suc, ◌+◌, ◌≤◌, ◌<◌}
 use native.Mathlib.Omega.{arith}
 use lib.ListN.{length, get_or, take, drop, set, length-append, length-drop}
 use lib.Seq.{take_at, drop_at, drop-drop, take_all, drop-cons, set_at}
-use Rattle.hex.specs.Hex.{hex_digits, written}
-use Rattle.hex.proofs.Hex.{length_digits}
-use Rattle.hex.proofs.Laws.{written_fits}
+use Rattle.digits.specs.Hex.{hex_digits, written}
+use Rattle.digits.proofs.Hex.{length_digits}
+use Rattle.digits.proofs.Laws.{written_fits}
 use Rattle.catalogue.specs.declared.Fields.{Fields}
 use Rattle.catalogue.specs.Line.{line_of}
 

@@ -2,7 +2,7 @@
 use mathlib.Core.Path.{◌≡◌, refl, sym}
 use lib.ListN.{length}
 use Rattle.lists.specs.Count.{any_below}
-use Rattle.hex.specs.Hex.{is_digit, digit_value, hex_at, are_digits}
+use Rattle.digits.specs.Hex.{is_digit, digit_value, hex_at, are_digits}
 use Rattle.layout.specs.Versions.{version_of}
 use Rattle.lines.specs.Lines.{is_line}
 use Rattle.catalogue.specs.Line.{reading, is_good, can_form, fields_in}

@@ -13,8 +13,8 @@ use Rattle.lists.proofs.Tests.{by_test, never}
 use Rattle.lists.proofs.Count.{true-false}
 use native.Mathlib.Decide.{dec_lt, ℕ_discrete}
 use lib.Dec.{leb, eqb, lit<}
-use Rattle.hex.specs.Hex.{hex_at, written}
-use Rattle.hex.proofs.Hex.{hex_lt}
+use Rattle.digits.specs.Hex.{hex_at, written}
+use Rattle.digits.proofs.Hex.{hex_lt}
 use Rattle.layout.specs.Versions.{version_of, layout_of, head_end, size_limit}
 use Rattle.layout.specs.declared.Version.{Version}
 use Rattle.layout.specs.declared.KnownVersion.{KnownVersion}

@@ -2,7 +2,7 @@
 -- old one. Both are read, and only new lines are written.
 use Rattle.std.specs.Prelude.{◌≡◌, Bool, false, ◌&&◌, List, [], ◌∷◌, ◌++◌, ℕ, ◌+◌, leb, length, drop}
 use Rattle.lists.specs.Count.{pick}
-use Rattle.hex.specs.Hex.{hex_at, hex_digits}
+use Rattle.digits.specs.Hex.{hex_at, hex_digits}
 use Rattle.lines.specs.Lines.{is_line}
 use Rattle.layout.specs.Versions.{version_of, layout_of, head_end, size_limit}
 use Rattle.layout.specs.declared.KnownVersion.{KnownVersion}

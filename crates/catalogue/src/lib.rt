@@ -1,5 +1,7 @@
 // The catalogue line: size, stored hash, run count and version in digits, and a line feed. A new line has 8 digits for the size, an old
 // one 6: the width below. Both are read, and only new lines are written.
+#![tactic(auto)]
+
 ghost use Rattle.std.specs.Prelude.{◌≡◌, true, ◌+◌, ◌≤◌, ◌++◌, length, drop};
 ghost use Rattle.lines.specs.Lines.{is_line};
 ghost use Rattle.catalogue.specs.Private.{reading_as};
@@ -12,7 +14,7 @@ use layout::{KnownVersion, Layout, SIZE_LIMIT, Version};
 const OLD_SIZE_LIMIT: u32 = 16_777_215;
 
 // What a line says of a file.
-#[derive(Drop)]
+#[derive(Clone, Copy)]
 pub struct Fields {
     pub size: u32,
     pub hash: u32,
@@ -21,14 +23,14 @@ pub struct Fields {
 }
 
 // A good line's fields, or refusal 18.
-#[derive(Drop)]
+#[derive(Clone, Copy)]
 pub enum ReadLine {
     Line(Fields),
     Refused,
 }
 
 // Written, or refusal 19.
-#[derive(Drop)]
+#[derive(Clone, Copy)]
 pub enum WrittenLine {
     Written,
     Refused,
@@ -40,10 +42,10 @@ fn fields_of(line: &[u8], width: usize) -> Fields
     ensures { result ≡ fields_in width line.now }
 {
     Fields {
-        size: hex::number_in(line, 0, width) as u32,
-        hash: hex::number_in(line, width, 8) as u32,
-        runs: hex::number_in(line, width + 8, 8) as u32,
-        version: hex::number_in(line, width + 16, 2) as u32,
+        size: digits::number_in(line, 0, width) as u32,
+        hash: digits::number_in(line, width, 8) as u32,
+        runs: digits::number_in(line, width + 8, 8) as u32,
+        version: digits::number_in(line, width + 16, 2) as u32,
     }
 }
 
@@ -98,10 +100,10 @@ fn write_fields(output: &mut [u8], fields: Fields, width: usize)
     requires { width + 19 ≤ length output.old }
     ensures { output.new ≡ line_of width fields ++ drop (width + 19) output.old }
 {
-    hex::write_number(output, 0, width, fields.size as u64);
-    hex::write_number(output, width, 8, fields.hash as u64);
-    hex::write_number(output, width + 8, 8, fields.runs as u64);
-    hex::write_number(output, width + 16, 2, fields.version as u64);
+    digits::write_number(output, 0, width, fields.size as u64);
+    digits::write_number(output, width, 8, fields.hash as u64);
+    digits::write_number(output, width + 8, 8, fields.runs as u64);
+    digits::write_number(output, width + 16, 2, fields.version as u64);
     output[width + 18] = 10;
 }
 

@@ -4,7 +4,7 @@
 use Rattle.std.specs.Prelude.{◌≡◌, List, [], ◌∷◌, ℕ}
 use Rattle.std.specs.Borrow.{Bor}
 use Rattle.lists.specs.Part.{IsPart}
-use Rattle.hex.specs.Hex.{hex_digits}
+use Rattle.digits.specs.Hex.{hex_digits}
 use Rattle.text.specs.Decimal.{decimal}
 use Rattle.text.specs.Put.{Put}
 use Rattle.layout.specs.Versions.{forms, form_at, form_said}

@@ -1,4 +1,6 @@
 // A program's standard input and output. No contract can say what the system reads or takes: what holds is the count.
+#![tactic(auto)]
+
 ghost use Rattle.std.specs.Prelude.{◌≤◌, length};
 
 use libc::{STDIN_FILENO, STDOUT_FILENO};

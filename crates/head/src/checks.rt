@@ -9,14 +9,14 @@ use lists::Found;
 use sections::Head;
 
 // What checks 1 to 4 give: the version with its layout, and the name's units before its first zero.
-#[derive(Drop)]
+#[derive(Clone, Copy)]
 pub struct Start {
     pub version: Version,
     pub layout: Layout,
     pub name_units: usize,
 }
 
-#[derive(Drop)]
+#[derive(Clone, Copy)]
 pub enum StartAnswer {
     Started(Start),
     Refused(Refusal),
@@ -24,7 +24,7 @@ pub enum StartAnswer {
 }
 
 // What checks 1 to 6 give.
-#[derive(Drop)]
+#[derive(Clone, Copy)]
 pub struct Opening {
     pub version: Version,
     pub layout: Layout,
@@ -32,7 +32,7 @@ pub struct Opening {
     pub head: Head,
 }
 
-#[derive(Drop)]
+#[derive(Clone, Copy)]
 pub enum OpenAnswer {
     Opened(Opening),
     Refused(Refusal),

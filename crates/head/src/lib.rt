@@ -1,4 +1,6 @@
 // The head of a file and its sections: checks 1 to 6.
+#![tactic(auto)]
+
 mod checks;
 
 pub use checks::{OpenAnswer, Opening, Start, StartAnswer, read_open, read_start};

@@ -1,4 +1,6 @@
 // The library for C and Rust. Every function is total; an output takes as many values as fit, and the rest of it stays.
+#![tactic(auto)]
+
 ghost use Rattle.std.specs.Prelude.{◌≡◌};
 ghost use Rattle.hivesaddle.specs.Output.{interface};
 

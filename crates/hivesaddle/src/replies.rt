@@ -4,7 +4,7 @@ ghost use Rattle.hivesaddle.specs.Output.{Answered, overlay};
 ghost use Rattle.hivesaddle.specs.Private.{said_by, saying};
 
 // A function's number, and the first `count` of its values. A verdict has the most.
-#[derive(Drop)]
+#[derive(Clone, Copy)]
 pub(crate) struct Reply {
     pub number: u32,
     pub count: usize,

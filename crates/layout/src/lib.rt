@@ -1,4 +1,6 @@
 // Where a file keeps its fields: the head's, which every version has, and the constants of each version, kept together.
+#![tactic(auto)]
+
 ghost use Rattle.std.specs.Prelude.{◌≡◌, ◌<◌, ◌^◌};
 ghost use Rattle.lists.specs.Answer.{Answers};
 ghost use Rattle.layout.specs.Head.{entry_offset};
@@ -42,7 +44,7 @@ pub const SIGNATURE: u32 = 0x41434353;
 // The greatest declared size.
 pub const SIZE_LIMIT: u32 = 67_108_864;
 
-#[derive(Drop)]
+#[derive(Clone, Copy)]
 pub enum Version {
     V17,
     V23,
@@ -51,7 +53,7 @@ pub enum Version {
 }
 
 // The version that a number names, if any.
-#[derive(Drop)]
+#[derive(Clone, Copy)]
 pub enum KnownVersion {
     Known(Version),
     Unknown,
@@ -59,7 +61,7 @@ pub enum KnownVersion {
 
 // Where a version keeps its fields, and how long its entries are, in bytes. Each is a small number, so that no product of one with a
 // 32-bit count wraps.
-#[derive(Drop)]
+#[derive(Clone, Copy)]
 pub struct Layout {
     // Where the latest run time stands, and how many there are one after another, each of 8 bytes.
     pub run_time_at: u16,
@@ -84,7 +86,7 @@ pub struct Layout {
 }
 
 // The layout of a head form, if it is known.
-#[derive(Drop)]
+#[derive(Clone, Copy)]
 pub enum KnownForm {
     Known(Layout),
     Unknown,

@@ -1,7 +1,7 @@
 -- Lines of bytes, as recordings, lists of starts and catalogues have them.
 use Rattle.std.specs.Prelude.{Bool, ◌&&◌, List, [], ◌∷◌, ℕ, zero, suc, ◌+◌, eqb, length, get_or, take, drop}
 use Rattle.lists.specs.Count.{pick}
-use Rattle.hex.specs.Hex.{are_digits}
+use Rattle.digits.specs.Hex.{are_digits}
 
 -- a byte before the first of some lines: it belongs to that line
 abbrev pub lead : ℕ → List (List ℕ) → List (List ℕ)

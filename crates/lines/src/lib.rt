@@ -1,4 +1,6 @@
 // Lines of bytes: where each ends and how many there are, and lines of digits.
+#![tactic(auto)]
+
 ghost use Rattle.std.specs.Prelude.{◌≡◌, true, suc, ◌+◌, ◌*◌, ◌≤◌, ◌<◌, length};
 ghost use Rattle.lines.specs.Lines.{lines_in, line_end, is_line, leading};
 ghost use Rattle.lines.specs.Private.{LineEnd, feeds_in};
@@ -13,7 +15,7 @@ pub fn is_line(line: &[u8], digits: usize) -> bool
     if line.len() - digits != 1 {
         return false;
     }
-    if !hex::are_digits(line, 0, digits) {
+    if !digits::are_digits(line, 0, digits) {
         return false;
     }
     line[digits] == 10

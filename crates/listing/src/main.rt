@@ -1,4 +1,5 @@
 // Lists one prefetch file from standard input. The two buffers are the 64 KiB that a controller gives.
+#![tactic(auto)]
 
 fn main() {
     let mut file = [0u8; 49_152];

@@ -15,7 +15,7 @@ use Rattle.lists.specs.Filled.{filled}
 use Rattle.incremental.specs.Decision.{accept, refuse}
 use Rattle.incremental.specs.Plan.{Answer, decided, wants}
 use Rattle.incremental.specs.declared.Refusal.{Refusal}
-use Rattle.hex.specs.Hex.{hex_digits}
+use Rattle.digits.specs.Hex.{hex_digits}
 use Rattle.reader.specs.Verdict.{Acceptable, Values, Reads, answer_values, accepted_values, refused_values, wanted_values, values_of, buffer_after}
 use Rattle.reader.specs.Checks.{file_answer}
 use Rattle.reader.specs.declared.verdict.Acceptance.{Acceptance}

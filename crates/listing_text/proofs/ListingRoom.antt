@@ -7,7 +7,7 @@ use native.Mathlib.Omega.{arith}
 use lib.Dec.{ltb}
 use lib.ListN.{length, length-append}
 use Rattle.lists.proofs.Table.{length-tabulate}
-use Rattle.hex.proofs.Hex.{length_digits}
+use Rattle.digits.proofs.Hex.{length_digits}
 use Rattle.incremental.specs.Decision.{accept, refuse}
 use Rattle.incremental.specs.Plan.{Answer, decided, wants, run}
 use Rattle.incremental.specs.declared.Refusal.{Refusal}

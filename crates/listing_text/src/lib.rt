@@ -1,6 +1,8 @@
 // What the listing program writes, into a borrowed output.
+#![tactic(auto)]
+
 ghost use Rattle.std.specs.Prelude.{◌≡◌, ◌++◌, ◌∷◌, ◌≤◌};
-ghost use Rattle.hex.specs.Hex.{hex_digits};
+ghost use Rattle.digits.specs.Hex.{hex_digits};
 ghost use Rattle.text.specs.Decimal.{decimal};
 ghost use Rattle.text.specs.Put.{Put};
 ghost use Rattle.listing_text.specs.Listing.{line, name·word, hash·word, path·word, too_long, shown_unit, shown_name, path_text};

@@ -47,7 +47,7 @@ module _ (s r : Bor (List ℕ)) (at len : ℕ) (block : r.ref_ptr.0 ≡ s.ref_pt
       }
 
   pub is_part_rest : at ≤ length s.now → length s.now - at ≤ len → r.now ≡ take (length s.now - at) (drop at s.now)
-      → r.ptr.1 ≡ s.ptr.1 + at → IsPart s at len r
+      → r.ref_ptr.1 ≡ s.ref_ptr.1 + at → IsPart s at len r
   is_part_rest h l e o =
       record { contents = e ∙ part_rest s.now at len l; allocation = block; offset = o ∙ rw (le-leb at (length s.now) h) }
 

@@ -1,4 +1,6 @@
 // Laws on lists that several crates need are in specs/; here is what they share of code.
+#![tactic(auto)]
+
 ghost use Rattle.std.specs.Prelude.{◌≡◌, length, get_or};
 ghost use Rattle.lists.specs.Filled.{filled};
 ghost use Rattle.lists.specs.Part.{IsPart};
@@ -7,7 +9,7 @@ ghost use Rattle.lists.specs.Part.{IsPart};
 const EMPTY: u32 = 4294967295;
 
 // The index that a search found, if any.
-#[derive(Drop)]
+#[derive(Clone, Copy)]
 pub enum Found {
     At(usize),
     Nothing,

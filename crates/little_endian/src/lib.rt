@@ -1,4 +1,6 @@
 // Little-endian reads at an offset of a slice of bytes. A byte past the end counts as 0, so every read is total.
+#![tactic(auto)]
+
 ghost use Rattle.std.specs.Prelude.{◌≡◌, ◌+◌, ◌*◌, ◌≤◌, length};
 ghost use Rattle.lists.specs.First.{first};
 ghost use Rattle.little_endian.specs.Number.{le, zero_unit};

@@ -1,4 +1,6 @@
 // Checks 9 and 10: the names that metrics entries have in a strings section.
+#![tactic(auto)]
+
 ghost use Rattle.std.specs.Prelude.{◌≡◌, ◌+◌, ◌*◌, ◌≤◌, length};
 ghost use Rattle.little_endian.specs.Number.{le, zero_unit};
 ghost use Rattle.names.specs.Names.{fits, sound, name_at, name_units, name_field_at, names_from, misfit_fault, unsound_fault};

@@ -1,4 +1,6 @@
 // The path hashes, over numbers and over the bytes of a text.
+#![tactic(auto)]
+
 ghost use Rattle.std.specs.Prelude.{◌≡◌, ◌+◌, ◌≤◌, length};
 ghost use Rattle.path_hash.specs.Hash.{step, plain, vista, xp, xp_end, eight, eight_at, hash2008};
 

@@ -1,4 +1,6 @@
 // The path search: the first name that can be shown and whose hash is the stored one.
+#![tactic(auto)]
+
 mod begins;
 mod from_start;
 mod pairs;
@@ -17,14 +19,14 @@ use head::{OpenAnswer, Opening};
 use layout::{Layout, Version};
 
 // An entry, and the number that has to be added to its hash.
-#[derive(Drop)]
+#[derive(Clone, Copy)]
 pub enum PathAnswer {
     Entry { index: usize, number: u32 },
     NoPath,
 }
 
 // What a search looks for: the stored hash. That of a name is carried on from the hash of a start, by the version's rule.
-#[derive(Drop)]
+#[derive(Clone, Copy)]
 struct Sought {
     version: Version,
     from: u32,

@@ -1,4 +1,6 @@
 // The Vista hash on a table of powers of 37, and the hash of a path whose start is swapped.
+#![tactic(auto)]
+
 ghost use Rattle.std.specs.Prelude.{◌≡◌, ◌+◌, ◌*◌, ◌%◌, ◌^◌, ◌≤◌, length};
 ghost use Rattle.lists.specs.Answer.{Answers};
 ghost use Rattle.path_hash.specs.Hash.{vista, wrap_sub};
@@ -10,7 +12,7 @@ mod entries;
 use entries::{FIRST, POWERS};
 use path_hash::VISTA_START;
 
-#[derive(Drop)]
+#[derive(Clone, Copy)]
 pub enum Swap {
     Swapped(u32),
     TooLong,

@@ -10,13 +10,13 @@ use head::{OpenAnswer, Opening};
 use layout::Layout;
 
 // Bytes of names, with their zero units, and of directories, each at its least.
-#[derive(Drop)]
+#[derive(Clone, Copy)]
 pub struct FileCost {
     pub names: u64,
     pub directories: u64,
 }
 
-#[derive(Drop)]
+#[derive(Clone, Copy)]
 pub enum CostAnswer {
     Known(FileCost),
     Unknown,

@@ -1,4 +1,6 @@
 // Queries about one entry of a file that is there in part or whole.
+#![tactic(auto)]
+
 ghost use Rattle.std.specs.Prelude.{◌≡◌};
 ghost use Rattle.lists.specs.Answer.{Answers};
 ghost use Rattle.head.specs.Opened.{OpenFacts};
@@ -18,19 +20,19 @@ use sections::Section;
 use volumes::Reference;
 
 // A part of the file: its offset and its length in bytes.
-#[derive(Drop)]
+#[derive(Clone, Copy)]
 pub struct Place {
     pub at: usize,
     pub len: usize,
 }
 
-#[derive(Drop)]
+#[derive(Clone, Copy)]
 pub enum PlaceAnswer {
     Shown(Place),
     NotShown,
 }
 
-#[derive(Drop)]
+#[derive(Clone, Copy)]
 pub struct VolumeFacts {
     pub created: u64,
     pub serial: u32,
@@ -39,34 +41,34 @@ pub struct VolumeFacts {
     pub path: Place,
 }
 
-#[derive(Drop)]
+#[derive(Clone, Copy)]
 pub enum VolumeAnswer {
     Shown(VolumeFacts),
     NotShown,
 }
 
-#[derive(Drop)]
+#[derive(Clone, Copy)]
 pub enum ReferenceAnswer {
     Shown(Reference),
     NotShown,
 }
 
 // The file reference of a metrics entry (document 03, A2): whether the version has the field, 1 or 0, and both its numbers.
-#[derive(Drop)]
+#[derive(Clone, Copy)]
 pub struct EntryReference {
     pub known: u32,
     pub index: u64,
     pub sequence: u16,
 }
 
-#[derive(Drop)]
+#[derive(Clone, Copy)]
 pub enum EntryReferenceAnswer {
     Shown(EntryReference),
     NotShown,
 }
 
 // Document 01: the working places that a file needs, one for each trace entry that has a next index.
-#[derive(Drop)]
+#[derive(Clone, Copy)]
 pub enum PlacesAnswer {
     Needed(u32),
     Unknown,

@@ -18,7 +18,7 @@ use trace::Links;
 const NO_PAIRS: [u32; 0] = [];
 
 // What checks 11 to 13 answer on a prefix: the chain count, where they pass.
-#[derive(Drop)]
+#[derive(Clone, Copy)]
 enum TraceOutcome {
     Chains(usize),
     Refused(Refusal),

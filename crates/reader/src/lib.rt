@@ -1,4 +1,6 @@
 // The prefix reader and the whole-file reader.
+#![tactic(auto)]
+
 mod checks;
 mod verdict;
 

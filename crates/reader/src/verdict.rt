@@ -6,7 +6,7 @@ use incremental::Refusal;
 use layout::Layout;
 
 // How many run times a version has, and eight of them, the latest first, as they stand; those that it does not have are 0.
-#[derive(Drop)]
+#[derive(Clone, Copy)]
 pub struct RunTimes {
     pub count: u32,
     pub latest: u64,
@@ -20,7 +20,7 @@ pub struct RunTimes {
 }
 
 // What a file says of its program.
-#[derive(Drop)]
+#[derive(Clone, Copy)]
 pub struct Acceptance {
     pub version: u32,
     pub declared_size: u32,
@@ -34,7 +34,7 @@ pub struct Acceptance {
     pub chain_count: usize,
 }
 
-#[derive(Drop)]
+#[derive(Clone, Copy)]
 pub enum Verdict {
     Accepted(Acceptance),
     Refused(Refusal),
@@ -42,7 +42,7 @@ pub enum Verdict {
 }
 
 // The verdict on a whole file: what it says, with what checks 1 to 6 give, or the refusal.
-#[derive(Drop)]
+#[derive(Clone, Copy)]
 pub enum FileVerdict {
     Accepted(Acceptance, Opening),
     Refused(Refusal),

@@ -1,5 +1,7 @@
 // Replays a recording from standard input against the starts that stand before it. The input comes in steps through one buffer, in which
 // what is left of a line is carried over. The buffers have 50,176 bytes in all. Between reading and writing all is the library's work.
+#![tactic(auto)]
+
 use readings::ReplayAnswer;
 use replay_input::Input;
 

@@ -1,8 +1,8 @@
 -- Which line an answer has, and as many whole lines as fit, one behind the other.
 use Rattle.std.proofs.Common.{◌≡◌, ℕ, zero, suc, ◌+◌, ◌-◌, ◌*◌, ◌<◌, ◌≤◌, List, [], ◌∷◌, ◌++◌, length, get_or, take, drop, sym, refl, ap, ◌∙◌, append_assoc, append-nil, arith, length-append, length-drop, take_all, drop-drop, take_at, drop_at, eq-eqb, ne_eqb, le-leb}
 use borrow.Author.Tests.{lt-leb}
-use Rattle.hex.specs.Hex.{hex_digits}
-use Rattle.hex.proofs.Hex.{length_digits}
+use Rattle.digits.specs.Hex.{hex_digits}
+use Rattle.digits.proofs.Hex.{length_digits}
 use Rattle.text.specs.Ascii.{ascii}
 use Rattle.text.specs.Decimal.{decimal}
 use Rattle.text.specs.Put.{Put}

@@ -1,6 +1,6 @@
 -- REQUEST 110, the program: up to 1,024 starts, 18 digits a line (time, board), then the recording; what it writes for a whole input.
 use Rattle.std.specs.Prelude.{ℕ, ◌+◌, ◌*◌, List, [], ◌∷◌, ◌++◌, length, drop}
-use Rattle.hex.specs.Hex.{hex_digits}
+use Rattle.digits.specs.Hex.{hex_digits}
 use Rattle.lines.specs.Lines.{lines_in, leading}
 use Rattle.text.specs.Ascii.{ascii}
 use Rattle.text.specs.Decimal.{decimal}

@@ -1,7 +1,7 @@
 -- REQUEST 110, the program's input: start lines, 18 digits each, before the recording.
 use Rattle.std.specs.Prelude.{◌≡◌, ℕ, ◌-◌, min, List, map, length}
 use Rattle.std.proofs.lemmas.List.Edits.{sets}
-use Rattle.hex.specs.Hex.{hex_at}
+use Rattle.digits.specs.Hex.{hex_at}
 use Rattle.lines.specs.Lines.{leading}
 
 -- a start line has 18 digits 0-9 A-F: its run time (16) and its board (2)

@@ -1,7 +1,7 @@
 -- REQUEST 110, the text that the program writes from the numbers of the answers, a buffer at a time.
 use Rattle.std.specs.Prelude.{◌≡◌, ℕ, zero, suc, ◌+◌, ◌-◌, ◌*◌, Bool, ◌||◌, List, [], ◌∷◌, ◌++◌, length, drop, ◌==◌, nat_le, slice_index}
 use Rattle.lists.specs.Count.{pick}
-use Rattle.hex.specs.Hex.{hex_digits}
+use Rattle.digits.specs.Hex.{hex_digits}
 use Rattle.text.specs.Ascii.{ascii}
 use Rattle.replay_input.specs.declared.Written.{Written}
 

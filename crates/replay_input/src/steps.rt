@@ -10,7 +10,7 @@ use crate::{START_BYTES, least, take_starts};
 use readings::{Fed, Progress, ReplayAnswer};
 
 // How many starts have been taken and whether more may come, and how far the recording is.
-#[derive(Drop)]
+#[derive(Clone, Copy)]
 pub struct Stage {
     pub starts: usize,
     pub starting: bool,
@@ -18,14 +18,14 @@ pub struct Stage {
 }
 
 // The stage, and how many bytes wait at the front of the buffer.
-#[derive(Drop)]
+#[derive(Clone, Copy)]
 pub struct Input {
     pub stage: Stage,
     pub kept: usize,
 }
 
 // The stage after some bytes, and how many of them need not come again.
-#[derive(Drop)]
+#[derive(Clone, Copy)]
 pub struct Took {
     pub stage: Stage,
     pub used: usize,

@@ -1,4 +1,6 @@
 // The fields of the head, the sections that they describe, and what checks 2 to 8 find wrong in them.
+#![tactic(auto)]
+
 ghost use Rattle.std.specs.Prelude.{◌≡◌, ◌≤◌};
 ghost use Rattle.lists.specs.Part.{IsPart};
 ghost use Rattle.sections.specs.Fields.{offset_field_at, signature_fault, size_fault, name_units_in, name_end, section_of, head_of, outside, outside_fault, shares};
@@ -10,7 +12,7 @@ use layout::{KnownForm, Layout, SIZE_LIMIT};
 use lists::Found;
 
 // A section of the file: offset, length in bytes, end, and the count that its head has.
-#[derive(Drop)]
+#[derive(Clone, Copy)]
 pub struct Section {
     pub at: u32,
     pub len: usize,
@@ -18,7 +20,7 @@ pub struct Section {
     pub count: u32,
 }
 
-#[derive(Drop)]
+#[derive(Clone, Copy)]
 pub struct Head {
     // Document 01: S.
     pub declared_size: u32,

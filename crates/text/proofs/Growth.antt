@@ -8,8 +8,8 @@ use native.Mathlib.Decide.{dec_lt}
 use native.Mathlib.Omega.{arith}
 use lib.ListN.{length, get_or, set, take, drop, length-take, length-drop, length-append, take-append-drop}
 use lib.Seq.{take_all, take-nil, take-suc, take_at, drop_at, drop-drop, set_split}
-use Rattle.hex.specs.Hex.{hex_digits, digit_of}
-use Rattle.hex.proofs.Hex.{length_digits, get_or_digits}
+use Rattle.digits.specs.Hex.{hex_digits, digit_of}
+use Rattle.digits.proofs.Hex.{length_digits, get_or_digits}
 use Rattle.text.specs.Decimal.{decimal}
 use Rattle.text.specs.Put.{fitting, Put}
 use Rattle.text.proofs.Decimal.{decimal_digit, decimal_more}

@@ -1,7 +1,9 @@
 // Text that is built in a borrowed buffer. Each function writes from a position as many bytes as fit, leaves all others, and
 // gives the position after what it wrote.
+#![tactic(auto)]
+
 ghost use Rattle.std.specs.Prelude.{[], ◌∷◌};
-ghost use Rattle.hex.specs.Hex.{hex_digits};
+ghost use Rattle.digits.specs.Hex.{hex_digits};
 ghost use Rattle.text.specs.Decimal.{decimal};
 ghost use Rattle.text.specs.Put.{Put};
 
@@ -48,7 +50,7 @@ pub fn put_hex(out: &mut [u8], at: usize, width: usize, x: u64) -> usize
     let mut end = at;
     let mut k = 0;
     while k < width {
-        end = put(out, end, hex::hex_digit(x, width - 1 - k));
+        end = put(out, end, digits::hex_digit(x, width - 1 - k));
         k += 1;
     }
     end

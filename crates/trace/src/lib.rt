@@ -1,4 +1,6 @@
 // Checks 11 to 13 on the next indexes of a trace section, the table of predecessors and the chain count.
+#![tactic(auto)]
+
 ghost use Rattle.std.specs.Prelude.{◌≡◌, true, ◌⊎◌, ◌<◌, length};
 ghost use Rattle.lists.specs.First.{found_below};
 ghost use Rattle.layout.specs.Head.{entry_offset};
@@ -13,7 +15,7 @@ use lists::Found;
 const END: u32 = 4294967295;
 
 // What the checks of a trace section find: the chain count, or the refusal.
-#[derive(Drop)]
+#[derive(Clone, Copy)]
 pub enum Links {
     Chains(usize),
     Refused(Refusal),
@@ -21,7 +23,7 @@ pub enum Links {
 
 // What the pass for checks 11 and 12 finds: the first entry astray, the smallest entry that two entries name, or the number of
 // entries that end a chain and whether every next index is above its own.
-#[derive(Drop)]
+#[derive(Clone, Copy)]
 enum Pass {
     Astray(u32),
     Shared(u32),

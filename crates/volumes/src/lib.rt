@@ -1,4 +1,6 @@
 // Checks 8, 14 and 15 on a volumes section, and the facts of one volume.
+#![tactic(auto)]
+
 ghost use Rattle.std.specs.Prelude.{◌≡◌, ◌<◌, ◌^◌, eqb};
 ghost use Rattle.lists.specs.Answer.{Answers};
 ghost use Rattle.lists.specs.Count.{pick};
@@ -12,14 +14,14 @@ use layout::Layout;
 use lists::Found;
 
 // A position in a run of directory strings.
-#[derive(Drop)]
+#[derive(Clone, Copy)]
 pub struct Cursor {
     pub at: usize,
 }
 
 // What a step over one directory string finds: the position after it, a string that runs past the section (document 01: 14),
 // or one whose last unit is not zero (document 01: 15).
-#[derive(Drop)]
+#[derive(Clone, Copy)]
 pub enum Step {
     Next(Cursor),
     Past,
@@ -52,7 +54,7 @@ impl Cursor {
 }
 
 // What is asked of one volume: times and counts, and where its path lies, in the section, with its number of units.
-#[derive(Drop)]
+#[derive(Clone, Copy)]
 pub struct Volume {
     pub created: u64,
     pub serial: u32,
@@ -63,7 +65,7 @@ pub struct Volume {
 }
 
 // A file reference: the index of an entry in the file table, and its sequence number.
-#[derive(Drop)]
+#[derive(Clone, Copy)]
 pub struct Reference {
     pub index: u64,
     pub sequence: u16,

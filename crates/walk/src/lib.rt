@@ -1,4 +1,6 @@
 // The walk over all chains of a file: every trace entry once, and the sum of their block counts.
+#![tactic(auto)]
+
 ghost use Rattle.std.specs.Prelude.{◌≡◌, length, ◌+◌, ◌*◌, ◌≤◌};
 ghost use Rattle.little_endian.specs.Number.{le};
 ghost use Rattle.trace.specs.Links.{nexts};
@@ -10,7 +12,7 @@ use incremental::Refusal;
 use reader::FileVerdict;
 
 // The steps taken and the sum of the block counts, or the refusal.
-#[derive(Drop)]
+#[derive(Clone, Copy)]
 pub enum WalkAnswer {
     Walked { steps: usize, total: u64 },
     Refused(Refusal),
@@ -19,7 +21,7 @@ pub enum WalkAnswer {
 const END: u32 = 4294967295;
 
 // How many entries have been visited, and what their block counts add up to.
-#[derive(Drop)]
+#[derive(Clone, Copy)]
 struct Visits {
     steps: usize,
     total: u64,

@@ -1,5 +1,7 @@
 // Test files on demand: a file of version 17 or 23 from a name, tables of pairs and sections. Here are the functions that lay its bytes
 // into a borrowed place; each writes from a place on, and what lies behind stays.
+#![tactic(auto)]
+
 ghost use Rattle.std.specs.Prelude.{◌≡◌, ◌++◌, ◌+◌, ◌-◌, ◌*◌, ◌≤◌, length, take, replicate};
 ghost use Rattle.layout.specs.Versions.{first_section, metrics_entry, trace_entry};
 ghost use Rattle.writer.specs.LaidOut.{bytes_of, unit_bytes, entries, description_of, metrics_bytes, trace_bytes, laid_by};
@@ -12,7 +14,7 @@ mod write;
 pub use write::write_file;
 
 // Where the sections of a file stand that is to be written, how many entries the tables have, and the file's size.
-#[derive(Drop)]
+#[derive(Clone, Copy)]
 struct Plan {
     metrics: u32,
     trace: u32,
@@ -25,7 +27,7 @@ struct Plan {
 }
 
 // What a file's head is given: the version's number, and what stands nowhere else.
-#[derive(Drop)]
+#[derive(Clone, Copy)]
 pub struct Given {
     pub version: u32,
     pub stored_hash: u32,
@@ -35,7 +37,7 @@ pub struct Given {
 }
 
 // What a file is laid out by: its version and layout, its plan, what its head is given and how many units of its name it carries.
-#[derive(Drop)]
+#[derive(Clone, Copy)]
 struct Draft {
     version: Version,
     layout: Layout,

@@ -21,7 +21,7 @@ use trace::Links;
 const NO_BYTES: [u8; 0] = [];
 
 // What a description's lengths give: a plan, or a size beyond the limit.
-#[derive(Drop)]
+#[derive(Clone, Copy)]
 enum Planned {
     Fits(Plan),
     TooLarge,

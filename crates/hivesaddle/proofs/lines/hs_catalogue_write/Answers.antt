@@ -1,0 +1,11 @@
+-- The writer's own contract speaks of the output; only its answer is left to turn into 0 or 19, case by case.
+use mathlib.Core.Path.{ap}
+use Rattle.catalogue.specs.Line.{written_number}
+use Rattle.hivesaddle.proofs.Output.{writing_is}
+use Rattle.hivesaddle.proofs.lines.hs_catalogue_write.Goals as goal
+
+pub returns-in-Written : goal.returns-in-Written
+returns-in-Written c = writing_is _ _ _ _ _ c.write_line.ensures (ap written_number c.in-Written.is)
+
+pub returns-in-Refused : goal.returns-in-Refused
+returns-in-Refused c = writing_is _ _ _ _ _ c.write_line.ensures (ap written_number c.in-Refused.is)

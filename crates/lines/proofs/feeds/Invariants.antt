@@ -1,0 +1,15 @@
+-- After k turns n is the number of line feeds among the first k bytes.
+use mathlib.Core.Path.{◌≡◌, ap, ◌∙◌}
+use mathlib.Core.Logic.{⊎_elim}
+use Prim.Native.Nat.{suc, ◌+◌, ◌-◌, ◌≤◌}
+use native.Mathlib.Omega.{arith}
+use Rattle.lines.specs.Private.{feeds_in}
+use Rattle.lines.proofs.Lines.{feeds_start, feeds_yes, feeds_no}
+use borrow.Author.Rules.{rules}
+use Rattle.lines.proofs.feeds.Given as goal
+
+abbrev pub invariant-loop-k : goal.invariant-loop-k
+invariant-loop-k l = (l.k ≤ l.width) × (l.n ≤ l.k) × (l.n ≡ feeds_in l.bytes l.at l.k)
+
+abbrev pub decreases-loop-k : goal.decreases-loop-k
+decreases-loop-k l = l.width - l.k

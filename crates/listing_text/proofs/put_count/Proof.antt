@@ -1,9 +1,0 @@
--- A word, what it says, and the line feed, one after the other.
-use Rattle.listing_text.proofs.Lines.{line_of}
-use borrow.Author.Rules.{rules}
-use Rattle.listing_text.proofs.put_count.Statement.{statement}
-use Rattle.listing_text.proofs.put_count.Tie as tie
-
-pub put-count-spec : {M : Type 1} → statement M
-put-count-spec =
-    tie.close (tie.spec (λ c κs. search rules) (λ c κs. search rules) (λ c κs. search rules) (λ c. search rules) (λ c. search (rules, line_of)))

@@ -1,0 +1,16 @@
+-- The units passed so far are not zero; one that is refuses the text, and after the last one a zero must stand.
+use mathlib.Core.Path.{◌≡◌, sym, ◌∙◌}
+use mathlib.Core.Bool.{false}
+use Prim.Native.Nat.{ℕ, ◌+◌, ◌*◌, ◌≤◌, ◌<◌, ◌-◌}
+use native.Mathlib.Omega.{arith}
+use borrow.Author.Count.{below_more}
+use borrow.Author.Rules.{rules}
+use Rattle.little_endian.specs.Number.{zero_unit}
+use Rattle.names.proofs.Laws.{text_zero, text_end}
+use Rattle.names.proofs.units_sound.Given as goal
+
+abbrev pub invariant-loop-k : goal.invariant-loop-k
+invariant-loop-k l = (l.k ≤ l.units) × ((j : ℕ) → j < l.k → zero_unit l.strings (l.at + 2 * j) ≡ false)
+
+abbrev pub decreases-loop-k : goal.decreases-loop-k
+decreases-loop-k l = l.units - l.k

@@ -1,0 +1,16 @@
+-- The bytes passed agree; the first that do not decide, eight at once or one.
+use Rattle.std.proofs.Common.{◌-◌, ◌≤◌, length, sym, ◌∙◌, arith, rules, below_more}
+use Rattle.path_search.proofs.Same.{Agree, agree_eight, agree_all, differ_one, differ_eight}
+use Rattle.path_search.proofs.begins.same_start.Given as goal
+
+abbrev pub invariant-loop-i : goal.invariant-loop-i
+invariant-loop-i l = (l.i ≤ length l.path) × Agree l.path l.name l.i
+
+abbrev pub decreases-loop-i : goal.decreases-loop-i
+decreases-loop-i l = length l.path - l.i
+
+abbrev pub invariant-loop-i-2 : goal.invariant-loop-i-2
+invariant-loop-i-2 l = (l.i ≤ length l.path) × Agree l.path l.name l.i
+
+abbrev pub decreases-loop-i-2 : goal.decreases-loop-i-2
+decreases-loop-i-2 l = length l.path - l.i

@@ -1,0 +1,13 @@
+-- The loop keeps the least number of the entries passed and the first entry that has it; an entry with 0 ends it.
+use Rattle.std.proofs.Common.{◌-◌, ◌<◌, ◌≤◌, length, ⊎_elim, div-le_self, arith, rules}
+use Rattle.layout.specs.Versions.{size_limit}
+use Rattle.path_search.specs.Private.{number_in, entries_in}
+use Rattle.path_search.proofs.Least.{Lowest, lowest_start, lowest_less, lowest-same, lowest-end, lowest_at, lowest-none, lowest-zero}
+use Rattle.path_search.proofs.Laws.{metric_some}
+use Rattle.path_search.proofs.search.Given as goal
+
+abbrev pub invariant-loop-i : goal.invariant-loop-i
+invariant-loop-i l = (l.i ≤ l.entries) × (0 < l.least) × Lowest (number_in l.sought l.path l.l l.metrics l.strings) l.i l.least l.index
+
+abbrev pub decreases-loop-i : goal.decreases-loop-i
+decreases-loop-i l = l.entries - l.i

@@ -1,0 +1,12 @@
+-- After each turn the sum so far and what is left to add are the Vista hash.
+use Rattle.std.proofs.Common.{◌≡◌, ◌+◌, ◌-◌, ◌%◌, ◌^◌, ◌<◌, ◌≤◌, length, arith, rules}
+use Rattle.path_hash.specs.Hash.{vista}
+use Rattle.power_hash.proofs.Sum.{left, left_start, left_done}
+use Rattle.power_hash.proofs.Table.{sum_turn}
+use Rattle.power_hash.proofs.sum_numbers.Given as goal
+
+abbrev pub invariant-loop-i : goal.invariant-loop-i
+invariant-loop-i l = (l.i ≤ length l.cs) × (l.sum < 2 ^ 32) × ((l.sum + left l.cs l.i) % 2 ^ 32 ≡ vista l.cs)
+
+abbrev pub decreases-loop-i : goal.decreases-loop-i
+decreases-loop-i l = length l.cs - l.i

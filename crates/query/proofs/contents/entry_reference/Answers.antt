@@ -1,0 +1,15 @@
+-- A file that opens is asked for the reference; one that is refused or too short for checks 1 to 6 shows none.
+use Rattle.query.proofs.Asked.{asking}
+use Rattle.query.proofs.contents.entry_reference.Goals as goal
+
+pub entry_reference_in-requires : goal.entry_reference_in-requires
+entry_reference_in-requires c κs = search asking
+
+pub returns-in-Opened : goal.returns-in-Opened
+returns-in-Opened c = search asking
+
+pub returns-in-Refused : goal.returns-in-Refused
+returns-in-Refused c = search asking
+
+pub returns-in-Wanted : goal.returns-in-Wanted
+returns-in-Wanted c = search asking

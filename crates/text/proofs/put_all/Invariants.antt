@@ -1,0 +1,14 @@
+-- After i turns the first i bytes of the text have been put.
+use mathlib.Core.Path.{◌≡◌}
+use Prim.Native.Nat.{◌-◌, ◌≤◌}
+use lib.ListN.{length, take}
+use Rattle.text.specs.Put.{Put}
+use Rattle.text.proofs.Growth.{put_none, put_next, put_end}
+use borrow.Author.Rules.{rules}
+use Rattle.text.proofs.put_all.Given as goal
+
+abbrev pub invariant-loop-i : goal.invariant-loop-i
+invariant-loop-i l = (l.i ≤ length l.s) × Put l.initial.out l.at (take l.i l.s) l.end l.out × (length l.out ≡ length l.initial.out)
+
+abbrev pub decreases-loop-i : goal.decreases-loop-i
+decreases-loop-i l = length l.s - l.i

@@ -1,0 +1,28 @@
+-- The whole-file reader's refusals are handed on; what it accepts is walked.
+use mathlib.Core.Path.{◌≡◌, refl}
+use mathlib.Core.List.{List}
+use Prim.Native.Nat.{ℕ}
+use Rattle.incremental.specs.Decision.{refuse}
+use Rattle.incremental.specs.Plan.{decided}
+use Rattle.incremental.specs.declared.Refusal.{Refusal}
+use Rattle.reader.specs.Checks.{file_answer}
+use Rattle.walk.specs.Walk.{walked}
+use Rattle.walk.proofs.File.{walks_refused, reader_accepts, walks_length}
+use Rattle.walk.proofs.walk.Goals as goal
+
+-- 23 is not looked at where the reader refuses
+reader-first : (p : List ℕ) (m n : ℕ) (f : Refusal) → file_answer p m ≡ decided (refuse f) → walked p m n ≡ refuse f
+unfolding walked
+reader-first p m n f e = rw e refl
+
+pub walk_opened-requires : goal.walk_opened-requires
+walk_opened-requires c κs =
+    reader_accepts _ _ _ _ _ _ c.read_opened.ensures c.in-Accepted.is c.read_opened.auto.1.0
+
+pub returns-in-Refused : goal.returns-in-Refused
+returns-in-Refused c =
+    walks_refused _ _ _ _ _ _ c.read_opened.ensures c.in-Refused.is (reader-first _ _ _ _)
+
+pub returns-in-Accepted : goal.returns-in-Accepted
+returns-in-Accepted c =
+    walks_length _ _ _ _ _ _ _ c.read_opened.auto.1.0 c.walk_opened.ensures

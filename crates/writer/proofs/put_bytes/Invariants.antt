@@ -1,0 +1,16 @@
+-- The first i bytes are there after i turns.
+use mathlib.Core.Path.{◌≡◌, ap, ◌∙◌}
+use Prim.Native.Nat.{◌+◌, ◌-◌, ◌≤◌}
+use native.Mathlib.Omega.{arith}
+use lib.ListN.{length, take, length-take}
+use lib.Seq.{take_all}
+use Rattle.writer.specs.Private.{patch}
+use Rattle.writer.proofs.Stores.{patch-none, patch_one, then_laid, laid_long, bytes_more}
+use borrow.Author.Rules.{rules}
+use Rattle.writer.proofs.put_bytes.Given as goal
+
+abbrev pub invariant-loop-i : goal.invariant-loop-i
+invariant-loop-i l = (l.i ≤ length l.bytes) × (l.output ≡ patch l.initial.output l.at (take l.i l.bytes))
+
+abbrev pub decreases-loop-i : goal.decreases-loop-i
+decreases-loop-i l = length l.bytes - l.i
