@@ -6,9 +6,6 @@ use Rattle.catalogue.specs.Line.{fields_in}
 use Rattle.catalogue.proofs.Line.{number_small}
 use Rattle.catalogue.proofs.fields_of.Goals as goal
 
-pub overflow_cast-result-2 : goal.overflow_cast-result-2
-overflow_cast-result-2 c = let s = c in omega (arith, number_small _ _ s.requires.1 s.args.width 8 (omega arith) (omega arith))
-
 pub overflow_cast-result-4 : goal.overflow_cast-result-4
 overflow_cast-result-4 c =
     omega (arith, number_small _ _ c.requires.1 (c.args.width + 16) 2 (omega arith) (omega arith))
@@ -18,6 +15,9 @@ overflow_cast-result-3 c = let s = c in omega (arith, number_small _ _ s.require
 
 pub overflow_cast-result : goal.overflow_cast-result
 overflow_cast-result c = omega (arith, number_small _ _ c.requires.1 0 c.args.width (omega arith) (omega arith))
+
+pub overflow_cast-result-2 : goal.overflow_cast-result-2
+overflow_cast-result-2 c = let s = c in omega (arith, number_small _ _ s.requires.1 s.args.width 8 (omega arith) (omega arith))
 
 pub returns : goal.returns
 unfolding fields_in

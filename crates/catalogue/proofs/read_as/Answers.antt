@@ -5,6 +5,11 @@ use borrow.Author.Tests.{not-true, not-false}
 use borrow.Author.Rules.{rules}
 use Rattle.catalogue.proofs.read_as.Goals as goal
 
+pub returns-else-can_form : goal.returns-else-can_form
+returns-else-can_form c =
+    let line = sym c.is_line.ensures ∙ not-false _ c.if-not-is_line.false in
+    search (rules, read_unformed)
+
 pub returns-then-not-is_line : goal.returns-then-not-is_line
 returns-then-not-is_line c = read_no_line _ _ _ (sym c.is_line.ensures ∙ not-true _ c.if-not-is_line.true)
 
@@ -14,9 +19,4 @@ returns-then-can_form c =
     search (rules, read_formed)
 
 pub fields_of-fields-requires : goal.fields_of-fields-requires
-fields_of-fields-requires c κs = (search rules, sym c.is_line.ensures ∙ not-false _ c.if-not-is_line.false)
-
-pub returns-else-can_form : goal.returns-else-can_form
-returns-else-can_form c =
-    let line = sym c.is_line.ensures ∙ not-false _ c.if-not-is_line.false in
-    search (rules, read_unformed)
+fields_of-fields-requires c = (search rules, sym c.is_line.ensures ∙ not-false _ c.if-not-is_line.false)

@@ -3,8 +3,8 @@ use mathlib.Core.Path.{◌∙◌}
 use Rattle.catalogue.proofs.Line.{read_old, read_new}
 use Rattle.catalogue.proofs.read_line.Goals as goal
 
-pub returns-then-line-eq25 : goal.returns-then-line-eq25
-returns-then-line-eq25 c = c.read_as.ensures ∙ read_old _ c.if-line-eq25.true
-
 pub returns-else-line-eq25 : goal.returns-else-line-eq25
 returns-else-line-eq25 c = c.read_as-else-line-eq25.ensures ∙ read_new _ c.if-line-eq25.false
+
+pub returns-then-line-eq25 : goal.returns-then-line-eq25
+returns-then-line-eq25 c = c.read_as.ensures ∙ read_old _ c.if-line-eq25.true

@@ -6,8 +6,8 @@ use Rattle.catalogue.proofs.write_line.Goals as goal
 pub returns-then-output-lt27 : goal.returns-then-output-lt27
 returns-then-output-lt27 c = search (rules, write_short)
 
-pub returns-then-can_form : goal.returns-then-can_form
-returns-then-can_form c = search (rules, write_formed)
-
 pub returns-else-can_form : goal.returns-else-can_form
 returns-else-can_form c = search (rules, write_unformed)
+
+pub returns-then-can_form : goal.returns-then-can_form
+returns-then-can_form c = search (rules, write_formed)

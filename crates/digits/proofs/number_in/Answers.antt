@@ -56,7 +56,7 @@ returns-then-line-at c = number_other _ _ _ (digits_outside _ _ _ (omega arith))
 
 pub value_of-v-requires : goal.value_of-v-requires
 unfolding values
-value_of-v-requires c κs = search (rules, values_right)
+value_of-v-requires c = search (rules, values_right)
 
 pub returns-then-left-width : goal.returns-then-left-width
 returns-then-left-width c = number_other _ _ _ (digits_outside _ _ _ (omega arith))

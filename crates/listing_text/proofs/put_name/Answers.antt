@@ -8,10 +8,10 @@ use Rattle.listing_text.proofs.put_name.Goals as goal
 pub loop-k-init : goal.loop-k-init
 loop-k-init c = search (rules, name_start)
 
+pub returns : goal.returns
+returns c = search (rules, name_end)
+
 pub loop-k-preserved : goal.loop-k-preserved
 loop-k-preserved c =
     let e = c.shown_unit.ensures ∙ ap shown_unit c.u16_at-u.ensures in
     (omega arith, c.loop-k.invariant.1, name_next _ _ e c.loop-k.invariant.2 c.put-end.ensures, omega (arith, c.loop-k.invariant.3))
-
-pub returns : goal.returns
-returns c = search (rules, name_end)

@@ -1,10 +1,10 @@
 -- The entry's index and number, or `none`.
 use Rattle.listing_text.proofs.put_path.Goals as goal
 
-pub returns-in-NoPath : goal.returns-in-NoPath
-returns-in-NoPath c =
-    rw c.enum_told-1.given.1 c.put_all.ensures
-
 pub returns-in-Entry : goal.returns-in-Entry
 returns-in-Entry c =
     rw c.in-Entry.is c.put_pair.ensures
+
+pub returns-in-NoPath : goal.returns-in-NoPath
+returns-in-NoPath c =
+    rw c.enum_told-1.given.1 c.put_all.ensures

@@ -8,7 +8,7 @@ pub returns-then-not-name_fits : goal.returns-then-not-name_fits
 returns-then-not-name_fits c = name_past _ _ _ (sym c.name_fits.ensures ∙ not-true _ c.if-not-name_fits.true)
 
 pub text_sound-requires : goal.text_sound-requires
-text_sound-requires c κs = fits_le _ _ _ (sym c.name_fits.ensures ∙ not-false _ c.if-not-name_fits.false)
+text_sound-requires c = fits_le _ _ _ (sym c.name_fits.ensures ∙ not-false _ c.if-not-name_fits.false)
 
 pub returns : goal.returns
 returns c = c.text_sound.ensures ∙ name_inside _ _ _ (sym c.name_fits.ensures ∙ not-false _ c.if-not-name_fits.false)

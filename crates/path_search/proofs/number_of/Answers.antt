@@ -7,6 +7,9 @@ use Rattle.path_search.proofs.Same.{belongs_long}
 use Rattle.path_search.proofs.NameNumber.{number-outside, number_inside}
 use Rattle.path_search.proofs.number_of.Goals as goal
 
+pub slice_bounds-carry_bytes-count : goal.slice_bounds-carry_bytes-count
+slice_bounds-carry_bytes-count c = omega (arith, belongs_long _ _ (sym c.belongs.ensures ∙ not-false _ c.if-not-belongs.false))
+
 pub returns-then-not-belongs : goal.returns-then-not-belongs
 returns-then-not-belongs c = number-outside _ _ _ (sym c.belongs.ensures ∙ not-true _ c.if-not-belongs.true)
 
@@ -18,6 +21,3 @@ returns c =
     let a = c.args in
     number_inside _ _ _ (sym c.belongs.ensures ∙ not-false _ c.if-not-belongs.false)
     (c.carry_bytes-hash.ensures ∙ ap (plain a.sought.from) (rest_all _ a.name.now)) c.hash_end.ensures c.number_for.ensures
-
-pub slice_bounds-carry_bytes-count : goal.slice_bounds-carry_bytes-count
-slice_bounds-carry_bytes-count c = omega (arith, belongs_long _ _ (sym c.belongs.ensures ∙ not-false _ c.if-not-belongs.false))

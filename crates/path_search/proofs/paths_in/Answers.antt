@@ -11,5 +11,5 @@ returns c =
     c.part_of-metrics.ensures.contents c.part_of-strings.ensures.contents c.sought_in-sought.ensures c.list_in.ensures
 
 pub list_in-requires : goal.list_in-requires
-list_in-requires c κs =
+list_in-requires c =
     (metrics_low c.args.o _ c.requires c.part_of-metrics.ensures.contents, open_sound _ c.args.o c.requires)

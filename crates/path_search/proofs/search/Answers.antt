@@ -6,21 +6,24 @@ use Rattle.path_search.proofs.Laws.{metric_some}
 use Rattle.path_search.proofs.search.Goals as goal
 
 -- there are fewer entries than bytes, of which there are few
-few : (s : goal.Joined-n-least) → entries_in s.args.l s.args.metrics.now ≤ size_limit
+few : (s : goal.In-loop-i) → entries_in s.args.l s.args.metrics.now ≤ size_limit
 few s = omega (arith, s.requires.0, div-le_self (length s.args.metrics.now) s.args.l.metrics_entry)
 
 -- there are fewer entries than bytes, of which there are few_2
-few_2 : (s : goal.In-loop-i) → entries_in s.args.l s.args.metrics.now ≤ size_limit
+few_2 : (s : goal.Joined-n-least) → entries_in s.args.l s.args.metrics.now ≤ size_limit
 few_2 s = omega (arith, s.requires.0, div-le_self (length s.args.metrics.now) s.args.l.metrics_entry)
+
+pub returns : goal.returns
+returns c =
+    let w = c.loop-i in
+    let all = lowest-end _ _ w.i _ _ w.invariant.2 w.invariant.0 c.loop-i-test.false in
+    lowest-none _ _ w.least w.index all c.if-least-lt-NO_NUMBER.false
 
 pub returns-then-least-lt-NO_NUMBER : goal.returns-then-least-lt-NO_NUMBER
 returns-then-least-lt-NO_NUMBER c =
     let w = c.loop-i in
     let all = lowest-end _ _ w.i _ _ w.invariant.2 w.invariant.0 c.loop-i-test.false in
     lowest_at _ _ _ _ all c.if-least-lt-NO_NUMBER.true
-
-pub overflow_add-i : goal.overflow_add-i
-overflow_add-i c = omega (arith, few c)
 
 pub loop-i-preserved : goal.loop-i-preserved
 loop-i-preserved c =
@@ -32,22 +35,19 @@ loop-i-preserved c =
     (λ z. (omega arith, omega (arith, z.1, w.invariant.1), rw (z.1, z.2) (lowest-same _ _ _ _ _ low number z.0.left)))
     c.if-n-least.branch
 
-pub nonzero_div-entries : goal.nonzero_div-entries
-nonzero_div-entries c = metric_some _ c.requires.1
-
-pub overflow_cast-i : goal.overflow_cast-i
-overflow_cast-i c = omega (arith, few_2 c)
-
-pub returns : goal.returns
-returns c =
-    let w = c.loop-i in
-    let all = lowest-end _ _ w.i _ _ w.invariant.2 w.invariant.0 c.loop-i-test.false in
-    lowest-none _ _ w.least w.index all c.if-least-lt-NO_NUMBER.false
+pub loop-i-init : goal.loop-i-init
+loop-i-init c = (omega arith, omega arith, lowest_start _)
 
 pub returns-then-n-eq0 : goal.returns-then-n-eq0
 returns-then-n-eq0 c =
     let w = c.loop-i in
     lowest-zero _ _ _ _ _ _ w.invariant.2 w.invariant.1 (omega arith) c.entry_number-n.ensures c.if-n-eq0.true
 
-pub loop-i-init : goal.loop-i-init
-loop-i-init c = (omega arith, omega arith, lowest_start _)
+pub nonzero_div-entries : goal.nonzero_div-entries
+nonzero_div-entries c = metric_some _ c.requires.1
+
+pub overflow_cast-i : goal.overflow_cast-i
+overflow_cast-i c = omega (arith, few c)
+
+pub overflow_add-i : goal.overflow_add-i
+overflow_add-i c = omega (arith, few_2 c)

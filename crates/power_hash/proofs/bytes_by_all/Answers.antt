@@ -6,4 +6,4 @@ use Rattle.power_hash.proofs.bytes_by_all.Goals as goal
 
 pub sum_bytes-requires : goal.sum_bytes-requires
 unfolding powers rest
-sum_bytes-requires c κs = (search rules, powers_entries)
+sum_bytes-requires c = (search rules, powers_entries)

@@ -6,4 +6,4 @@ use Rattle.power_hash.proofs.bytes_by_first.Goals as goal
 
 pub sum_bytes-requires : goal.sum_bytes-requires
 unfolding powers rest
-sum_bytes-requires c κs = (search rules, first-entries)
+sum_bytes-requires c = (search rules, first-entries)

@@ -3,6 +3,9 @@ use Rattle.std.proofs.Common.{arith, length-take}
 use Rattle.power_hash.proofs.Swaps.{answer_long, answer_swapped}
 use Rattle.power_hash.proofs.hash_swap.Goals as goal
 
+pub slice_bounds-hash_vista-end : goal.slice_bounds-hash_vista-end
+slice_bounds-hash_vista-end c = simp length-take (omega arith)
+
 pub returns-then-n-p : goal.returns-then-n-p
 returns-then-n-p c =
     let a = c.args in
@@ -13,6 +16,3 @@ returns c =
     let a = c.args in
     answer_swapped a.old-hash a.p _ _ _ a.old.now a.start.now c.if-n-p.false c.hash_vista-new.ensures
     c.hash_vista-before.ensures c.swapped.ensures
-
-pub slice_bounds-hash_vista-end : goal.slice_bounds-hash_vista-end
-slice_bounds-hash_vista-end c = simp length-take (omega arith)

@@ -6,4 +6,4 @@ use Rattle.power_hash.proofs.numbers_by_all.Goals as goal
 
 pub sum_numbers-requires : goal.sum_numbers-requires
 unfolding powers rest
-sum_numbers-requires c κs = (search rules, powers_entries)
+sum_numbers-requires c = (search rules, powers_entries)

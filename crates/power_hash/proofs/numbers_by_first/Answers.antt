@@ -6,4 +6,4 @@ use Rattle.power_hash.proofs.numbers_by_first.Goals as goal
 
 pub sum_numbers-requires : goal.sum_numbers-requires
 unfolding powers rest
-sum_numbers-requires c κs = (search rules, first-entries)
+sum_numbers-requires c = (search rules, first-entries)

@@ -6,10 +6,8 @@ use Rattle.layout.proofs.Laws.{entry_low}
 use Rattle.query.proofs.Entries.{entries, name_low}
 use Rattle.query.proofs.entry_in.Goals as goal
 
-pub overflow_mul-i : goal.overflow_mul-i
-overflow_mul-i c =
-    let a = c.args in
-    omega (arith, entry_low (a.i + 1) a.o.layout.metrics_entry (omega arith) (omega arith))
+pub returns-in-Shown : goal.returns-in-Shown
+returns-in-Shown c = search entries
 
 pub overflow_add-result : goal.overflow_add-result
 overflow_add-result c =
@@ -18,14 +16,16 @@ overflow_add-result c =
     let h : o.head.strings.at + w.at ≤ size_limit = search name_low in
     omega arith
 
-pub returns-then-entries-i : goal.returns-then-entries-i
-returns-then-entries-i c = search entries
-
-pub returns-in-Shown : goal.returns-in-Shown
-returns-in-Shown c = search entries
-
 pub returns-then-metrics-i : goal.returns-then-metrics-i
 returns-then-metrics-i c = search entries
 
+pub returns-then-entries-i : goal.returns-then-entries-i
+returns-then-entries-i c = search entries
+
 pub returns-in-NotShown : goal.returns-in-NotShown
 returns-in-NotShown c = search entries
+
+pub overflow_mul-i : goal.overflow_mul-i
+overflow_mul-i c =
+    let a = c.args in
+    omega (arith, entry_low (a.i + 1) a.o.layout.metrics_entry (omega arith) (omega arith))

@@ -2,11 +2,11 @@
 use Rattle.query.proofs.Asked.{asking}
 use Rattle.query.proofs.entry_place.Goals as goal
 
-pub entry_in-requires : goal.entry_in-requires
-entry_in-requires c κs = search asking
-
 pub returns-in-Opened : goal.returns-in-Opened
 returns-in-Opened c = search asking
+
+pub entry_in-requires : goal.entry_in-requires
+entry_in-requires c = search asking
 
 pub returns-in-Refused : goal.returns-in-Refused
 returns-in-Refused c = search asking

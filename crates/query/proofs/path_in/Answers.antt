@@ -3,9 +3,8 @@ use native.Mathlib.Omega.{arith}
 use Rattle.query.proofs.Volumes.{section_met, path_of_section, path_hidden, path_shown}
 use Rattle.query.proofs.path_in.Goals as goal
 
-pub overflow_cast-i : goal.overflow_cast-i
-overflow_cast-i c =
-    omega (arith, (section_met _ _ _ _ c.section_shown.ensures c.if-not-section_shown.false).below, c.well-formed.1.0)
+pub returns-then-not-section_shown : goal.returns-then-not-section_shown
+returns-then-not-section_shown c = search path_hidden
 
 pub overflow_mul-v : goal.overflow_mul-v
 overflow_mul-v c =
@@ -14,5 +13,6 @@ overflow_mul-v c =
 pub returns : goal.returns
 returns c = search path_shown
 
-pub returns-then-not-section_shown : goal.returns-then-not-section_shown
-returns-then-not-section_shown c = search path_hidden
+pub overflow_cast-i : goal.overflow_cast-i
+overflow_cast-i c =
+    omega (arith, (section_met _ _ _ _ c.section_shown.ensures c.if-not-section_shown.false).below, c.well-formed.1.0)

@@ -5,14 +5,14 @@ use Rattle.head.proofs.Facts.{start_met}
 use Rattle.query.proofs.Asked.{asking}
 use Rattle.query.proofs.program_place.Goals as goal
 
-pub overflow_mul-result : goal.overflow_mul-result
-overflow_mul-result c = omega (arith, (name_law _ _ (start_met _ _ _ c.read_start.ensures c.in-Started.is).ended).short)
-
 pub returns-in-Started : goal.returns-in-Started
 returns-in-Started c = search asking
 
-pub returns-in-Wanted : goal.returns-in-Wanted
-returns-in-Wanted c = search asking
+pub overflow_mul-result : goal.overflow_mul-result
+overflow_mul-result c = omega (arith, (name_law _ _ (start_met _ _ _ c.read_start.ensures c.in-Started.is).ended).short)
 
 pub returns-in-Refused : goal.returns-in-Refused
 returns-in-Refused c = search asking
+
+pub returns-in-Wanted : goal.returns-in-Wanted
+returns-in-Wanted c = search asking

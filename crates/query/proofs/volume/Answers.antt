@@ -6,10 +6,10 @@ pub returns-in-Opened : goal.returns-in-Opened
 returns-in-Opened c = search asking
 
 pub volume_in-requires : goal.volume_in-requires
-volume_in-requires c κs = search asking
-
-pub returns-in-Wanted : goal.returns-in-Wanted
-returns-in-Wanted c = search asking
+volume_in-requires c = search asking
 
 pub returns-in-Refused : goal.returns-in-Refused
 returns-in-Refused c = search asking
+
+pub returns-in-Wanted : goal.returns-in-Wanted
+returns-in-Wanted c = search asking

@@ -3,14 +3,14 @@ use Rattle.std.proofs.Common.{arith}
 use Rattle.replay_input.proofs.Text.{none_past, none_held, digits_held, digits_put}
 use Rattle.replay_input.proofs.put_answer.Goals as goal
 
+pub returns-then-answers-i : goal.returns-then-answers-i
+returns-then-answers-i c = let s = c.args in
+    rw (← none_past s.answers.now s.i (omega (arith, c.if-answers-i.true))) c.put_all.ensures
+
 pub returns-then-answers-from-eq0 : goal.returns-then-answers-from-eq0
 returns-then-answers-from-eq0 c = let d = c in
     let s = d.before.before.before.before.before.args in
     rw (← none_held s.answers.now s.i (omega (arith, d.before.before.if1.false)) d.if2.true) c.put_all-then-answers-from-eq0.ensures
-
-pub returns-then-answers-i : goal.returns-then-answers-i
-returns-then-answers-i c = let s = c.args in
-    rw (← none_past s.answers.now s.i (omega (arith, c.if-answers-i.true))) c.put_all.ensures
 
 pub returns : goal.returns
 returns c = let c₁ = c in

@@ -12,6 +12,17 @@ use Rattle.trace.specs.Private.{first_cyclic}
 use Rattle.trace.proofs.Answers.{answer_at, answer_chains}
 use Rattle.trace.proofs.check_cycles.Goals as goal
 
+pub overflow_cast-i : goal.overflow_cast-i
+overflow_cast-i c =
+    let s = nexts_from c.args.section.now c.args.pairs.now c.args.size c.args.entries in
+    let l = (first_at (cyclic s) (length s) 0 c.in-At.i (sym c.find_cycle-found.ensures ∙ c.in-At.is)).1 in
+    omega (arith, l, length_from c.args.section.now c.args.pairs.now c.args.size c.args.entries, c.ranges.entries)
+
+pub find_cycle-found-requires : goal.find_cycle-found-requires
+find_cycle-found-requires c = let a = c in
+    let s = nexts_from a.args.section.now a.args.pairs.now a.args.size a.args.entries in
+    (record { room = a.requires.room; sound = a.requires.sound }, distinct s a.requires.sound a.requires.once)
+
 pub returns-in-At : goal.returns-in-At
 returns-in-At c =
     let s = nexts_from c.args.section.now c.args.pairs.now c.args.size c.args.entries in
@@ -27,14 +38,3 @@ returns c =
     let e = length_from c.args.section.now c.args.pairs.now c.args.size c.args.entries in
     answer_chains _ s _ _ f.result _ (omega (arith, e, c.ranges.entries)) c.requires f.ensures c.in_default.is
     (t.ensures ∙ ap (predecessors s) f.auto.1.1.1.1.0)
-
-pub overflow_cast-i : goal.overflow_cast-i
-overflow_cast-i c =
-    let s = nexts_from c.args.section.now c.args.pairs.now c.args.size c.args.entries in
-    let l = (first_at (cyclic s) (length s) 0 c.in-At.i (sym c.find_cycle-found.ensures ∙ c.in-At.is)).1 in
-    omega (arith, l, length_from c.args.section.now c.args.pairs.now c.args.size c.args.entries, c.ranges.entries)
-
-pub find_cycle-found-requires : goal.find_cycle-found-requires
-find_cycle-found-requires c κs = let a = c in
-    let s = nexts_from a.args.section.now a.args.pairs.now a.args.size a.args.entries in
-    (record { room = a.requires.room; sound = a.requires.sound }, distinct s a.requires.sound a.requires.once)

@@ -8,6 +8,14 @@ use Rattle.lists.specs.Filled.{filled}
 use Rattle.trace.proofs.Answers.{answer_few, answer_links}
 use Rattle.trace.proofs.check_links.Goals as goal
 
+pub check_entries-requires : goal.check_entries-requires
+check_entries-requires c =
+    let a = c.args in
+    let f = c.fill in
+    let e : length f.new.0 ≡ length a.predecessors.now = f.auto.0 in
+    let room = places_met _ _ _ c.places_fault.ensures c.in_default.is in
+    record { room = omega (arith, e, length_from a.section.now a.pairs.now a.size a.entries, room); clear = f.ensures ∙ ap filled (sym e) }
+
 pub returns-in-At : goal.returns-in-At
 returns-in-At c =
     let a = c.args in
@@ -20,11 +28,3 @@ returns c =
     let r = c.check_entries in
     answer_links _ _ _ _ (length_from a.section.now a.pairs.now a.size a.entries) _ _ c.places_fault.ensures _
     c.in_default.is (rw c.fill.auto.0 at r.ensures)
-
-pub check_entries-requires : goal.check_entries-requires
-check_entries-requires c κs =
-    let a = c.args in
-    let f = c.fill in
-    let e : length f.new.0 ≡ length a.predecessors.now = f.auto.0 in
-    let room = places_met _ _ _ c.places_fault.ensures c.in_default.is in
-    record { room = omega (arith, e, length_from a.section.now a.pairs.now a.size a.entries, room); clear = f.ensures ∙ ap filled (sym e) }

@@ -12,15 +12,6 @@ returns-in-Past c =
     ap checked_of c.refused.ensures
     ∙ sym (w.invariant.1 ∙ directories_step _ _ _ _ _ _ _ (omega arith) (sym c.step.ensures.answer ∙ c.in-Past.is))
 
-pub returns-in-Unended : goal.returns-in-Unended
-returns-in-Unended c =
-    let w = c.loop-done in
-    ap checked_of c.refused-in-Unended.ensures
-    ∙ sym (w.invariant.1 ∙ directories_step _ _ _ _ _ _ _ (omega arith) (sym c.step.ensures.answer ∙ c.in-Unended.is))
-
-pub returns : goal.returns
-returns c = sym (c.loop-done.invariant.1 ∙ directories_end _ _ _ _ _ _ (omega arith))
-
 pub loop-done-init : goal.loop-done-init
 loop-done-init c =
     let a = c.args in
@@ -34,3 +25,12 @@ pub loop-done-preserved : goal.loop-done-preserved
 loop-done-preserved c =
     let w = c.loop-done in
     (omega arith, w.invariant.1 ∙ directories_step _ _ _ _ _ _ _ (omega arith) (sym c.step.ensures.answer ∙ c.in-Next.is))
+
+pub returns-in-Unended : goal.returns-in-Unended
+returns-in-Unended c =
+    let w = c.loop-done in
+    ap checked_of c.refused-in-Unended.ensures
+    ∙ sym (w.invariant.1 ∙ directories_step _ _ _ _ _ _ _ (omega arith) (sym c.step.ensures.answer ∙ c.in-Unended.is))
+
+pub returns : goal.returns
+returns c = sym (c.loop-done.invariant.1 ∙ directories_end _ _ _ _ _ _ (omega arith))

@@ -11,11 +11,11 @@ returns-then-not-references_fit c =
     ∙ entry_references _ _ _ _ (sym c.path_fits.ensures ∙ not-false _ c.if-not-path_fits.false)
     (sym c.references_fit.ensures ∙ not-true _ c.if-not-references_fit.true)
 
-pub returns-then-not-path_fits : goal.returns-then-not-path_fits
-returns-then-not-path_fits c = ap checked_of c.refused.ensures ∙ entry_path _ _ _ _ (sym c.path_fits.ensures ∙ not-true _ c.if-not-path_fits.true)
-
 pub returns : goal.returns
 returns c =
     c.check_directories.ensures
     ∙ entry_directories _ _ _ _ (sym c.path_fits.ensures ∙ not-false _ c.if-not-path_fits.false)
     (sym c.references_fit.ensures ∙ not-false _ c.if-not-references_fit.false)
+
+pub returns-then-not-path_fits : goal.returns-then-not-path_fits
+returns-then-not-path_fits c = ap checked_of c.refused.ensures ∙ entry_path _ _ _ _ (sym c.path_fits.ensures ∙ not-true _ c.if-not-path_fits.true)

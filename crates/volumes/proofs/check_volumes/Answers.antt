@@ -8,17 +8,13 @@ pub returns-in-At : goal.returns-in-At
 returns-in-At c =
     volumes_crowded _ c.args.l _ _ _ _ _ _ c.entries_fault.ensures c.in-At.is c.refuse.ensures
 
+pub loop-i-init : goal.loop-i-init
+loop-i-init c = (omega arith, volumes_start _ _ _ _)
+
 pub loop-i-preserved : goal.loop-i-preserved
 loop-i-preserved c =
     let w = c.loop-i in
     (omega arith, w.invariant.1 ∙ volumes_next _ _ _ _ _ (omega arith) (sym c.check_volume-checked.ensures ∙ ap checked_of c.in_default-checked.is))
-
-pub returns : goal.returns
-returns c =
-    sym
-    (volumes_room _ c.args.l _ _ _ c.entries_fault.ensures c.in_default.is
-    ∙ c.loop-i.invariant.1
-    ∙ volumes_end _ _ _ _ _ (omega arith))
 
 pub returns-in-Refused : goal.returns-in-Refused
 returns-in-Refused c =
@@ -29,5 +25,9 @@ returns-in-Refused c =
     ∙ w.invariant.1
     ∙ volumes_refused _ _ _ _ _ _ (omega arith) (sym c.check_volume-checked.ensures ∙ ap checked_of c.in-Refused.is))
 
-pub loop-i-init : goal.loop-i-init
-loop-i-init c = (omega arith, volumes_start _ _ _ _)
+pub returns : goal.returns
+returns c =
+    sym
+    (volumes_room _ c.args.l _ _ _ c.entries_fault.ensures c.in_default.is
+    ∙ c.loop-i.invariant.1
+    ∙ volumes_end _ _ _ _ _ (omega arith))

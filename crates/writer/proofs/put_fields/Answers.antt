@@ -5,7 +5,7 @@ use Rattle.writer.proofs.HeadPieces.{behind_joined, behind_ordered}
 use Rattle.writer.proofs.put_fields.Goals as goal
 
 pub put_numbers-requires : goal.put_numbers-requires
-put_numbers-requires c κs =
+put_numbers-requires c =
     (refl, behind_ordered c.args.l c.requires.0 c.args.p c.args.g _ _ c.requires.1 c.requires.2)
 
 pub returns : goal.returns

@@ -10,7 +10,7 @@ use Rattle.writer.proofs.HeadPieces.{first_ordered, first_long, behind_long, hea
 use Rattle.writer.proofs.put_head.Goals as goal
 
 pub put_zeros-requires : goal.put_zeros-requires
-put_zeros-requires c κs =
+put_zeros-requires c =
     (
       omega (arith, c.requires.0.head, c.requires.0.section),
       omega
@@ -18,7 +18,7 @@ put_zeros-requires c κs =
     )
 
 pub put_numbers-requires : goal.put_numbers-requires
-put_numbers-requires c κs =
+put_numbers-requires c =
     (refl, first_ordered c.args.l c.requires.0 c.args.p c.args.g c.args.version [] (omega arith) _ c.requires.1)
 
 pub returns : goal.returns

@@ -6,37 +6,29 @@ use native.Mathlib.Omega.{arith}
 use borrow.Author.Rules.{rules}
 use Rattle.head.proofs.checks.check_form.Goals as goal
 
-pub returns : goal.returns
-unfolding form_plan
-returns c = search steps depth 12
-
-pub slice_bounds-find_form-end : goal.slice_bounds-find_form-end
-slice_bounds-find_form-end c = simp length-take (omega arith)
-
 pub returns-then-file-required : goal.returns-then-file-required
 unfolding form_plan
 returns-then-file-required c = search steps depth 12
 
-pub find_form-requires : goal.find_form-requires
+pub returns : goal.returns
 unfolding form_plan
-find_form-requires c κs = search rules
-
-pub overflow_cast-required : goal.overflow_cast-required
-unfolding form_plan
-overflow_cast-required c = search rules
-
-pub returns-in_default : goal.returns-in_default
-unfolding form_plan
-returns-in_default c = search steps depth 12
-
-pub enum_told-1 : goal.enum_told-1
-unfolding form_plan
-enum_told-1 c = search rules
+returns c = search steps depth 12
 
 pub enum_known-l : goal.enum_known-l
 unfolding form_plan
 enum_known-l c = search rules
 
-pub start_refused-requires : goal.start_refused-requires
+pub enum_told-1 : goal.enum_told-1
 unfolding form_plan
-start_refused-requires c κs = search rules
+enum_told-1 c = search rules
+
+pub slice_bounds-find_form-end : goal.slice_bounds-find_form-end
+slice_bounds-find_form-end c = simp length-take (omega arith)
+
+pub returns-in_default : goal.returns-in_default
+unfolding form_plan
+returns-in_default c = search steps depth 12
+
+pub overflow_cast-required : goal.overflow_cast-required
+unfolding form_plan
+overflow_cast-required c = search rules

@@ -6,122 +6,82 @@ use native.Mathlib.Omega.{arith}
 use borrow.Author.Rules.{rules}
 use Rattle.head.proofs.checks.read_start.Goals as goal
 
-pub returns-then-file-lt76 : goal.returns-then-file-lt76
+pub returns-in_default-name_end : goal.returns-in_default-name_end
 unfolding start_plan
-returns-then-file-lt76 c = search steps depth 24
-
-pub enum_known-i : goal.enum_known-i
-unfolding start_plan
-enum_known-i c = search rules
-
-pub size_fault-requires : goal.size_fault-requires
-unfolding start_plan
-size_fault-requires c κs = search rules
-
-pub u32_at-number-requires : goal.u32_at-number-requires
-unfolding start_plan
-u32_at-number-requires c κs = search rules
-
-pub enum_known-units : goal.enum_known-units
-unfolding start_plan
-enum_known-units c = search rules
-
-pub start_refused-requires : goal.start_refused-requires
-unfolding start_plan
-start_refused-requires c κs = search rules
-
-pub of-l-requires : goal.of-l-requires
-unfolding start_plan
-of-l-requires c κs = search rules
-
-pub slice_bounds-signature_fault-end : goal.slice_bounds-signature_fault-end
-slice_bounds-signature_fault-end c = simp length-take (omega arith)
-
-pub signature_fault-requires : goal.signature_fault-requires
-unfolding start_plan
-signature_fault-requires c κs = search rules
-
-pub returns-in_default : goal.returns-in_default
-unfolding start_plan
-returns-in_default c = search steps depth 24
-
-pub enum_known-i-in-At-size_fault : goal.enum_known-i-in-At-size_fault
-unfolding start_plan
-enum_known-i-in-At-size_fault c = search rules
-
-pub returns-in-At : goal.returns-in-At
-unfolding start_plan
-returns-in-At c = search steps depth 24
-
-pub returns : goal.returns
-unfolding start_plan
-returns c = search steps depth 24
-
-pub returns-then-file-lt16 : goal.returns-then-file-lt16
-unfolding start_plan
-returns-then-file-lt16 c = search steps depth 24
-
-pub start_refused-requires-in-At-size_fault : goal.start_refused-requires-in-At-size_fault
-unfolding start_plan
-start_refused-requires-in-At-size_fault c κs = search rules
-
-pub enum_known-version : goal.enum_known-version
-unfolding start_plan
-enum_known-version c = search rules
-
-pub slice_bounds-name_end-end : goal.slice_bounds-name_end-end
-slice_bounds-name_end-end c = simp length-take (omega arith)
-
-pub name_end-requires : goal.name_end-requires
-unfolding start_plan
-name_end-requires c κs = search rules
-
-pub of-requires : goal.of-requires
-unfolding start_plan
-of-requires c κs = search rules
-
-pub slice_bounds-size_fault-end : goal.slice_bounds-size_fault-end
-slice_bounds-size_fault-end c = simp length-take (omega arith)
-
-pub start_refused-requires-in_default-name_end : goal.start_refused-requires-in_default-name_end
-unfolding start_plan
-start_refused-requires-in_default-name_end c κs = search rules
+returns-in_default-name_end c = start_refused_is _ _ _ c.start_refused-in_default-name_end.ensures (search steps depth 24)
 
 pub returns-in-At-size_fault : goal.returns-in-At-size_fault
 unfolding start_plan
 returns-in-At-size_fault c = start_refused_is _ _ _ c.start_refused-in-At-size_fault.ensures (search steps depth 24)
 
-pub start_refused-requires-in-At : goal.start_refused-requires-in-At
+pub enum_told-in_default-signature_fault : goal.enum_told-in_default-signature_fault
 unfolding start_plan
-start_refused-requires-in-At c κs = search rules
+enum_told-in_default-signature_fault c = search rules
 
-pub slice_bounds-u32_at-end : goal.slice_bounds-u32_at-end
-slice_bounds-u32_at-end c = simp length-take (omega arith)
+pub slice_bounds-name_end-end : goal.slice_bounds-name_end-end
+slice_bounds-name_end-end c = simp length-take (omega arith)
 
-pub returns-then-file-lt4 : goal.returns-then-file-lt4
+pub enum_known-i : goal.enum_known-i
 unfolding start_plan
-returns-then-file-lt4 c = search steps depth 24
+enum_known-i c = search rules
+
+pub returns-in-At : goal.returns-in-At
+unfolding start_plan
+returns-in-At c = search steps depth 24
 
 pub enum_told-in_default-name_end : goal.enum_told-in_default-name_end
 unfolding start_plan
 enum_told-in_default-name_end c = search rules
 
-pub returns-in_default-name_end : goal.returns-in_default-name_end
+pub returns-then-file-lt4 : goal.returns-then-file-lt4
 unfolding start_plan
-returns-in_default-name_end c = start_refused_is _ _ _ c.start_refused-in_default-name_end.ensures (search steps depth 24)
+returns-then-file-lt4 c = search steps depth 24
 
-pub enum_told-in_default-signature_fault : goal.enum_told-in_default-signature_fault
+pub enum_known-version : goal.enum_known-version
 unfolding start_plan
-enum_told-in_default-signature_fault c = search rules
+enum_known-version c = search rules
 
-pub enum_told-1 : goal.enum_told-1
+pub enum_known-units : goal.enum_known-units
 unfolding start_plan
-enum_told-1 c = search rules
+enum_known-units c = search rules
+
+pub enum_known-i-in-At-size_fault : goal.enum_known-i-in-At-size_fault
+unfolding start_plan
+enum_known-i-in-At-size_fault c = search rules
+
+pub returns-then-file-lt76 : goal.returns-then-file-lt76
+unfolding start_plan
+returns-then-file-lt76 c = search steps depth 24
+
+pub slice_bounds-signature_fault-end : goal.slice_bounds-signature_fault-end
+slice_bounds-signature_fault-end c = simp length-take (omega arith)
+
+pub enum_told-in_default-size_fault : goal.enum_told-in_default-size_fault
+unfolding start_plan
+enum_told-in_default-size_fault c = search rules
 
 pub returns-then-file-lt8 : goal.returns-then-file-lt8
 unfolding start_plan
 returns-then-file-lt8 c = search steps depth 24
 
-pub enum_told-in_default-size_fault : goal.enum_told-in_default-size_fault
+pub enum_told-1 : goal.enum_told-1
 unfolding start_plan
-enum_told-in_default-size_fault c = search rules
+enum_told-1 c = search rules
+
+pub returns-in_default : goal.returns-in_default
+unfolding start_plan
+returns-in_default c = search steps depth 24
+
+pub slice_bounds-u32_at-end : goal.slice_bounds-u32_at-end
+slice_bounds-u32_at-end c = simp length-take (omega arith)
+
+pub returns-then-file-lt16 : goal.returns-then-file-lt16
+unfolding start_plan
+returns-then-file-lt16 c = search steps depth 24
+
+pub slice_bounds-size_fault-end : goal.slice_bounds-size_fault-end
+slice_bounds-size_fault-end c = simp length-take (omega arith)
+
+pub returns : goal.returns
+unfolding start_plan
+returns c = search steps depth 24

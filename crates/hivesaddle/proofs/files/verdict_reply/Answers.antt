@@ -4,8 +4,8 @@ use Rattle.hivesaddle.proofs.files.verdict_reply.Goals as goal
 pub returns-in-Accepted : goal.returns-in-Accepted
 returns-in-Accepted c = rw c.in-Accepted.is c.reply_of.ensures
 
-pub returns-in-Wanted : goal.returns-in-Wanted
-returns-in-Wanted c = rw c.in-Wanted.is (rw c.no_record-in-Wanted.ensures at c.reply_of-in-Wanted.ensures)
-
 pub returns-in-Refused : goal.returns-in-Refused
 returns-in-Refused c = rw c.in-Refused.is (rw c.no_record.ensures at c.reply_of-in-Refused.ensures)
+
+pub returns-in-Wanted : goal.returns-in-Wanted
+returns-in-Wanted c = rw c.in-Wanted.is (rw c.no_record-in-Wanted.ensures at c.reply_of-in-Wanted.ensures)

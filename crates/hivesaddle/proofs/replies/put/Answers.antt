@@ -9,14 +9,6 @@ use lib.Seq.{paste, paste-suc, get_or-take}
 use Rattle.hivesaddle.proofs.Output.{overlay-done}
 use Rattle.hivesaddle.proofs.replies.put.Goals as goal
 
-pub loop-i-init : goal.loop-i-init
-loop-i-init c = (omega arith, omega arith, refl, refl)
-
-pub returns-then-values-i : goal.returns-then-values-i
-returns-then-values-i c =
-    let n = length-take c.args.count c.args.values.now in
-    overlay-done _ _ _ c.loop-i.i (omega arith) (omega arith) (inr (omega (arith, n))) c.loop-i.invariant.3
-
 pub loop-i-preserved : goal.loop-i-preserved
 loop-i-preserved c =
     let a = c.args in
@@ -31,6 +23,14 @@ loop-i-preserved c =
       rw (c.loop-i.invariant.3, g, add-one i)
           (ap (λ (k : ℕ). set (paste a.out.now 0 vs i) k (get_or vs i 0)) (sym (zero-add i)) ∙ paste-suc a.out.now 0 vs i 0 l (omega (arith, n))),
     )
+
+pub loop-i-init : goal.loop-i-init
+loop-i-init c = (omega arith, omega arith, refl, refl)
+
+pub returns-then-values-i : goal.returns-then-values-i
+returns-then-values-i c =
+    let n = length-take c.args.count c.args.values.now in
+    overlay-done _ _ _ c.loop-i.i (omega arith) (omega arith) (inr (omega (arith, n))) c.loop-i.invariant.3
 
 pub returns-after-loop-i : goal.returns-after-loop-i
 returns-after-loop-i c = let b = c in overlay-done _ _ _ b.loop.i (omega arith) (omega arith) (inl (omega arith)) b.loop.invariant.3

@@ -2,11 +2,11 @@
 use Rattle.query.proofs.Asked.{asking}
 use Rattle.query.proofs.contents.entry_reference.Goals as goal
 
-pub entry_reference_in-requires : goal.entry_reference_in-requires
-entry_reference_in-requires c κs = search asking
-
 pub returns-in-Opened : goal.returns-in-Opened
 returns-in-Opened c = search asking
+
+pub entry_reference_in-requires : goal.entry_reference_in-requires
+entry_reference_in-requires c = search asking
 
 pub returns-in-Refused : goal.returns-in-Refused
 returns-in-Refused c = search asking

@@ -4,18 +4,15 @@ use Rattle.layout.proofs.Laws.{entry_low}
 use Rattle.query.proofs.Entries.{entry_references}
 use Rattle.query.proofs.contents.file_reference.Goals as goal
 
-pub overflow_mul-at : goal.overflow_mul-at
-overflow_mul-at c =
-    let a = c.args in
-    omega (arith, entry_low a.i a.l.metrics_entry (omega arith) (omega arith))
-
 pub overflow_add-at : goal.overflow_add-at
 overflow_add-at c =
     let a = c.args in
     omega (arith, entry_low a.i a.l.metrics_entry (omega arith) (omega arith))
 
-pub returns : goal.returns
-returns c = search entry_references
+pub overflow_mul-at : goal.overflow_mul-at
+overflow_mul-at c =
+    let a = c.args in
+    omega (arith, entry_low a.i a.l.metrics_entry (omega arith) (omega arith))
 
 pub overflow_add-at-2 : goal.overflow_add-at-2
 overflow_add-at-2 c =
@@ -24,3 +21,6 @@ overflow_add-at-2 c =
 
 pub returns-then-l-eq0 : goal.returns-then-l-eq0
 returns-then-l-eq0 c = search entry_references
+
+pub returns : goal.returns
+returns c = search entry_references

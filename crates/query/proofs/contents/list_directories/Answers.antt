@@ -11,6 +11,36 @@ use Rattle.query.specs.Contents.{directory_pairs}
 use Rattle.query.proofs.Listed.{directories_step, directories_end}
 use Rattle.query.proofs.contents.list_directories.Goals as goal
 
+pub shape_of-pairs : goal.shape_of-pairs
+shape_of-pairs c = laid_size _ _ c.loop-k.invariant.1
+
+pub overflow_add-pairs : goal.overflow_add-pairs
+overflow_add-pairs c =
+    omega (arith, c.requires, (step_is _ _ _ (sym c.step.ensures.answer ∙ c.in-Next.is)).0.inside)
+
+pub overflow_add-pairs-in-Next : goal.overflow_add-pairs-in-Next
+overflow_add-pairs-in-Next c =
+    omega (arith, c.requires, (step_is _ _ _ (sym c.step.ensures.answer ∙ c.in-Next.is)).0.inside)
+
+pub shape_of-pairs-in-Past : goal.shape_of-pairs-in-Past
+shape_of-pairs-in-Past c = laid_size _ _ c.loop-k.invariant.1
+
+pub returns-in-Unended : goal.returns-in-Unended
+returns-in-Unended c =
+    let a = c.args in
+    let rest = directory_pairs a.section.now a.base (a.count - c.loop-k.k) c.loop-k.cursor.at in
+    let e : rest ≡ [] = directories_step _ _ _ _ _ Unended (omega arith) (sym c.step.ensures.answer ∙ c.in-Unended.is) in
+    laid_all _ _ e c.loop-k.invariant.1
+
+pub returns-then-room-i : goal.returns-then-room-i
+returns-then-room-i c = laid_full _ _ (omega arith) c.loop-k.invariant.1
+
+pub shape_of-pairs-then-room-i : goal.shape_of-pairs-then-room-i
+shape_of-pairs-then-room-i c = laid_size _ _ c.loop-k.invariant.1
+
+pub bounds-pairs-i : goal.bounds-pairs-i
+bounds-pairs-i c = omega (arith, laid_size _ _ c.loop-k.invariant.1)
+
 pub bounds-pairs-i-in-Next : goal.bounds-pairs-i-in-Next
 bounds-pairs-i-in-Next c = simp length-set (omega (arith, laid_size _ _ c.loop-k.invariant.1))
 
@@ -21,14 +51,9 @@ returns-in-Past c =
     let e : rest ≡ [] = directories_step _ _ _ _ _ Past (omega arith) (sym c.step.ensures.answer ∙ c.in-Past.is) in
     laid_all _ _ e c.loop-k.invariant.1
 
-pub shape_of-pairs-in-Unended : goal.shape_of-pairs-in-Unended
-shape_of-pairs-in-Unended c = laid_size _ _ c.loop-k.invariant.1
-
-pub shape_of-pairs-in-Past : goal.shape_of-pairs-in-Past
-shape_of-pairs-in-Past c = laid_size _ _ c.loop-k.invariant.1
-
-pub bounds-pairs-i : goal.bounds-pairs-i
-bounds-pairs-i c = omega (arith, laid_size _ _ c.loop-k.invariant.1)
+pub overflow_cast-pairs : goal.overflow_cast-pairs
+overflow_cast-pairs c =
+    omega (arith, c.requires, (step_is _ _ _ (sym c.step.ensures.answer ∙ c.in-Next.is)).0.inside)
 
 pub loop-k-preserved : goal.loop-k-preserved
 loop-k-preserved c =
@@ -43,39 +68,14 @@ loop-k-preserved c =
     ∙ ap (λ (n : ℕ). (a.base + here + 2) ∷ n ∷ later) (sym c.u16_at.ensures) in
     (omega arith, laid_more _ _ e (omega arith) c.loop-k.invariant.1)
 
-pub overflow_add-pairs-in-Next : goal.overflow_add-pairs-in-Next
-overflow_add-pairs-in-Next c =
-    omega (arith, c.requires, (step_is _ _ _ (sym c.step.ensures.answer ∙ c.in-Next.is)).0.inside)
-
-pub shape_of-pairs : goal.shape_of-pairs
-shape_of-pairs c = laid_size _ _ c.loop-k.invariant.1
-
-pub overflow_add-pairs : goal.overflow_add-pairs
-overflow_add-pairs c =
-    omega (arith, c.requires, (step_is _ _ _ (sym c.step.ensures.answer ∙ c.in-Next.is)).0.inside)
-
 pub loop-k-init : goal.loop-k-init
 loop-k-init c = (omega arith, rw sub-zero (laid_start _ _))
 
-pub overflow_cast-pairs : goal.overflow_cast-pairs
-overflow_cast-pairs c =
-    omega (arith, c.requires, (step_is _ _ _ (sym c.step.ensures.answer ∙ c.in-Next.is)).0.inside)
-
-pub returns-in-Unended : goal.returns-in-Unended
-returns-in-Unended c =
-    let a = c.args in
-    let rest = directory_pairs a.section.now a.base (a.count - c.loop-k.k) c.loop-k.cursor.at in
-    let e : rest ≡ [] = directories_step _ _ _ _ _ Unended (omega arith) (sym c.step.ensures.answer ∙ c.in-Unended.is) in
-    laid_all _ _ e c.loop-k.invariant.1
-
-pub returns-then-room-i : goal.returns-then-room-i
-returns-then-room-i c = laid_full _ _ (omega arith) c.loop-k.invariant.1
+pub shape_of-pairs-in-Unended : goal.shape_of-pairs-in-Unended
+shape_of-pairs-in-Unended c = laid_size _ _ c.loop-k.invariant.1
 
 pub returns : goal.returns
 returns c =
     let a = c.args in
     let e : directory_pairs a.section.now a.base (a.count - c.loop-k.k) c.loop-k.cursor.at ≡ [] = directories_end _ _ _ _ _ (omega arith) in
     laid_all _ _ e c.loop-k.invariant.1
-
-pub shape_of-pairs-then-room-i : goal.shape_of-pairs-then-room-i
-shape_of-pairs-then-room-i c = laid_size _ _ c.loop-k.invariant.1

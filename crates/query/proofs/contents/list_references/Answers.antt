@@ -11,8 +11,14 @@ use Rattle.query.specs.Contents.{reference_pairs}
 use Rattle.query.proofs.Listed.{references_step, references_end}
 use Rattle.query.proofs.contents.list_references.Goals as goal
 
-pub returns-then-room-at : goal.returns-then-room-at
-returns-then-room-at c = laid_full _ _ (omega arith) c.loop-k.invariant.1
+pub shape_of-pairs : goal.shape_of-pairs
+shape_of-pairs c = laid_size _ _ c.loop-k.invariant.1
+
+pub shape_of-pairs-then-room-at : goal.shape_of-pairs-then-room-at
+shape_of-pairs-then-room-at c = laid_size _ _ c.loop-k.invariant.1
+
+pub bounds-pairs-at-in-loop-k : goal.bounds-pairs-at-in-loop-k
+bounds-pairs-at-in-loop-k c = simp length-set (omega (arith, laid_size _ _ c.loop-k.invariant.1))
 
 pub loop-k-preserved : goal.loop-k-preserved
 loop-k-preserved c =
@@ -26,23 +32,17 @@ loop-k-preserved c =
     ∙ ap (λ (x : Reference). x.index ∷ x.sequence ∷ later) (sym c.reference_at-r.ensures) in
     (omega arith, laid_more _ _ e (omega arith) c.loop-k.invariant.1)
 
+pub loop-k-init : goal.loop-k-init
+loop-k-init c = (omega arith, rw sub-zero (laid_start _ _))
+
 pub bounds-pairs-at : goal.bounds-pairs-at
 bounds-pairs-at c = omega (arith, laid_size _ _ c.loop-k.invariant.1)
 
-pub shape_of-pairs : goal.shape_of-pairs
-shape_of-pairs c = laid_size _ _ c.loop-k.invariant.1
-
-pub loop-k-init : goal.loop-k-init
-loop-k-init c = (omega arith, rw sub-zero (laid_start _ _))
+pub returns-then-room-at : goal.returns-then-room-at
+returns-then-room-at c = laid_full _ _ (omega arith) c.loop-k.invariant.1
 
 pub returns : goal.returns
 returns c =
     let a = c.args in
     let e : reference_pairs a.section.now (entry_at a.l a.i) (a.count - c.loop-k.k) c.loop-k.k ≡ [] = references_end _ _ _ _ (omega arith) in
     laid_all _ _ e c.loop-k.invariant.1
-
-pub bounds-pairs-at-in-loop-k : goal.bounds-pairs-at-in-loop-k
-bounds-pairs-at-in-loop-k c = simp length-set (omega (arith, laid_size _ _ c.loop-k.invariant.1))
-
-pub shape_of-pairs-then-room-at : goal.shape_of-pairs-then-room-at
-shape_of-pairs-then-room-at c = laid_size _ _ c.loop-k.invariant.1

@@ -3,14 +3,14 @@ use Rattle.lists.proofs.Pairs.{none_listed}
 use Rattle.query.proofs.Asked.{asking, open_listed}
 use Rattle.query.proofs.contents.references.Goals as goal
 
-pub references_in-requires : goal.references_in-requires
-references_in-requires c κs = search asking
-
 pub returns-in-Opened : goal.returns-in-Opened
 returns-in-Opened c = search open_listed
 
 pub returns-in-Refused : goal.returns-in-Refused
 returns-in-Refused c = search (open_listed, none_listed)
+
+pub references_in-requires : goal.references_in-requires
+references_in-requires c = search asking
 
 pub returns-in-Wanted : goal.returns-in-Wanted
 returns-in-Wanted c = search (open_listed, none_listed)

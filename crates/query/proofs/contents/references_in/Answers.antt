@@ -4,9 +4,8 @@ use Rattle.query.proofs.Volumes.{section_met}
 use Rattle.query.proofs.Listed.{contents}
 use Rattle.query.proofs.contents.references_in.Goals as goal
 
-pub overflow_cast-i : goal.overflow_cast-i
-overflow_cast-i c =
-    omega (arith, (section_met _ _ _ _ c.section_shown.ensures c.if-not-section_shown.false).below, c.well-formed.1.0)
+pub returns-then-not-section_shown : goal.returns-then-not-section_shown
+returns-then-not-section_shown c = search contents
 
 pub overflow_cast-i-2 : goal.overflow_cast-i-2
 overflow_cast-i-2 c =
@@ -15,5 +14,6 @@ overflow_cast-i-2 c =
 pub returns : goal.returns
 returns c = search contents
 
-pub returns-then-not-section_shown : goal.returns-then-not-section_shown
-returns-then-not-section_shown c = search contents
+pub overflow_cast-i : goal.overflow_cast-i
+overflow_cast-i c =
+    omega (arith, (section_met _ _ _ _ c.section_shown.ensures c.if-not-section_shown.false).below, c.well-formed.1.0)

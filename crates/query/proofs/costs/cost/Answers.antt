@@ -2,9 +2,6 @@
 use Rattle.query.proofs.Asked.{asking}
 use Rattle.query.proofs.costs.cost.Goals as goal
 
-pub cost_in-requires : goal.cost_in-requires
-cost_in-requires c κs = search asking
-
 pub returns-in-Opened : goal.returns-in-Opened
 returns-in-Opened c = search asking
 
@@ -13,3 +10,6 @@ returns-in-Refused c = search asking
 
 pub returns-in-Wanted : goal.returns-in-Wanted
 returns-in-Wanted c = search asking
+
+pub cost_in-requires : goal.cost_in-requires
+cost_in-requires c = search asking

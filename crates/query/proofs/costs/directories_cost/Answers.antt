@@ -8,14 +8,6 @@ use Rattle.query.specs.Cost.{directory_cost}
 use Rattle.query.proofs.Sums.{directories_most, sum_next}
 use Rattle.query.proofs.costs.directories_cost.Goals as goal
 
-pub overflow_add-sum-else-bytes-size : goal.overflow_add-sum-else-bytes-size
-overflow_add-sum-else-bytes-size c =
-    let a = c.args in
-    omega (arith, c.requires, c.loop-i.invariant.1, directories_most a.l a.section.now a.size c.loop-i.i c.requires)
-
-pub loop-i-init : goal.loop-i-init
-loop-i-init c = (omega arith, sym (sum-zero _))
-
 pub loop-i-preserved : goal.loop-i-preserved
 loop-i-preserved c =
     let a = c.args in
@@ -30,6 +22,14 @@ pub overflow_add-sum : goal.overflow_add-sum
 overflow_add-sum c =
     let a = c.args in
     omega (arith, c.requires, c.loop-i.invariant.1, directories_most a.l a.section.now a.size c.loop-i.i c.requires)
+
+pub overflow_add-sum-else-bytes-size : goal.overflow_add-sum-else-bytes-size
+overflow_add-sum-else-bytes-size c =
+    let a = c.args in
+    omega (arith, c.requires, c.loop-i.invariant.1, directories_most a.l a.section.now a.size c.loop-i.i c.requires)
+
+pub loop-i-init : goal.loop-i-init
+loop-i-init c = (omega arith, sym (sum-zero _))
 
 pub returns : goal.returns
 returns c =

@@ -11,11 +11,6 @@ use Rattle.query.proofs.costs.names_cost.Goals as goal
 pub loop-i-init : goal.loop-i-init
 loop-i-init c = (omega arith, sym (sum-zero _))
 
-pub overflow_add-sum-then-name_fits : goal.overflow_add-sum-then-name_fits
-overflow_add-sum-then-name_fits c =
-    let a = c.args in
-    omega (arith, c.loop-i.invariant.1, names_most a.l a.metrics.now a.size c.loop-i.i c.requires)
-
 pub loop-i-preserved : goal.loop-i-preserved
 loop-i-preserved c =
     let a = c.args in
@@ -39,6 +34,11 @@ loop-i-preserved c =
           ))
           c.if-name_fits.branch,
     )
+
+pub overflow_add-sum-then-name_fits : goal.overflow_add-sum-then-name_fits
+overflow_add-sum-then-name_fits c =
+    let a = c.args in
+    omega (arith, c.loop-i.invariant.1, names_most a.l a.metrics.now a.size c.loop-i.i c.requires)
 
 pub returns : goal.returns
 returns c =

@@ -4,58 +4,38 @@ use Rattle.reader.proofs.Stages.{counts}
 use borrow.Author.Rules.{rules}
 use Rattle.reader.proofs.checks.check_counts.Goals as goal
 
-pub enum_known-i : goal.enum_known-i
+pub returns-in-At : goal.returns-in-At
 unfolding counts_plan
-enum_known-i c = search rules
+returns-in-At c = search counts depth 12
 
-pub enum_told-in_default-entries_fault : goal.enum_told-in_default-entries_fault
+pub enum_known-i-in-At-entries_fault : goal.enum_known-i-in-At-entries_fault
 unfolding counts_plan
-enum_told-in_default-entries_fault c = search rules
-
-pub places_fault-requires : goal.places_fault-requires
-unfolding counts_plan
-places_fault-requires c κs = search rules
-
-pub returns-in-At-entries_fault : goal.returns-in-At-entries_fault
-unfolding counts_plan
-returns-in-At-entries_fault c = search counts depth 12
+enum_known-i-in-At-entries_fault c = search rules
 
 pub overflow_cast-required : goal.overflow_cast-required
 unfolding counts_plan
 overflow_cast-required c = search rules
 
-pub entries_fault-requires : goal.entries_fault-requires
+pub enum_known-i : goal.enum_known-i
 unfolding counts_plan
-entries_fault-requires c κs = search rules
+enum_known-i c = search rules
 
-pub link_count-links-requires : goal.link_count-links-requires
+pub returns-in-At-entries_fault : goal.returns-in-At-entries_fault
 unfolding counts_plan
-link_count-links-requires c κs = search rules
+returns-in-At-entries_fault c = search counts depth 12
 
-pub enum_told-1 : goal.enum_told-1
+pub enum_told-in_default-entries_fault : goal.enum_told-in_default-entries_fault
 unfolding counts_plan
-enum_told-1 c = search rules
-
-pub refuse-requires : goal.refuse-requires
-unfolding counts_plan
-refuse-requires c κs = search rules
-
-pub refuse-requires-in-At-entries_fault : goal.refuse-requires-in-At-entries_fault
-unfolding counts_plan
-refuse-requires-in-At-entries_fault c κs = search rules
-
-pub returns-in-At : goal.returns-in-At
-unfolding counts_plan
-returns-in-At c = search counts depth 12
-
-pub returns : goal.returns
-unfolding counts_plan
-returns c = search counts depth 12
+enum_told-in_default-entries_fault c = search rules
 
 pub returns-then-file-required : goal.returns-then-file-required
 unfolding counts_plan
 returns-then-file-required c = search counts depth 12
 
-pub enum_known-i-in-At-entries_fault : goal.enum_known-i-in-At-entries_fault
+pub enum_told-1 : goal.enum_told-1
 unfolding counts_plan
-enum_known-i-in-At-entries_fault c = search rules
+enum_told-1 c = search rules
+
+pub returns : goal.returns
+unfolding counts_plan
+returns c = search counts depth 12

@@ -8,25 +8,49 @@ use Rattle.reader.proofs.Stages.{stages, stage_then, last_stage, given_record}
 use borrow.Author.Rules.{rules}
 use Rattle.reader.proofs.checks.check_rest.Goals as goal
 
-pub enum_known-r-in-Refused-check_fits : goal.enum_known-r-in-Refused-check_fits
-unfolding rest_plan
-enum_known-r-in-Refused-check_fits c = search rules
-
 pub enum_told-in-Passed-check_texts : goal.enum_told-in-Passed-check_texts
 unfolding rest_plan
 enum_told-in-Passed-check_texts c = search rules
 
-pub enum_known-r-in-Refused-check_volumes : goal.enum_known-r-in-Refused-check_volumes
+pub enum_told-in-Passed-check_volumes : goal.enum_told-in-Passed-check_volumes
 unfolding rest_plan
-enum_known-r-in-Refused-check_volumes c = search rules
+enum_told-in-Passed-check_volumes c = search rules
 
 pub returns-in-Wanted-check_texts : goal.returns-in-Wanted-check_texts
 unfolding rest_plan
 returns-in-Wanted-check_texts c = search stages depth 16
 
+pub enum_known-k-in-Wanted-check_texts : goal.enum_known-k-in-Wanted-check_texts
+unfolding rest_plan
+enum_known-k-in-Wanted-check_texts c = search rules
+
 pub check_trace-requires : goal.check_trace-requires
 unfolding rest_plan
-check_trace-requires c κs = search stages depth 4
+check_trace-requires c = search stages depth 4
+
+pub enum_told-1 : goal.enum_told-1
+unfolding rest_plan
+enum_told-1 c = search rules
+
+pub enum_known-r-in-Refused-check_texts : goal.enum_known-r-in-Refused-check_texts
+unfolding rest_plan
+enum_known-r-in-Refused-check_texts c = search rules
+
+pub returns-in-Refused-check_fits : goal.returns-in-Refused-check_fits
+unfolding rest_plan
+returns-in-Refused-check_fits c = search stages depth 16
+
+pub enum_known-k-in-Wanted-check_trace : goal.enum_known-k-in-Wanted-check_trace
+unfolding rest_plan
+enum_known-k-in-Wanted-check_trace c = search rules
+
+pub enum_known-k-in-Wanted-check_fits : goal.enum_known-k-in-Wanted-check_fits
+unfolding rest_plan
+enum_known-k-in-Wanted-check_fits c = search rules
+
+pub returns-in-Refused-check_texts : goal.returns-in-Refused-check_texts
+unfolding rest_plan
+returns-in-Refused-check_texts c = search stages depth 16
 
 pub returns-in-Refused-check_volumes : goal.returns-in-Refused-check_volumes
 returns-in-Refused-check_volumes c =
@@ -34,99 +58,25 @@ returns-in-Refused-check_volumes c =
     c.check_texts.ensures c.in-Passed-check_texts.is _ _ c.check_trace.ensures _ c.in-Chains.is _
     (stage_then _ _ _ _ _ _ c.check_volumes.ensures c.in-Refused-check_volumes.is refl)
 
-pub enum_told-in-Passed-check_fits : goal.enum_told-in-Passed-check_fits
+pub enum_known-n : goal.enum_known-n
 unfolding rest_plan
-enum_told-in-Passed-check_fits c = search rules
-
-pub returns-in-Refused-check_trace : goal.returns-in-Refused-check_trace
-unfolding rest_plan
-returns-in-Refused-check_trace c = search stages depth 16
-
-pub returns-in-Refused-check_texts : goal.returns-in-Refused-check_texts
-unfolding rest_plan
-returns-in-Refused-check_texts c = search stages depth 16
-
-pub check_volumes-requires : goal.check_volumes-requires
-unfolding rest_plan
-check_volumes-requires c κs = search stages depth 4
-
-pub check_fits-requires : goal.check_fits-requires
-unfolding rest_plan
-check_fits-requires c κs = search rules
-
-pub slice_bounds-record_of-end : goal.slice_bounds-record_of-end
-slice_bounds-record_of-end c =
-    simp length-take (omega (arith, c.requires.whole))
-
-pub enum_known-k-in-Wanted-check_volumes : goal.enum_known-k-in-Wanted-check_volumes
-unfolding rest_plan
-enum_known-k-in-Wanted-check_volumes c = search rules
-
-pub enum_known-r-in-Refused-check_texts : goal.enum_known-r-in-Refused-check_texts
-unfolding rest_plan
-enum_known-r-in-Refused-check_texts c = search rules
-
-pub overflow_cast-h : goal.overflow_cast-h
-unfolding rest_plan
-overflow_cast-h c = search rules
-
-pub returns-in-Wanted-check_fits : goal.returns-in-Wanted-check_fits
-unfolding rest_plan
-returns-in-Wanted-check_fits c = search stages depth 16
-
-pub enum_known-k-in-Wanted-check_trace : goal.enum_known-k-in-Wanted-check_trace
-unfolding rest_plan
-enum_known-k-in-Wanted-check_trace c = search rules
-
-pub enum_known-r : goal.enum_known-r
-unfolding rest_plan
-enum_known-r c = search rules
-
-pub check_texts-requires : goal.check_texts-requires
-unfolding rest_plan
-check_texts-requires c κs = search rules
-
-pub shape_of-predecessors-in-Wanted-check_trace : goal.shape_of-predecessors-in-Wanted-check_trace
-unfolding rest_plan
-shape_of-predecessors-in-Wanted-check_trace c = search rules
-
-pub enum_told-1 : goal.enum_told-1
-unfolding rest_plan
-enum_told-1 c = search rules
-
-pub returns-in-Wanted-check_volumes : goal.returns-in-Wanted-check_volumes
-returns-in-Wanted-check_volumes c =
-    last_stage _ _ _ _ c.check_counts.ensures c.in-Passed.is _ c.check_fits.ensures c.in-Passed-check_fits.is _
-    c.check_texts.ensures c.in-Passed-check_texts.is _ _ c.check_trace.ensures _ c.in-Chains.is _
-    (stage_then _ _ _ _ _ _ c.check_volumes.ensures c.in-Wanted-check_volumes.is refl)
-
-pub enum_known-r-in-Refused-check_trace : goal.enum_known-r-in-Refused-check_trace
-unfolding rest_plan
-enum_known-r-in-Refused-check_trace c = search rules
-
-pub shape_of-predecessors-in-Refused-check_volumes : goal.shape_of-predecessors-in-Refused-check_volumes
-unfolding rest_plan
-shape_of-predecessors-in-Refused-check_volumes c = search rules
-
-pub returns-in-Refused : goal.returns-in-Refused
-unfolding rest_plan
-returns-in-Refused c = search stages depth 16
+enum_known-n c = search rules
 
 pub shape_of-predecessors-in-Wanted-check_volumes : goal.shape_of-predecessors-in-Wanted-check_volumes
 unfolding rest_plan
 shape_of-predecessors-in-Wanted-check_volumes c = search rules
 
-pub enum_known-k-in-Wanted-check_fits : goal.enum_known-k-in-Wanted-check_fits
+pub shape_of-predecessors-in-Wanted-check_trace : goal.shape_of-predecessors-in-Wanted-check_trace
 unfolding rest_plan
-enum_known-k-in-Wanted-check_fits c = search rules
-
-pub record_of-requires : goal.record_of-requires
-unfolding rest_plan
-record_of-requires c κs = search rules
+shape_of-predecessors-in-Wanted-check_trace c = search rules
 
 pub returns-in-Wanted : goal.returns-in-Wanted
 unfolding rest_plan
 returns-in-Wanted c = search stages depth 16
+
+pub enum_known-k-in-Wanted-check_volumes : goal.enum_known-k-in-Wanted-check_volumes
+unfolding rest_plan
+enum_known-k-in-Wanted-check_volumes c = search rules
 
 pub returns-in-Passed-check_volumes : goal.returns-in-Passed-check_volumes
 returns-in-Passed-check_volumes c =
@@ -136,38 +86,72 @@ returns-in-Passed-check_volumes c =
     (stage_then _ _ _ _ _ _ c.check_volumes.ensures c.enum_told-in-Passed-check_volumes-1.given.1
     (reach_on _ _ _ _ c.requires.whole (given_record _ _ _ _ _ _ _ _ c.record_of.ensures t.2 t.3)))
 
-pub check_counts-requires : goal.check_counts-requires
-unfolding rest_plan
-check_counts-requires c κs = search rules
-
-pub returns-in-Wanted-check_trace : goal.returns-in-Wanted-check_trace
-unfolding rest_plan
-returns-in-Wanted-check_trace c = search stages depth 16
-
 pub shape_of-predecessors-in-Passed-check_volumes : goal.shape_of-predecessors-in-Passed-check_volumes
 unfolding rest_plan
 shape_of-predecessors-in-Passed-check_volumes c = search rules
-
-pub shape_of-predecessors-in-Refused-check_trace : goal.shape_of-predecessors-in-Refused-check_trace
-unfolding rest_plan
-shape_of-predecessors-in-Refused-check_trace c = search rules
-
-pub enum_told-in-Passed-check_volumes : goal.enum_told-in-Passed-check_volumes
-unfolding rest_plan
-enum_told-in-Passed-check_volumes c = search rules
-
-pub enum_known-n : goal.enum_known-n
-unfolding rest_plan
-enum_known-n c = search rules
-
-pub enum_known-k-in-Wanted-check_texts : goal.enum_known-k-in-Wanted-check_texts
-unfolding rest_plan
-enum_known-k-in-Wanted-check_texts c = search rules
 
 pub enum_known-k : goal.enum_known-k
 unfolding rest_plan
 enum_known-k c = search rules
 
-pub returns-in-Refused-check_fits : goal.returns-in-Refused-check_fits
+pub returns-in-Wanted-check_fits : goal.returns-in-Wanted-check_fits
 unfolding rest_plan
-returns-in-Refused-check_fits c = search stages depth 16
+returns-in-Wanted-check_fits c = search stages depth 16
+
+pub shape_of-predecessors-in-Refused-check_volumes : goal.shape_of-predecessors-in-Refused-check_volumes
+unfolding rest_plan
+shape_of-predecessors-in-Refused-check_volumes c = search rules
+
+pub overflow_cast-h : goal.overflow_cast-h
+unfolding rest_plan
+overflow_cast-h c = search rules
+
+pub enum_known-r : goal.enum_known-r
+unfolding rest_plan
+enum_known-r c = search rules
+
+pub enum_told-in-Passed-check_fits : goal.enum_told-in-Passed-check_fits
+unfolding rest_plan
+enum_told-in-Passed-check_fits c = search rules
+
+pub enum_known-r-in-Refused-check_fits : goal.enum_known-r-in-Refused-check_fits
+unfolding rest_plan
+enum_known-r-in-Refused-check_fits c = search rules
+
+pub enum_known-r-in-Refused-check_trace : goal.enum_known-r-in-Refused-check_trace
+unfolding rest_plan
+enum_known-r-in-Refused-check_trace c = search rules
+
+pub returns-in-Wanted-check_trace : goal.returns-in-Wanted-check_trace
+unfolding rest_plan
+returns-in-Wanted-check_trace c = search stages depth 16
+
+pub returns-in-Refused : goal.returns-in-Refused
+unfolding rest_plan
+returns-in-Refused c = search stages depth 16
+
+pub slice_bounds-record_of-end : goal.slice_bounds-record_of-end
+slice_bounds-record_of-end c =
+    simp length-take (omega (arith, c.requires.whole))
+
+pub returns-in-Wanted-check_volumes : goal.returns-in-Wanted-check_volumes
+returns-in-Wanted-check_volumes c =
+    last_stage _ _ _ _ c.check_counts.ensures c.in-Passed.is _ c.check_fits.ensures c.in-Passed-check_fits.is _
+    c.check_texts.ensures c.in-Passed-check_texts.is _ _ c.check_trace.ensures _ c.in-Chains.is _
+    (stage_then _ _ _ _ _ _ c.check_volumes.ensures c.in-Wanted-check_volumes.is refl)
+
+pub returns-in-Refused-check_trace : goal.returns-in-Refused-check_trace
+unfolding rest_plan
+returns-in-Refused-check_trace c = search stages depth 16
+
+pub enum_known-r-in-Refused-check_volumes : goal.enum_known-r-in-Refused-check_volumes
+unfolding rest_plan
+enum_known-r-in-Refused-check_volumes c = search rules
+
+pub check_volumes-requires : goal.check_volumes-requires
+unfolding rest_plan
+check_volumes-requires c = search stages depth 4
+
+pub shape_of-predecessors-in-Refused-check_trace : goal.shape_of-predecessors-in-Refused-check_trace
+unfolding rest_plan
+shape_of-predecessors-in-Refused-check_trace c = search rules

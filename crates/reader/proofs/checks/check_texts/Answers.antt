@@ -10,10 +10,8 @@ returns-in-At c =
     texts_refused _ _ _ c.names_required-required.ensures _ _ (omega arith) c.part_of-entries.ensures.contents
     c.part_of-text.ensures.contents _ c.unsound_fault.ensures _ _ _ c.in-At.is c.refuse.ensures
 
-pub returns : goal.returns
-returns c =
-    texts_pass _ _ _ c.names_required-required.ensures _ _ (omega arith) c.part_of-entries.ensures.contents c.part_of-text.ensures.contents _
-    c.unsound_fault.ensures c.in_default.is
+pub slice_bounds-part_of-end : goal.slice_bounds-part_of-end
+slice_bounds-part_of-end c = simp length-take (omega arith)
 
 pub returns-then-file-required : goal.returns-then-file-required
 returns-then-file-required c = texts_short _ _ _ c.names_required-required.ensures c.if-file-required.true
@@ -21,5 +19,7 @@ returns-then-file-required c = texts_short _ _ _ c.names_required-required.ensur
 pub slice_bounds-part_of-end-2 : goal.slice_bounds-part_of-end-2
 slice_bounds-part_of-end-2 c = simp length-take (omega arith)
 
-pub slice_bounds-part_of-end : goal.slice_bounds-part_of-end
-slice_bounds-part_of-end c = simp length-take (omega arith)
+pub returns : goal.returns
+returns c =
+    texts_pass _ _ _ c.names_required-required.ensures _ _ (omega arith) c.part_of-entries.ensures.contents c.part_of-text.ensures.contents _
+    c.unsound_fault.ensures c.in_default.is

@@ -8,6 +8,11 @@ use Rattle.reader.proofs.checks.check_volumes.Goals as goal
 pub slice_bounds-part_of-end : goal.slice_bounds-part_of-end
 slice_bounds-part_of-end c = simp length-take (omega arith)
 
+pub returns-in-Passed : goal.returns-in-Passed
+returns-in-Passed c =
+    volumes_pass _ _ _ c.volumes_required-required.ensures c.requires.0 c.requires.1 _ (omega arith)
+    c.part_of.ensures.contents _ c.check_volumes.ensures c.in-Passed.is
+
 pub returns-then-file-required : goal.returns-then-file-required
 returns-then-file-required c = volumes_short _ _ _ c.volumes_required-required.ensures c.if-file-required.true
 
@@ -15,8 +20,3 @@ pub returns-in-Refused : goal.returns-in-Refused
 returns-in-Refused c =
     volumes_refused _ _ _ c.volumes_required-required.ensures c.requires.0 c.requires.1 _ (omega arith)
     c.part_of.ensures.contents _ c.check_volumes.ensures _ c.in-Refused.is
-
-pub returns-in-Passed : goal.returns-in-Passed
-returns-in-Passed c =
-    volumes_pass _ _ _ c.volumes_required-required.ensures c.requires.0 c.requires.1 _ (omega arith)
-    c.part_of.ensures.contents _ c.check_volumes.ensures c.in-Passed.is

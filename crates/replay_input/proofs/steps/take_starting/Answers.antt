@@ -3,6 +3,15 @@ use Rattle.std.proofs.Common.{arith, rules}
 use Rattle.replay_input.proofs.Taking.{begun_used, taken_fit, starts_room, starts_wait, starts_begin}
 use Rattle.replay_input.proofs.steps.take_starting.Goals as goal
 
+pub returns : goal.returns
+returns c = search (rules, starts_begin)
+
+pub overflow_sub-bytes : goal.overflow_sub-bytes
+overflow_sub-bytes c = omega (arith, (taken_fit _ c.args.stage.starts _ _ _ _ _ c.take_starts-k.ensures).0)
+
+pub begin_recording-fed-requires : goal.begin_recording-fed-requires
+begin_recording-fed-requires c = search (rules, starts_room)
+
 pub overflow_add-result : goal.overflow_add-result
 overflow_add-result c = let c₁ = c in
     let c₂ = c₁.before.before.before.before.before.before.before.before in
@@ -11,20 +20,11 @@ overflow_add-result c = let c₁ = c in
     let f = taken_fit _ s.args.stage.starts _ _ _ _ _ c₂.before.before.before.take-starts.ensures in
     omega (arith, f.0, begun_used _ _ _ _ _ _ _ _ _ _ c.begin_recording-fed.ensures, s.well-formed)
 
-pub begin_recording-fed-requires : goal.begin_recording-fed-requires
-begin_recording-fed-requires c κs = search (rules, starts_room)
-
-pub overflow_add-starts : goal.overflow_add-starts
-overflow_add-starts c = omega (arith, (taken_fit _ c.args.stage.starts _ _ _ _ _ c.take_starts-k.ensures).1)
+pub overflow_mul-at : goal.overflow_mul-at
+overflow_mul-at c = omega (arith, (taken_fit _ c.args.stage.starts _ _ _ _ _ c.take_starts-k.ensures).0)
 
 pub returns-then-bytes-at-lt-START_BYTES : goal.returns-then-bytes-at-lt-START_BYTES
 returns-then-bytes-at-lt-START_BYTES c = rw c.still_starting.ensures (search (rules, starts_wait))
 
-pub returns : goal.returns
-returns c = search (rules, starts_begin)
-
-pub overflow_mul-at : goal.overflow_mul-at
-overflow_mul-at c = omega (arith, (taken_fit _ c.args.stage.starts _ _ _ _ _ c.take_starts-k.ensures).0)
-
-pub overflow_sub-bytes : goal.overflow_sub-bytes
-overflow_sub-bytes c = omega (arith, (taken_fit _ c.args.stage.starts _ _ _ _ _ c.take_starts-k.ensures).0)
+pub overflow_add-starts : goal.overflow_add-starts
+overflow_add-starts c = omega (arith, (taken_fit _ c.args.stage.starts _ _ _ _ _ c.take_starts-k.ensures).1)

@@ -17,10 +17,6 @@ written n a b e q = sym e ∙ ap known_is q
 reader-answers : (v : Version) (d : Description) (m n : ℕ) → answer_for (some v) d m n ≡ placed_answer (laid_out v d) m n
 reader-answers v d m n = refl
 
-pub write_version-requires : goal.write_version-requires
-write_version-requires c κs =
-    written_known _ _ (written _ _ _ c.written_version.ensures c.in-Known.is)
-
 pub returns-in_default : goal.returns-in_default
 returns-in_default c =
     writes_other _ _ _ _ _ _ _ (written _ _ _ c.written_version.ensures c.in_default.is) c.refused.ensures refl
@@ -30,3 +26,7 @@ returns c =
     let v = c.in-Known.v in
     writes_known _ _ _ _ _ _ _ v (written _ _ _ c.written_version.ensures c.in-Known.is) (reader-answers v _ _ _)
     c.write_version.ensures
+
+pub write_version-requires : goal.write_version-requires
+write_version-requires c =
+    written_known _ _ (written _ _ _ c.written_version.ensures c.in-Known.is)

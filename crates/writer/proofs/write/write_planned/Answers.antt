@@ -12,12 +12,18 @@ use Rattle.writer.specs.Writes.{roomed, placed_answer, output_after}
 use Rattle.writer.proofs.Answering.{planned_short, planned_laid, planned_refused}
 use Rattle.writer.proofs.write.write_planned.Goals as goal
 
+place_kept : (file output : List ℕ) (f : Refusal) → output ≡ output_after (decided (refuse f)) file output
+place_kept file output f = refl
+
 -- 20 is not looked at where the reader refuses, and the place stays
 checks-first : (file : List ℕ) (m n : ℕ) (f : Refusal) → file_answer file m ≡ decided (refuse f) → placed_answer file m n ≡ decided (refuse f)
 checks-first file m n f e = ap (roomed (ltb n (length file))) e
 
-place_kept : (file output : List ℕ) (f : Refusal) → output ≡ output_after (decided (refuse f)) file output
-place_kept file output f = refl
+pub returns-then-output-p : goal.returns-then-output-p
+returns-then-output-p c =
+    planned_short c.args.w _ _ _ _ _ c.requires.0 c.requires.1 _ _ _ _ c.check_sections.ensures _
+    c.in-Chains.is _ _
+    c.if-output-p.true c.check_sections.auto.1.1.1.1.1.1.1.0 c.refused.ensures place_kept
 
 pub returns-else-output-p : goal.returns-else-output-p
 returns-else-output-p c =
@@ -30,9 +36,3 @@ returns-in-Refused c =
     planned_refused c.args.w _ _ _ _ _ c.requires.0 c.requires.1 _ _ _ _ c.check_sections.ensures _ _ _
     c.in-Refused.is
     c.check_sections.auto.1.1.1.1.1.1.1.0 c.refused-in-Refused.ensures (checks-first _ _ _ _) place_kept
-
-pub returns-then-output-p : goal.returns-then-output-p
-returns-then-output-p c =
-    planned_short c.args.w _ _ _ _ _ c.requires.0 c.requires.1 _ _ _ _ c.check_sections.ensures _
-    c.in-Chains.is _ _
-    c.if-output-p.true c.check_sections.auto.1.1.1.1.1.1.1.0 c.refused.ensures place_kept
