@@ -19,7 +19,7 @@ loop-i-preserved c =
     )
 
 pub overflow_cast-text : goal.overflow_cast-text
-overflow_cast-text c = omega (arith, (c.shared_slice_known-in-loop-i-1.given c.loop-i.i).fits)
+overflow_cast-text c = omega (arith, (c.type_inv.text c.loop-i.i).fits)
 
 pub returns : goal.returns
 returns c =
