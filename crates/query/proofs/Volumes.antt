@@ -31,7 +31,6 @@ use Rattle.head.specs.Opened.{OpenFacts}
 use Rattle.head.proofs.Facts.{open_sound, open_shapes}
 use Rattle.sections.specs.declared.Section.{Section}
 use Rattle.head.specs.declared.checks.Opening.{Opening}
-use Rattle.names.specs.Names.{sound}
 use Rattle.volumes.specs.Volumes.{entry_at, volume_checks, volume_of, reference_of, path_at, path_count, path_units, or_all}
 use Rattle.volumes.specs.SoundVolume.{SoundVolume}
 use Rattle.volumes.proofs.SoundVolume.{sound_volume}

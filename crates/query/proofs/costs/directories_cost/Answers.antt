@@ -15,7 +15,7 @@ loop-i-preserved c =
     let n = c.directory_count.ensures in (
       omega arith,
       elim c.if-bytes-size.branch [
-        then-bytes-size w ↦ omega (arith, c.loop-i.invariant.1, sum_next f c.loop-i.i, n)
+        | then-bytes-size w ↦ omega (arith, c.loop-i.invariant.1, sum_next f c.loop-i.i, n)
         | else-bytes-size w ↦ omega (arith, c.loop-i.invariant.1, sum_next f c.loop-i.i, n)
       ],
     )

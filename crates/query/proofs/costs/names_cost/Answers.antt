@@ -18,20 +18,20 @@ loop-i-preserved c =
     let i = c.loop-i.i in (
       omega arith,
       elim c.if-name_fits.branch [
-        then-name_fits w ↦
-          omega (
-            arith,
-            c.loop-i.invariant.1,
-            sum_next f i,
-            name_counts a.l a.metrics.now a.size i c.name_at-at.ensures c.name_units-units.ensures c.name_fits.ensures w.if-name_fits.true,
-          )
+        | then-name_fits w ↦
+            omega (
+              arith,
+              c.loop-i.invariant.1,
+              sum_next f i,
+              name_counts a.l a.metrics.now a.size i c.name_at-at.ensures c.name_units-units.ensures c.name_fits.ensures w.if-name_fits.true,
+            )
         | else-name_fits w ↦
-          omega (
-            arith,
-            c.loop-i.invariant.1,
-            sum_next f i,
-            name_passed a.l a.metrics.now a.size i c.name_at-at.ensures c.name_units-units.ensures c.name_fits.ensures w.if-name_fits.false,
-          )
+            omega (
+              arith,
+              c.loop-i.invariant.1,
+              sum_next f i,
+              name_passed a.l a.metrics.now a.size i c.name_at-at.ensures c.name_units-units.ensures c.name_fits.ensures w.if-name_fits.false,
+            )
       ],
     )
 
