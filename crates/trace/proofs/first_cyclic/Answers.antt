@@ -1,15 +1,14 @@
 -- A walk is at an entry, with no mark; what it reads there is the entry's next index, and the laws of `Walk` say the rest.
 use mathlib.Core.Path.{◌≡◌, refl, sym, ◌∙◌, ap}
-use mathlib.Core.List.{List}
 use mathlib.Core.Logic.{◌⊎◌, inl, inr, ⊎_elim}
 use Prim.Native.Nat.{ℕ, ◌≤◌, ◌<◌}
 use native.Mathlib.Omega.{arith}
 use lib.ListN.{length, length-set}
-use Rattle.lists.proofs.First.{Least, least_first}
+use Rattle.lists.proofs.First.{least_first}
 use Rattle.lists.specs.First.{found_below}
 use Rattle.trace.specs.Links.{end, nexts_from, after, cyclic}
 use Rattle.trace.proofs.Steps.{length_from, after_from}
-use Rattle.trace.proofs.Marks.{seen_none, seen_all, walk_start, walk_step, walk_found, walk_end, fewer}
+use Rattle.trace.proofs.Marks.{seen_all, walk_start, walk_step, walk_found, walk_end, fewer}
 use Rattle.trace.proofs.first_cyclic.Goals.{else-loop-j-test, then-loop-j-test+then-marks-at, else-entries-test, then-entries-test+then-loop-j-test+else-marks-at+then-j-i}
 use Rattle.trace.proofs.first_cyclic.Goals as goal
 
@@ -55,7 +54,7 @@ entries-preserved c =
       v.0 ∙ c.entries.invariant.1,
       walk_end s (omega (arith, n, c.ranges.entries)) c.loop-j.marks c.entries.i c.loop-j.j v.1
           (elim c.loop-j-test.branch [
-              else-loop-j-test w ↦ inl w.loop-j-test.false
+            | else-loop-j-test w ↦ inl w.loop-j-test.false
             | then-loop-j-test+then-marks-at w ↦ inr (entry c.loop-j.j (length s) v.1.at w.loop-j-test.true, w.if-marks-at.true)
           ]),
     )
@@ -71,7 +70,7 @@ returns c =
     ∙ ap (λ (k : ℕ). found_below k c.entries.i) (sym n)
     ∙ least_first (cyclic s) (length s) c.entries.i
     (elim c.entries-test.branch [
-        else-entries-test w ↦ seen_all s small c.entries.marks c.entries.i (omega (arith, n, v.0, w.entries-test.false)) v.2
+      | else-entries-test w ↦ seen_all s small c.entries.marks c.entries.i (omega (arith, n, v.0, w.entries-test.false)) v.2
       | then-entries-test+then-loop-j-test+else-marks-at+then-j-i w ↦
           let l = entry w.loop-j.j (length s) w.loop-j.invariant.1.at w.loop-j-test.true in
           let e = after_from a.section.now a.pairs.now a.size a.entries w.loop-j.j (omega (arith, l, n)) in

@@ -1,12 +1,7 @@
 -- What a turn reads is the next index of its entry; the laws of `Passing` say the rest.
-use mathlib.Core.Logic.{◌⊎◌, inl, inr, ⊎_elim}
-use mathlib.Core.Path.{◌≡◌, sym, ◌∙◌}
-use mathlib.Core.List.{List}
-use Prim.Native.Nat.{ℕ, ◌+◌, ◌<◌}
+use mathlib.Core.Logic.{inl, inr}
+use mathlib.Core.Path.{sym, ◌∙◌}
 use native.Mathlib.Omega.{arith}
-use lib.ListN.{length}
-use Rattle.trace.specs.Links.{end, nexts_from, after}
-use Rattle.trace.specs.Private.{next_from}
 use Rattle.trace.proofs.Steps.{length_from, after_from}
 use Rattle.trace.proofs.Passing.{passing_none, passing_length, passing_astray, passing_more, passing_shared, passing_clear}
 use Rattle.trace.proofs.store_predecessors.Goals.{then-next, else-next+else-entries-next}
@@ -41,7 +36,7 @@ loop-i-preserved c =
     passing_more c.loop-i.invariant c.next_at-next.result (omega (arith, n)) (c.next_at-next.ensures ∙ sym e) _ _ _ (omega (arith, n, c.ranges.entries))
     c.requires.room c.store_predecessor-least.ensures
     (elim c.if-next.branch [
-        then-next w ↦ inl (w.if-next.true, w.ends-is)
+      | then-next w ↦ inl (w.if-next.true, w.ends-is)
       | else-next+else-entries-next w ↦ inr (omega (arith, n, w.if-entries-next.false), w.ends-is)
     ])
 
@@ -50,6 +45,6 @@ store_predecessor-least-requires c =
     let n = length_from c.args.section.now c.args.pairs.now c.args.size c.args.entries in
     let l = passing_length c.loop-i.invariant in
     elim c.if-next.branch [
-        then-next w ↦ inl w.if-next.true
+      | then-next w ↦ inl w.if-next.true
       | else-next+else-entries-next w ↦ inr (omega (arith, n, w.if-entries-next.false, l, c.requires.room))
     ]
