@@ -1,4 +1,4 @@
-use Rattle.std.proofs.Common.{◌≡◌, ◌-◌, length, refl, arith}
+use Rattle.std.proofs.Common.{◌≡◌, ◌-◌, refl, arith}
 use Rattle.replay_input.proofs.Carrying.{carried_size, carried_step}
 use Rattle.replay_input.proofs.steps.carry_over.Goals as goal
 
