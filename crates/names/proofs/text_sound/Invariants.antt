@@ -1,10 +1,7 @@
 -- Eight units without a zero leave the rest to decide, a zero among them decides at once; fewer than eight go one by one.
-use mathlib.Core.Path.{◌≡◌, sym, ◌∙◌}
+use mathlib.Core.Path.{◌≡◌}
 use Prim.Native.Nat.{◌+◌, ◌*◌, ◌-◌, ◌≤◌}
-use native.Mathlib.Omega.{arith}
-use borrow.Author.Rules.{rules}
 use Rattle.names.specs.Private.{sound_text}
-use Rattle.names.proofs.Laws.{text_start, eight-zero, eight_again}
 use Rattle.names.proofs.text_sound.Given as goal
 
 abbrev pub invariant-loop-k : goal.invariant-loop-k

@@ -1,6 +1,5 @@
 use mathlib.Core.Path.{sym, ◌∙◌}
 use native.Mathlib.Omega.{arith}
-use Rattle.little_endian.specs.Number.{zero_unit}
 use Rattle.names.proofs.Laws.{text_zero, text_end}
 use Rattle.names.proofs.units_sound.Goals as goal
 

@@ -1,12 +1,8 @@
 -- The units passed so far are not zero; one that is refuses the text, and after the last one a zero must stand.
-use mathlib.Core.Path.{◌≡◌, sym, ◌∙◌}
+use mathlib.Core.Path.{◌≡◌}
 use mathlib.Core.Bool.{false}
 use Prim.Native.Nat.{ℕ, ◌+◌, ◌*◌, ◌≤◌, ◌<◌, ◌-◌}
-use native.Mathlib.Omega.{arith}
-use borrow.Author.Count.{below_more}
-use borrow.Author.Rules.{rules}
 use Rattle.little_endian.specs.Number.{zero_unit}
-use Rattle.names.proofs.Laws.{text_zero, text_end}
 use Rattle.names.proofs.units_sound.Given as goal
 
 abbrev pub invariant-loop-k : goal.invariant-loop-k

@@ -1,4 +1,5 @@
-use mathlib.Core.Path.{◌∙◌}
+use mathlib.Core.Bool.{not}
+use mathlib.Core.Path.{ap, ◌∙◌}
 use native.Mathlib.Omega.{arith}
 use Rattle.incremental.proofs.Decision.{fault_hit, fault_none}
 use Rattle.lists.proofs.First.{first_miss, first_hit, first-none}
@@ -13,7 +14,7 @@ returns-then-not-name_sound c =
     let a = c.args in
     let n = names_from a.l a.metrics.now a.pairs.now in
     let e = fails_at_lem (sound _) n.offset n.units w.i c.offset_from-at.ensures c.units_from-units.ensures c.name_sound.ensures in
-    fault_hit _ _ _ _ (w.invariant.1 ∙ first_hit _ _ _ (omega arith) (e ∙ c.if-not-name_sound.true)) c.name_field_at.ensures
+    fault_hit _ _ _ _ (w.invariant.1 ∙ first_hit _ _ _ (omega arith) (e ∙ ap not c.if-not-name_sound.true)) c.name_field_at.ensures
 
 pub loop-i-preserved : goal.loop-i-preserved
 loop-i-preserved c =
@@ -21,7 +22,7 @@ loop-i-preserved c =
     let a = c.args in
     let n = names_from a.l a.metrics.now a.pairs.now in
     let e = fails_at_lem (sound _) n.offset n.units w.i c.offset_from-at.ensures c.units_from-units.ensures c.name_sound.ensures in
-    (omega arith, w.invariant.1 ∙ first_miss _ _ _ (omega arith) (e ∙ c.if-not-name_sound.false))
+    (omega arith, w.invariant.1 ∙ first_miss _ _ _ (omega arith) (e ∙ ap not c.if-not-name_sound.false))
 
 pub returns : goal.returns
 unfolding unsound_fault

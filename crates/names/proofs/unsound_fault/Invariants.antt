@@ -1,12 +1,7 @@
 -- While every name so far passes the test, the first fault is that of the entries from i on; the loop stops at the first that fails.
-use mathlib.Core.Path.{◌∙◌}
 use Prim.Native.Nat.{◌-◌}
-use native.Mathlib.Omega.{arith}
-use borrow.Author.Rules.{rules}
-use Rattle.incremental.proofs.Decision.{fault_hit, fault_none}
-use Rattle.lists.proofs.First.{first_start, first_miss, first_hit, first-none}
-use Rattle.names.specs.Names.{names_from, sound, unsound_fault}
-use Rattle.names.proofs.Laws.{fails_at, fails_at_lem, PassedTo}
+use Rattle.names.specs.Names.{names_from, sound}
+use Rattle.names.proofs.Laws.{fails_at, PassedTo}
 use Rattle.names.proofs.unsound_fault.Given as goal
 
 abbrev pub invariant-loop-i : goal.invariant-loop-i
