@@ -7,7 +7,7 @@ use Rattle.lists.specs.Table.{tabulate}
 use Rattle.lists.specs.Count.{any_below, count, pick}
 use Rattle.little_endian.specs.Number.{le}
 use Rattle.layout.specs.Head.{entry_offset}
-use Rattle.incremental.specs.Decision.{Decision, accept, refuse, fault_of, check, ◌>>=◌, ◌>>◌}
+use Rattle.incremental.specs.Decision.{Decision, accept, refuse, fault_of, check, ◌>>◌}
 use Rattle.incremental.specs.declared.Fault.{Fault}
 use Rattle.sections.specs.Fields.{places_fault}
 use Rattle.trace.specs.declared.Links.{Links}

@@ -8,10 +8,10 @@ use Rattle.trace.proofs.build_table.Goals as goal
 
 pub store_predecessors-requires : goal.store_predecessors-requires
 store_predecessors-requires c = let f = c.fill in
-    let e : length f.new.0 ≡ length c.args.buffer.now = f.auto.0 in
+    let e : length f.new.places ≡ length c.args.buffer.now = f.auto.places in
     record { room = omega (arith, e, c.requires.room); clear = f.ensures ∙ ap filled (sym e) }
 
 pub returns : goal.returns
 returns c =
     let s = nexts_from c.args.section.now c.args.pairs.now c.args.size c.args.entries in
-    c.store_predecessors.ensures.holds c.requires.sound ∙ ap (predecessors s) c.fill.auto.0
+    c.store_predecessors.ensures.holds c.requires.sound ∙ ap (predecessors s) c.fill.auto.places

@@ -26,9 +26,8 @@ find_cycle-found-requires c = let a = c in
 pub returns-in-At : goal.returns-in-At
 returns-in-At c =
     let s = nexts_from c.args.section.now c.args.pairs.now c.args.size c.args.entries in
-    let q = c.found-1.given in
-    answer_at 13 q.0.0 (length c.args.buffer.now) _ (first_cyclic s) c.find_cycle-found.result (accept (chains s)) s c.fill.new.0 _
-    c.find_cycle-found.ensures q.1 c.refused.ensures (c.fill.ensures ∙ ap filled c.find_cycle-found.auto.1.1.1.1.0)
+    answer_at 13 c.in-At.i (length c.args.buffer.now) _ (first_cyclic s) c.find_cycle-found.result (accept (chains s)) s c.fill.new.places _
+    c.find_cycle-found.ensures c.in-At.is c.refused.ensures (c.fill.ensures ∙ ap filled c.find_cycle-found.auto.buffer)
 
 pub returns : goal.returns
 returns c =
@@ -37,4 +36,4 @@ returns c =
     let s = nexts_from c.args.section.now c.args.pairs.now c.args.size c.args.entries in
     let e = length_from c.args.section.now c.args.pairs.now c.args.size c.args.entries in
     answer_chains _ s _ _ f.result _ (omega (arith, e, c.ranges.entries)) c.requires f.ensures c.in_default.is
-    (t.ensures ∙ ap (predecessors s) f.auto.1.1.1.1.0)
+    (t.ensures ∙ ap (predecessors s) f.auto.buffer)

@@ -7,20 +7,19 @@ use Rattle.trace.proofs.check_entries.Goals as goal
 pub returns-in-Astray : goal.returns-in-Astray
 returns-in-Astray c =
     let r = c.store_predecessors-pass in
-    passed_astray _ _ r.ensures _ _ _ _ c.in-Astray.is c.refused.ensures (c.fill.ensures ∙ ap filled r.auto.1.1.1.1.0)
+    passed_astray _ _ r.ensures _ _ _ _ c.in-Astray.is c.refused.ensures (c.fill.ensures ∙ ap filled r.auto.buffer)
 
 pub returns-in-Clear : goal.returns-in-Clear
 returns-in-Clear c =
     let r = c.store_predecessors-pass in
-    passed_clear _ _ r.ensures _ _ _ _ _ c.in-Clear.is (rw r.auto.1.1.1.1.0 at c.check_order.ensures)
+    passed_clear _ _ r.ensures _ _ _ _ _ c.in-Clear.is (rw r.auto.buffer at c.check_order.ensures)
 
 pub check_order-requires : goal.check_order-requires
 check_order-requires c =
     let r = c.store_predecessors-pass in
-    let q = c.pass-in-Clear-1.given in
-    passed_built _ _ r.ensures _ _ q.1 r.auto.1.1.1.1.0 c.requires.room
+    passed_built _ _ r.ensures _ _ c.in-Clear.is r.auto.buffer c.requires.room
 
 pub returns-in-Shared : goal.returns-in-Shared
 returns-in-Shared c =
     let r = c.store_predecessors-pass in
-    passed_shared _ _ r.ensures _ _ _ _ c.in-Shared.is c.refused-in-Shared.ensures (c.fill-in-Shared.ensures ∙ ap filled r.auto.1.1.1.1.0)
+    passed_shared _ _ r.ensures _ _ _ _ c.in-Shared.is c.refused-in-Shared.ensures (c.fill-in-Shared.ensures ∙ ap filled r.auto.buffer)

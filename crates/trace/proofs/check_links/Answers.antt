@@ -12,7 +12,7 @@ pub check_entries-requires : goal.check_entries-requires
 check_entries-requires c =
     let a = c.args in
     let f = c.fill in
-    let e : length f.new.0 ≡ length a.predecessors.now = f.auto.0 in
+    let e : length f.new.places ≡ length a.predecessors.now = f.auto.places in
     let room = places_met _ _ _ c.places_fault.ensures c.in_default.is in
     record { room = omega (arith, e, length_from a.section.now a.pairs.now a.size a.entries, room); clear = f.ensures ∙ ap filled (sym e) }
 
@@ -27,4 +27,4 @@ returns c =
     let a = c.args in
     let r = c.check_entries in
     answer_links _ _ _ _ (length_from a.section.now a.pairs.now a.size a.entries) _ _ c.places_fault.ensures _
-    c.in_default.is (rw c.fill.auto.0 at r.ensures)
+    c.in_default.is (rw c.fill.auto.places at r.ensures)

@@ -1,16 +1,9 @@
 -- Every entry that an earlier walk marked reaches an end, so it is on no cycle; a walk that comes back to its start has found one.
-use mathlib.Core.Path.{◌≡◌, refl, sym, ◌∙◌, ap}
-use mathlib.Core.List.{List}
-use mathlib.Core.Logic.{inl, inr, ⊎_elim}
-use Prim.Native.Nat.{ℕ, ◌-◌, ◌≤◌, ◌<◌}
-use native.Mathlib.Omega.{arith}
-use lib.ListN.{length, length-set}
-use borrow.Author.Rules.{rules}
-use Rattle.lists.proofs.First.{Least, least_first}
-use Rattle.lists.specs.First.{found_below}
-use Rattle.trace.specs.Links.{end, nexts_from, after, cyclic}
-use Rattle.trace.proofs.Steps.{length_from, after_from}
-use Rattle.trace.proofs.Marks.{unmarked, Seen, Walk, seen_none, seen_all, walk_start, walk_step, walk_found, walk_end, fewer}
+use mathlib.Core.Path.{◌≡◌}
+use Prim.Native.Nat.{◌-◌, ◌≤◌}
+use lib.ListN.{length}
+use Rattle.trace.specs.Links.{nexts_from}
+use Rattle.trace.proofs.Marks.{unmarked, Seen, Walk}
 use Rattle.trace.proofs.first_cyclic.Given as goal
 
 abbrev pub invariant-loop-j : goal.invariant-loop-j

@@ -80,10 +80,10 @@ enum_known-k-in-Wanted-check_volumes c = search rules
 
 pub returns-in-Passed-check_volumes : goal.returns-in-Passed-check_volumes
 returns-in-Passed-check_volumes c =
-    let t = c.check_trace.ensures.passed _ c.n-1.given.1 in
-    last_stage _ _ _ _ c.check_counts.ensures c.enum_told-1.given.1 _ c.check_fits.ensures c.enum_told-in-Passed-check_fits-1.given.1 _
-    c.check_texts.ensures c.enum_told-in-Passed-check_texts-1.given.1 _ _ c.check_trace.ensures _ c.n-1.given.1 _
-    (stage_then _ _ _ _ _ _ c.check_volumes.ensures c.enum_told-in-Passed-check_volumes-1.given.1
+    let t = c.check_trace.ensures.passed _ c.in-Chains.is in
+    last_stage _ _ _ _ c.check_counts.ensures c.in-Passed.is _ c.check_fits.ensures c.in-Passed-check_fits.is _
+    c.check_texts.ensures c.in-Passed-check_texts.is _ _ c.check_trace.ensures _ c.in-Chains.is _
+    (stage_then _ _ _ _ _ _ c.check_volumes.ensures c.in-Passed-check_volumes.is
     (reach_on _ _ _ _ c.requires.whole (given_record _ _ _ _ _ _ _ _ c.record_of.ensures t.2 t.3)))
 
 pub shape_of-predecessors-in-Passed-check_volumes : goal.shape_of-predecessors-in-Passed-check_volumes

@@ -6,11 +6,11 @@ use Rattle.reader.proofs.checks.read_prefix.Goals as goal
 
 pub returns-in-Refused : goal.returns-in-Refused
 returns-in-Refused c =
-    reads_refused _ _ _ _ _ _ c.check_all.ensures c.in-Refused.is (c.fill.ensures ∙ ap filled c.check_all.auto.1.0)
+    reads_refused _ _ _ _ _ _ c.check_all.ensures c.in-Refused.is (c.fill.ensures ∙ ap filled c.check_all.auto.predecessors)
 
 pub returns-in-Wanted : goal.returns-in-Wanted
 returns-in-Wanted c =
-    reads_wanted _ _ _ _ _ _ c.check_all.ensures c.in-Wanted.is (c.fill-in-Wanted.ensures ∙ ap filled c.check_all.auto.1.0)
+    reads_wanted _ _ _ _ _ _ c.check_all.ensures c.in-Wanted.is (c.fill-in-Wanted.ensures ∙ ap filled c.check_all.auto.predecessors)
 
 pub returns-in-Accepted : goal.returns-in-Accepted
 returns-in-Accepted c = reads_accepted _ _ _ _ _ c.check_all.ensures c.in-Accepted.is
