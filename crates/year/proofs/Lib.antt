@@ -10,7 +10,6 @@ pub mod Signed
 pub mod Means
 pub mod FinishedRow
 pub mod RefusalAndRows
-pub mod Filling
 pub mod Order
 pub mod Facts
 pub mod Putting
