@@ -6,23 +6,23 @@ use Rattle.listing_text.proofs.list.Goals as goal
 
 pub returns-in-Refused : goal.returns-in-Refused
 returns-in-Refused c =
-    listed_refused _ _ (λ i. omega (arith, c.shared_slice_known-1.given i)) c.if-file-gt-FILE_LIMIT.false _ _ c.read_file.ensures _ _ _ _
+    listed_refused _ _ (λ i. (c.type_inv.file i).fits) c.if-file-gt-FILE_LIMIT.false _ _ c.read_file.ensures _ _ _ _
     c.in-Refused.is c.put_refused.ensures
 
 pub put_accepted-requires : goal.put_accepted-requires
 put_accepted-requires c =
-    omega (arith, accepted_units _ _ _ _ _ (λ i. omega (arith, c.shared_slice_known-1.given i)) c.read_file.ensures c.in-Accepted.is)
+    omega (arith, accepted_units _ _ _ _ _ (λ i. (c.type_inv.file i).fits) c.read_file.ensures c.in-Accepted.is)
 
 pub returns-then-file-gt-FILE_LIMIT : goal.returns-then-file-gt-FILE_LIMIT
 returns-then-file-gt-FILE_LIMIT c =
-    listed_too_long _ _ (λ i. omega (arith, c.shared_slice_known-1.given i)) _ _ _ _ c.if-file-gt-FILE_LIMIT.true c.fill.ensures
+    listed_too_long _ _ (λ i. (c.type_inv.file i).fits) _ _ _ _ c.if-file-gt-FILE_LIMIT.true c.fill.ensures
     c.put_too_long.ensures
 
 pub returns-in-Accepted : goal.returns-in-Accepted
 returns-in-Accepted c =
-    listed_accepted _ _ (λ i. omega (arith, c.shared_slice_known-1.given i)) c.if-file-gt-FILE_LIMIT.false _ _ c.read_file.ensures _ _ _ _
+    listed_accepted _ _ (λ i. (c.type_inv.file i).fits) c.if-file-gt-FILE_LIMIT.false _ _ c.read_file.ensures _ _ _ _
     c.in-Accepted.is c.put_accepted.ensures
 
 pub returns-in-Wanted : goal.returns-in-Wanted
 returns-in-Wanted c =
-    listed_wanted _ _ (λ i. omega (arith, c.shared_slice_known-1.given i)) c.if-file-gt-FILE_LIMIT.false _ _ c.read_file.ensures _ _ c.in-Wanted.is
+    listed_wanted _ _ (λ i. (c.type_inv.file i).fits) c.if-file-gt-FILE_LIMIT.false _ _ c.read_file.ensures _ _ c.in-Wanted.is

@@ -7,4 +7,4 @@ returns-in-Entry c =
 
 pub returns-in-NoPath : goal.returns-in-NoPath
 returns-in-NoPath c =
-    rw c.enum_told-1.given.1 c.put_all.ensures
+    rw c.in-NoPath.is c.put_all.ensures
