@@ -87,8 +87,7 @@ fn verdict_reply(v: Verdict) -> Reply
 }
 
 // The verdict on a prefix: 0 accepted, 1 refused, 2 more bytes wanted.
-#[unsafe(no_mangle)]
-pub extern "C" fn hs_read_prefix(file: &[u8], predecessors: &mut [u32], out: &mut [u64]) -> u32
+pub fn hs_read_prefix(file: &[u8], predecessors: &mut [u32], out: &mut [u64]) -> u32
     ensures { PrefixOut file.now predecessors.old result predecessors.new out.old out.new }
 {
     let v = reader::read_prefix(file, predecessors);
@@ -96,8 +95,7 @@ pub extern "C" fn hs_read_prefix(file: &[u8], predecessors: &mut [u32], out: &mu
 }
 
 // The verdict on a whole file.
-#[unsafe(no_mangle)]
-pub extern "C" fn hs_read_file(file: &[u8], predecessors: &mut [u32], out: &mut [u64]) -> u32
+pub fn hs_read_file(file: &[u8], predecessors: &mut [u32], out: &mut [u64]) -> u32
     ensures { FileOut file.now predecessors.old result predecessors.new out.old out.new }
 {
     let v = reader::read_file(file, predecessors);
@@ -105,8 +103,7 @@ pub extern "C" fn hs_read_file(file: &[u8], predecessors: &mut [u32], out: &mut 
 }
 
 // The writer of test files: 0 written, 1 refused; `out` as the readers'.
-#[unsafe(no_mangle)]
-pub extern "C" fn hs_write_file(
+pub fn hs_write_file(
     version: u32,
     name: &[u16],
     stored_hash: u32,
@@ -179,13 +176,7 @@ fn walk_reply(answer: WalkAnswer) -> Reply
 }
 
 // The walk over all chains of a file: 0 walked, 1 refused.
-#[unsafe(no_mangle)]
-pub extern "C" fn hs_walk(
-    file: &[u8],
-    predecessors: &mut [u32],
-    order: &mut [u32],
-    out: &mut [u64],
-) -> u32
+pub fn hs_walk(file: &[u8], predecessors: &mut [u32], order: &mut [u32], out: &mut [u64]) -> u32
     ensures { WalkOut file.now predecessors.old order.old result predecessors.new order.new
         out.old out.new }
 {

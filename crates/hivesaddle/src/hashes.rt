@@ -8,58 +8,50 @@ ghost use Rattle.hivesaddle.specs.Private.{said_by};
 use crate::replies::{Reply, one, put_reply};
 use power_hash::Swap;
 
-#[unsafe(no_mangle)]
-pub extern "C" fn hs_hash_xp(numbers: &[u32]) -> u32
+pub fn hs_hash_xp(numbers: &[u32]) -> u32
     ensures { result ≡ xp numbers.now }
 {
     path_hash::hash_xp(numbers)
 }
 
-#[unsafe(no_mangle)]
-pub extern "C" fn hs_hash_vista(numbers: &[u32]) -> u32
+pub fn hs_hash_vista(numbers: &[u32]) -> u32
     ensures { result ≡ vista numbers.now }
 {
     path_hash::hash_vista(numbers)
 }
 
-#[unsafe(no_mangle)]
-pub extern "C" fn hs_hash_2008(numbers: &[u32]) -> u32
+pub fn hs_hash_2008(numbers: &[u32]) -> u32
     ensures { result ≡ hash2008 numbers.now }
 {
     path_hash::hash_2008(numbers)
 }
 
-#[unsafe(no_mangle)]
-pub extern "C" fn hs_hash_xp_bytes(text: &[u8]) -> u32
+pub fn hs_hash_xp_bytes(text: &[u8]) -> u32
     ensures { result ≡ xp text.now }
 {
     path_hash::hash_xp_bytes(text)
 }
 
-#[unsafe(no_mangle)]
-pub extern "C" fn hs_hash_vista_bytes(text: &[u8]) -> u32
+pub fn hs_hash_vista_bytes(text: &[u8]) -> u32
     ensures { result ≡ vista text.now }
 {
     path_hash::hash_vista_bytes(text)
 }
 
-#[unsafe(no_mangle)]
-pub extern "C" fn hs_hash_2008_bytes(text: &[u8]) -> u32
+pub fn hs_hash_2008_bytes(text: &[u8]) -> u32
     ensures { result ≡ hash2008 text.now }
 {
     path_hash::hash_2008_bytes(text)
 }
 
 // The Vista hash on the table of powers of 37.
-#[unsafe(no_mangle)]
-pub extern "C" fn hs_hash_powers(numbers: &[u32]) -> u32
+pub fn hs_hash_powers(numbers: &[u32]) -> u32
     ensures { result ≡ hash_powers numbers.now }
 {
     power_hash::hash_powers(numbers)
 }
 
-#[unsafe(no_mangle)]
-pub extern "C" fn hs_hash_powers_bytes(text: &[u8]) -> u32
+pub fn hs_hash_powers_bytes(text: &[u8]) -> u32
     ensures { result ≡ hash_powers text.now }
 {
     power_hash::hash_powers_bytes(text)
@@ -80,28 +72,14 @@ fn swap_reply(answer: Swap) -> Reply
 }
 
 // The hash of a path whose first p numbers are swapped for another start, from the old hash.
-#[unsafe(no_mangle)]
-pub extern "C" fn hs_hash_swap(
-    old_hash: u32,
-    old: &[u32],
-    p: u64,
-    start: &[u32],
-    out: &mut [u64],
-) -> u32
+pub fn hs_hash_swap(old_hash: u32, old: &[u32], p: u64, start: &[u32], out: &mut [u64]) -> u32
     ensures { Answered (swap_said (swap_answer old_hash old.now p start.now)) result out.old out.new }
 {
     let answer = power_hash::hash_swap(old_hash, old, p as usize, start);
     put_reply(swap_reply(answer), out)
 }
 
-#[unsafe(no_mangle)]
-pub extern "C" fn hs_hash_swap_bytes(
-    old_hash: u32,
-    old: &[u8],
-    p: u64,
-    start: &[u8],
-    out: &mut [u64],
-) -> u32
+pub fn hs_hash_swap_bytes(old_hash: u32, old: &[u8], p: u64, start: &[u8], out: &mut [u64]) -> u32
     ensures { Answered (swap_said (swap_answer old_hash old.now p start.now)) result out.old out.new }
 {
     let answer = power_hash::hash_swap_bytes(old_hash, old, p as usize, start);

@@ -4,19 +4,18 @@
 ghost use Rattle.std.specs.Prelude.{◌≡◌};
 ghost use Rattle.hivesaddle.specs.Output.{interface};
 
-mod files;
-mod hashes;
-mod lines;
-mod queries;
-mod recordings;
+pub mod files;
+pub mod hashes;
+pub mod lines;
+pub mod queries;
+pub mod recordings;
 mod replies;
 
 // HS_INTERFACE of the header.
 const INTERFACE: u32 = 1;
 
 // The interface that this library has: a program can see whether it is that of the header it was compiled with.
-#[unsafe(no_mangle)]
-pub extern "C" fn hs_interface() -> u32
+pub fn hs_interface() -> u32
     ensures { result ≡ interface }
 {
     INTERFACE

@@ -44,22 +44,14 @@ fn line_reply(answer: ReadLine) -> Reply
 }
 
 // 0 and the line's size, stored hash, run count and version, or 18 and zeros.
-#[unsafe(no_mangle)]
-pub extern "C" fn hs_catalogue_read(line: &[u8], out: &mut [u64]) -> u32
+pub fn hs_catalogue_read(line: &[u8], out: &mut [u64]) -> u32
     ensures { Answered (line_said (reading line.now)) result out.old out.new }
 {
     put_reply(line_reply(catalogue::read_line(line)), out)
 }
 
 // 0 and the new line in the first 27 bytes of the output, or 19 and the output as it was.
-#[unsafe(no_mangle)]
-pub extern "C" fn hs_catalogue_write(
-    size: u32,
-    hash: u32,
-    runs: u32,
-    version: u32,
-    output: &mut [u8],
-) -> u32
+pub fn hs_catalogue_write(size: u32, hash: u32, runs: u32, version: u32, output: &mut [u8]) -> u32
     ensures { LineWriting (fields_of size hash runs version) output.old result output.new }
 {
     let fields = Fields {

@@ -26,8 +26,7 @@ fn places_reply(answer: PlacesAnswer) -> Reply
 }
 
 // How many working places the readers need for the file, where checks 1 to 6 pass.
-#[unsafe(no_mangle)]
-pub extern "C" fn hs_places(file: &[u8], out: &mut [u64]) -> u32
+pub fn hs_places(file: &[u8], out: &mut [u64]) -> u32
     ensures { Answered (places_said (places_needed file.now)) result out.old out.new }
 {
     put_reply(places_reply(query::places(file)), out)
@@ -43,16 +42,14 @@ fn place_reply(answer: PlaceAnswer) -> Reply
 }
 
 // Whether the program name can be shown: its offset in the file and its length in bytes.
-#[unsafe(no_mangle)]
-pub extern "C" fn hs_program_name(file: &[u8], out: &mut [u64]) -> u32
+pub fn hs_program_name(file: &[u8], out: &mut [u64]) -> u32
     ensures { Answered (place_said (program_place file.now)) result out.old out.new }
 {
     put_reply(place_reply(query::program_place(file)), out)
 }
 
 // Whether the name of metrics entry i can be shown: its offset in the file and its length in bytes.
-#[unsafe(no_mangle)]
-pub extern "C" fn hs_entry_name(file: &[u8], i: u64, out: &mut [u64]) -> u32
+pub fn hs_entry_name(file: &[u8], i: u64, out: &mut [u64]) -> u32
     ensures { Answered (place_said (entry_place file.now i)) result out.old out.new }
 {
     put_reply(place_reply(query::entry_place(file, i as usize)), out)
@@ -96,8 +93,7 @@ fn volume_reply(answer: VolumeAnswer) -> Reply
 }
 
 // Volume i: creation time, serial number, counts of references and directories, and the path's offset and length in bytes.
-#[unsafe(no_mangle)]
-pub extern "C" fn hs_volume(file: &[u8], i: u64, out: &mut [u64]) -> u32
+pub fn hs_volume(file: &[u8], i: u64, out: &mut [u64]) -> u32
     ensures { Answered (volume_said (volume_asked file.now i)) result out.old out.new }
 {
     put_reply(volume_reply(query::volume(file, i as usize)), out)
@@ -113,8 +109,7 @@ fn reference_reply(answer: ReferenceAnswer) -> Reply
 }
 
 // Reference k of volume i: entry index and sequence number.
-#[unsafe(no_mangle)]
-pub extern "C" fn hs_reference(file: &[u8], i: u64, k: u64, out: &mut [u64]) -> u32
+pub fn hs_reference(file: &[u8], i: u64, k: u64, out: &mut [u64]) -> u32
     ensures { Answered (reference_said (reference_asked file.now i k)) result out.old out.new }
 {
     let answer = query::reference(file, i as usize, k as usize);
@@ -123,16 +118,14 @@ pub extern "C" fn hs_reference(file: &[u8], i: u64, k: u64, out: &mut [u64]) -> 
 
 // All directories of a volume, each the file offset of its first unit and its units without the last zero: their count, and as many
 // whole pairs as fit.
-#[unsafe(no_mangle)]
-pub extern "C" fn hs_directories(file: &[u8], volume: u64, pairs: &mut [u32]) -> u64
+pub fn hs_directories(file: &[u8], volume: u64, pairs: &mut [u32]) -> u64
     ensures { ListsDirectories file.now volume pairs.old result pairs.new }
 {
     query::directories(file, volume as usize, pairs) as u64
 }
 
 // All references of a volume, each its entry index and its sequence number, in the same way.
-#[unsafe(no_mangle)]
-pub extern "C" fn hs_references(file: &[u8], volume: u64, pairs: &mut [u64]) -> u64
+pub fn hs_references(file: &[u8], volume: u64, pairs: &mut [u64]) -> u64
     ensures { ListsReferences file.now volume pairs.old result pairs.new }
 {
     query::references(file, volume as usize, pairs) as u64
@@ -148,8 +141,7 @@ fn entry_reference_reply(answer: EntryReferenceAnswer) -> Reply
 }
 
 // The file reference of metrics entry i: whether the version has the field, entry index and sequence number.
-#[unsafe(no_mangle)]
-pub extern "C" fn hs_entry_reference(file: &[u8], i: u64, out: &mut [u64]) -> u32
+pub fn hs_entry_reference(file: &[u8], i: u64, out: &mut [u64]) -> u32
     ensures { Answered (entry_reference_said (entry_reference_asked file.now i)) result out.old out.new }
 {
     put_reply(
@@ -168,8 +160,7 @@ fn cost_reply(answer: CostAnswer) -> Reply
 }
 
 // What a file costs to read, where checks 1 to 6 pass: the bytes of its names and of its directories.
-#[unsafe(no_mangle)]
-pub extern "C" fn hs_cost(file: &[u8], out: &mut [u64]) -> u32
+pub fn hs_cost(file: &[u8], out: &mut [u64]) -> u32
     ensures { Answered (cost_said (cost_asked file.now)) result out.old out.new }
 {
     put_reply(cost_reply(query::cost(file)), out)
@@ -188,16 +179,14 @@ fn path_reply(answer: PathAnswer) -> Reply
 }
 
 // The least number for which any entry matches the stored hash, and the first such entry.
-#[unsafe(no_mangle)]
-pub extern "C" fn hs_find_path(file: &[u8], out: &mut [u64]) -> u32
+pub fn hs_find_path(file: &[u8], out: &mut [u64]) -> u32
     ensures { Answered (path_said (path_found file.now)) result out.old out.new }
 {
     put_reply(path_reply(path_search::find_path(file)), out)
 }
 
 // The same over the names that begin with the path of a volume, with a start in place of it.
-#[unsafe(no_mangle)]
-pub extern "C" fn hs_find_path_from(file: &[u8], volume: u64, start: &[u8], out: &mut [u64]) -> u32
+pub fn hs_find_path_from(file: &[u8], volume: u64, start: &[u8], out: &mut [u64]) -> u32
     ensures { Answered (path_said (path_found_from file.now volume start.now)) result out.old out.new }
 {
     put_reply(
@@ -207,8 +196,7 @@ pub extern "C" fn hs_find_path_from(file: &[u8], volume: u64, start: &[u8], out:
 }
 
 // All pairs of an entry and the number by which it matches: their count, and as many whole pairs as fit.
-#[unsafe(no_mangle)]
-pub extern "C" fn hs_list_paths(file: &[u8], pairs: &mut [u32]) -> u64
+pub fn hs_list_paths(file: &[u8], pairs: &mut [u32]) -> u64
     ensures { ListsPaths file.now pairs.old result pairs.new }
 {
     path_search::list_paths(file, pairs) as u64

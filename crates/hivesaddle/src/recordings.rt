@@ -22,8 +22,7 @@ fn replay_reply(answer: ReplayAnswer) -> Reply
 }
 
 // The best reading for each start: 0, or 22 and the number of the first bad line.
-#[unsafe(no_mangle)]
-pub extern "C" fn hs_replay(
+pub fn hs_replay(
     recording: &[u8],
     times: &[u64],
     boards: &[u8],
@@ -39,8 +38,7 @@ pub extern "C" fn hs_replay(
 }
 
 // Before the first piece of a recording: the starts served are put in order, and their answers are none.
-#[unsafe(no_mangle)]
-pub extern "C" fn hs_replay_begin(
+pub fn hs_replay_begin(
     times: &[u64],
     boards: &[u8],
     work: &mut [u32],
@@ -56,8 +54,7 @@ pub extern "C" fn hs_replay_begin(
 }
 
 // A piece, behind the bytes of the one before that were not used.
-#[unsafe(no_mangle)]
-pub extern "C" fn hs_replay_feed(
+pub fn hs_replay_feed(
     lines: u64,
     bad: u64,
     piece: &[u8],
@@ -86,8 +83,7 @@ pub extern "C" fn hs_replay_feed(
 }
 
 // After the last piece, where so many bytes were not used: 0, or 22 and the number of the first bad line.
-#[unsafe(no_mangle)]
-pub extern "C" fn hs_replay_finish(
+pub fn hs_replay_finish(
     lines: u64,
     bad: u64,
     waiting: u64,
@@ -109,8 +105,7 @@ pub extern "C" fn hs_replay_finish(
 }
 
 // The table at year's end: 0, or refusal 18, 24 or 26.
-#[unsafe(no_mangle)]
-pub extern "C" fn hs_year_table(
+pub fn hs_year_table(
     lines: &[u8],
     hashes: &[u32],
     answers: &[u64],

@@ -1,6 +1,6 @@
 -- What a volume lists: one turn of each loop lays one pair more, and each step over a sound volume goes on, so all pairs are there.
 use mathlib.Core.Path.{◌≡◌, refl, sym}
-use mathlib.Core.Bool.{Bool, true, false, not}
+use mathlib.Core.Bool.{Bool, true, false}
 use mathlib.Core.List.{List, [], ◌∷◌}
 use Prim.Native.Nat.{ℕ, zero, suc, ◌+◌, ◌-◌, ◌*◌, ◌≤◌, ◌<◌}
 use native.Mathlib.Numerals.{add-one}
@@ -64,13 +64,13 @@ references_length s e (suc n) k = omega (arith, references_length s e n (suc k))
 -- ---- where checks 1 to 6 pass: what is listed, by what the tests on the section gave
 module _ (o : Opening) (p : List ℕ) (i : ℕ) {b held : List ℕ} {r : Bool} (eb : b ≡ part o.head.volumes p)
     (e : r ≡ section_shown o.head.volumes o.layout b i) where
-  pub directories_hidden : not r ≡ true → PairsListed (directories_shown o p i) held 0 held
+  pub directories_hidden : r ≡ false → PairsListed (directories_shown o p i) held 0 held
   directories_hidden q = rw (hidden o p i eb e q) (none_listed held)
 
-  pub references_hidden : not r ≡ true → PairsListed (references_shown o p i) held 0 held
+  pub references_hidden : r ≡ false → PairsListed (references_shown o p i) held 0 held
   references_hidden q = rw (hidden o p i eb e q) (none_listed held)
 
-  module _ {after : List ℕ} {v : Volume} (q : not r ≡ false) (ev : v ≡ volume_of b (entry_at o.layout i)) where
+  module _ {after : List ℕ} {v : Volume} (q : r ≡ true) (ev : v ≡ volume_of b (entry_at o.layout i)) where
     pub directories_given : {at : ℕ} → at ≡ directories_at b (entry_at o.layout i)
         → after ≡ pairs_in (directory_pairs b o.head.volumes.at v.directories at) held
         → PairsListed (directories_shown o p i) held v.directories after

@@ -1,6 +1,6 @@
 -- Volume i: the code's tests are the definition's in their order, and a volume that is shown lies in its section and in the file.
 use mathlib.Core.Path.{◌≡◌, refl, sym, ap, ◌∙◌}
-use mathlib.Core.Bool.{Bool, true, false, not}
+use mathlib.Core.Bool.{Bool, true, false}
 use mathlib.Core.List.{List}
 use mathlib.Core.Logic.{⊎_elim, ◌↔◌}
 use Prim.Native.Nat.{ℕ, ◌+◌, ◌*◌, ◌≤◌, ◌<◌}
@@ -8,7 +8,7 @@ use native.Mathlib.Nat.{mul-le-mul_right}
 use native.Mathlib.Omega.{arith}
 use lib.Dec.{eqb}
 use lib.ListN.{length}
-use borrow.Author.Tests.{lt-ltb, le-ltb, le-leb, lt-leb, ltb-true, leb-true, eqb-true, eqb-false, not-true, not-false}
+use borrow.Author.Tests.{lt-ltb, le-ltb, le-leb, lt-leb, ltb-true, leb-true, eqb-true, eqb-false}
 use denote.Ref.{Bor}
 use Rattle.lists.specs.Part.{IsPart}
 use Rattle.lists.specs.First.{first}
@@ -31,7 +31,6 @@ use Rattle.head.specs.Opened.{OpenFacts}
 use Rattle.head.proofs.Facts.{open_sound, open_shapes}
 use Rattle.sections.specs.declared.Section.{Section}
 use Rattle.head.specs.declared.checks.Opening.{Opening}
-use Rattle.names.specs.Names.{sound}
 use Rattle.volumes.specs.Volumes.{entry_at, volume_checks, volume_of, reference_of, path_at, path_count, path_units, or_all}
 use Rattle.volumes.specs.SoundVolume.{SoundVolume}
 use Rattle.volumes.proofs.SoundVolume.{sound_volume}
@@ -105,24 +104,24 @@ section_shown_law s v b i = (
       (rw ((sound_volume b i _ (entry_at v i)).1 f.sound)),
 )
 
-pub section_met : (s : Section) (v : Layout) (b : List ℕ) (i : ℕ) {r : Bool} → r ≡ section_shown s v b i → not r ≡ false → SectionShown s v b i
-section_met s v b i {r} e q = (section_shown_law s v b i).0 (sym e ∙ not-false r q)
+pub section_met : (s : Section) (v : Layout) (b : List ℕ) (i : ℕ) {r : Bool} → r ≡ section_shown s v b i → r ≡ true → SectionShown s v b i
+section_met s v b i {r} e q = (section_shown_law s v b i).0 (sym e ∙ q)
 
 -- where checks 1 to 6 pass: the answers, by what the tests on the section gave
 module _ (o : Opening) (p : List ℕ) (i : ℕ) {b : List ℕ} {r : Bool} (eb : b ≡ part o.head.volumes p)
     (e : r ≡ section_shown o.head.volumes o.layout b i) where
-  pub hidden : not r ≡ true → volume_shown o p i ≡ false
+  pub hidden : r ≡ false → volume_shown o p i ≡ false
   unfolding volume_shown section_shown
-  hidden q = rw (← eb) (sym e ∙ not-true r q)
+  hidden q = rw (← eb) (sym e ∙ q)
 
-  pub shown : not r ≡ false → volume_shown o p i ≡ true
+  pub shown : r ≡ true → volume_shown o p i ≡ true
   unfolding volume_shown section_shown
-  shown q = rw (← eb) (sym e ∙ not-false r q)
+  shown q = rw (← eb) (sym e ∙ q)
 
-  pub volume_hidden : not r ≡ true → volume_answer.NotShown ≡ volume_in o p i
+  pub volume_hidden : r ≡ false → volume_answer.NotShown ≡ volume_in o p i
   volume_hidden q = rw (hidden q)
 
-  pub volume_given : {v : Volume} → not r ≡ false → v ≡ volume_of b (entry_at o.layout i)
+  pub volume_given : {v : Volume} → r ≡ true → v ≡ volume_of b (entry_at o.layout i)
       → volume_answer.Shown (record {
         created = v.created;
         serial = v.serial;
@@ -133,11 +132,11 @@ module _ (o : Opening) (p : List ℕ) (i : ℕ) {b : List ℕ} {r : Bool} (eb : 
   unfolding volume_facts
   volume_given q ev = rw (shown q, ev, eb)
 
-  pub reference_hidden : (k : ℕ) → not r ≡ true → reference_answer.NotShown ≡ reference_in o p i k
+  pub reference_hidden : (k : ℕ) → r ≡ false → reference_answer.NotShown ≡ reference_in o p i k
   unfolding reference_shown
   reference_hidden k q = rw (hidden q)
 
-  module _ (k : ℕ) {v : Volume} (q : not r ≡ false) (ev : v ≡ volume_of b (entry_at o.layout i)) where
+  module _ (k : ℕ) {v : Volume} (q : r ≡ true) (ev : v ≡ volume_of b (entry_at o.layout i)) where
     pub reference_past : v.references ≤ k → reference_answer.NotShown ≡ reference_in o p i k
     unfolding reference_shown
     reference_past h = rw (shown q, ← eb, ← ev, le-ltb _ _ h)
@@ -211,17 +210,17 @@ pub path_low : (o : Opening) (p : List ℕ) (i : ℕ) {b : List ℕ} {v : Volume
 path_low o p i {b} f eb e ev = rw ev (omega (arith, path_inside b (entry_at o.layout i) e.sound, section_low o p i f eb e))
 
 -- the path of a volume that is shown lies in the section
-pub path_of_section : (s : Section) (l : Layout) (b : List ℕ) (i : ℕ) {t : Bool} {v : Volume} → t ≡ section_shown s l b i → not t ≡ false
+pub path_of_section : (s : Section) (l : Layout) (b : List ℕ) (i : ℕ) {t : Bool} {v : Volume} → t ≡ section_shown s l b i → t ≡ true
     → v ≡ volume_of b (entry_at l i) → v.path + 2 * v.units ≤ length b
 path_of_section s l b i e q ev = rw ev (path_inside b (entry_at l i) (section_met s l b i e q).sound)
 
 -- the path alone, as a part of the section
 pub path_hidden : (o : Opening) (i : ℕ) (file r : Bor (List ℕ)) {b : List ℕ} {t : Bool} → b ≡ part o.head.volumes file.now
-    → t ≡ section_shown o.head.volumes o.layout b i → not t ≡ true → IsPart file 0 0 r → ShownAt file (path_place o file.now i) r
+    → t ≡ section_shown o.head.volumes o.layout b i → t ≡ false → IsPart file 0 0 r → ShownAt file (path_place o file.now i) r
 path_hidden o i file r eb e q h = rw (hidden o file.now i eb e q) h
 
 pub path_shown : (o : Opening) (i : ℕ) (file s r : Bor (List ℕ)) {t : Bool} {v : Volume} → IsPart file o.head.volumes.at o.head.volumes.len s
-    → t ≡ section_shown o.head.volumes o.layout s.now i → not t ≡ false → v ≡ volume_of s.now (entry_at o.layout i)
+    → t ≡ section_shown o.head.volumes o.layout s.now i → t ≡ true → v ≡ volume_of s.now (entry_at o.layout i)
     → IsPart s v.path (2 * v.units) r → ShownAt file (path_place o file.now i) r
 unfolding volume_facts
 path_shown o i file s r {v = v} p e q ev h =

@@ -4,7 +4,7 @@ use Rattle.little_endian.specs.Number.{le}
 use Rattle.layout.specs.Versions.{metrics_entry, volume_entry}
 use Rattle.sections.specs.Fields.{part}
 use Rattle.head.specs.declared.checks.Opening.{Opening}
-use Rattle.names.specs.Names.{sound, name_at, name_units, SoundName}
+use Rattle.names.specs.Names.{name_at, name_units, SoundName}
 use Rattle.volumes.specs.Volumes.{entry_at}
 use Rattle.volumes.specs.SoundVolume.{SoundVolume}
 use Rattle.query.specs.Queries.{name_place}

@@ -4,9 +4,11 @@
 
 use readings::ReplayAnswer;
 use replay_input::Input;
+use std::io::{Read, Write};
 
 // All of the input. A proved loop has to end, and nothing says that the input does: no run uses the turns up.
-fn take_input(
+fn take_input<R: Read>(
+    stdin: &mut R,
     buffer: &mut [u8],
     times: &mut [u64],
     boards: &mut [u8],
@@ -17,7 +19,7 @@ fn take_input(
     let mut turns = u64::MAX;
     while 0 < turns {
         let kept = input.kept;
-        let got = console::read_input(&mut buffer[kept..]);
+        let got = console::read_input(stdin, &mut buffer[kept..]);
         if got == 0 {
             return input;
         }
@@ -28,12 +30,12 @@ fn take_input(
 }
 
 // A buffer full of lines at a time.
-fn write_answers(starts: usize, answers: &[u64], out: &mut [u8]) {
+fn write_answers<W: Write>(stdout: &mut W, starts: usize, answers: &[u64], out: &mut [u8]) {
     let mut next = 0;
     while next < starts {
         let put = replay_input::put_answers(answers, starts, next, out);
         let bytes = put.bytes;
-        console::write_output(&out[..bytes]);
+        console::write_output(stdout, &out[..bytes]);
         // a line fits, so this goes on; a proved loop has to show that it does
         if put.next <= next {
             return;
@@ -42,13 +44,14 @@ fn write_answers(starts: usize, answers: &[u64], out: &mut [u8]) {
     }
 }
 
-fn write_refused(number: u64, out: &mut [u8]) {
+fn write_refused<W: Write>(stdout: &mut W, number: u64, out: &mut [u8]) {
     let n = replay_input::put_refused(number, out);
-    console::write_output(&out[..n]);
+    console::write_output(stdout, &out[..n]);
 }
 
 // The input has ended: a line for each start, or only the refusal.
-fn write_result(
+fn write_result<W: Write>(
+    stdout: &mut W,
     input: Input,
     times: &[u64],
     boards: &[u8],
@@ -59,23 +62,32 @@ fn write_result(
     let stage = input.stage;
     let starts = stage.starts;
     match replay_input::end_input(input, times, boards, work, answers) {
-        ReplayAnswer::Replayed => write_answers(starts, answers, out),
-        ReplayAnswer::Refused(number) => write_refused(number, out),
+        ReplayAnswer::Replayed => write_answers(stdout, starts, answers, out),
+        ReplayAnswer::Refused(number) => write_refused(stdout, number, out),
     }
 }
 
-fn main() {
+fn main(rt: HostRuntime) {
     let mut buffer = [0u8; 4096];
     let mut times = [0u64; 1024];
     let mut boards = [0u8; 1024];
     let mut work = [0u32; 1024];
     let mut answers = [0u64; 4096];
     let input = take_input(
+        &mut rt.stdin(),
         &mut buffer,
         &mut times,
         &mut boards,
         &mut work,
         &mut answers,
     );
-    write_result(input, &times, &boards, &mut work, &mut answers, &mut buffer);
+    write_result(
+        &mut rt.stdout(),
+        input,
+        &times,
+        &boards,
+        &mut work,
+        &mut answers,
+        &mut buffer,
+    );
 }

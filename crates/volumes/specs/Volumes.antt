@@ -9,7 +9,7 @@ use Rattle.little_endian.specs.Number.{le, zero_unit}
 use Rattle.layout.specs.Head.{entry_offset}
 use Rattle.layout.specs.Versions.{volume_entry}
 use Rattle.layout.specs.declared.Layout.{Layout}
-use Rattle.incremental.specs.Decision.{Decision, accept, refuse, refusal, fault_at, check, ◌>>=◌, ◌>>◌}
+use Rattle.incremental.specs.Decision.{Decision, accept, refuse, refusal, fault_at, check, ◌>>◌}
 use Rattle.sections.specs.Fields.{entries_fault}
 use Rattle.volumes.specs.declared.Step.{Step}
 use Rattle.volumes.specs.declared.Step.TheVariants.{Next, Past, Unended}

@@ -220,4 +220,18 @@ mod tests {
         assert!(behind(Some("e.pf")).is_empty());
         fs::remove_dir_all(&folder).unwrap();
     }
+
+    /// What came before leaves nothing behind.
+    #[test]
+    fn memory_serves_one_after_another() {
+        let mut reader = Reader::default();
+        for text in ["a long text", "short", ""] {
+            let length = reader.fill(&mut text.as_bytes(), text.len()).unwrap();
+            assert_eq!(&reader.buffer[..length], text.as_bytes());
+        }
+        let bytes = |count: usize| io::repeat(7).take(count as u64);
+        assert_eq!(reader.fill(&mut bytes(LARGEST), 0).unwrap(), LARGEST);
+        let above = reader.fill(&mut bytes(LARGEST + 1), 0);
+        assert!(matches!(above, Err(Trouble::AboveLimit)));
+    }
 }

@@ -7,7 +7,6 @@ mod board;
 mod catalogue;
 mod chart;
 mod check;
-mod directories;
 mod files;
 mod head;
 mod hex;
@@ -40,6 +39,7 @@ use outcome::{failed, Outcome};
 use output::say;
 use std::ffi::{OsStr, OsString};
 use std::process::ExitCode;
+use volumes::directories;
 
 const VERSION: &str = concat!("hivesaddle ", env!("CARGO_PKG_VERSION"), "\n");
 
@@ -75,9 +75,13 @@ const COMMANDS: [Command; 12] = [
     command("year", "the year's table, or its page", year::HELP, year::run),
 ];
 
+/// The general help stays as it was before this one; the help of `volumes` names it.
+const UNLISTED: &str = "directories";
+
 fn general_help() -> String {
-    let row = |command: &Command| format!("  {:<12} {}\n", command.name, command.does);
-    let commands: String = COMMANDS.iter().map(row).collect();
+    let row = |command: &Command| format!("  {:<10} {}\n", command.name, command.does);
+    let listed = COMMANDS.iter().filter(|command| command.name != UNLISTED);
+    let commands: String = listed.map(row).collect();
     format!(
         "hivesaddle reads Windows Prefetch files, and says what is wrong with those it refuses.\n\n\
          usage: hivesaddle COMMAND [OPTIONS] ..\n\n{commands}\n\

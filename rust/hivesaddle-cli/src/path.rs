@@ -41,7 +41,6 @@ impl How {
 /// A path, or why there is none.
 pub type Search<'a> = Result<Found<'a>, &'static str>;
 
-const NO_FILES: &str = "none: it names no files";
 const NEITHER: &str = "none: no file loaded has the stored hash or the program's name";
 const HOSTING: &str = "none: the hash of a hosting program covers its command line, and no file \
     loaded has its name";
@@ -71,7 +70,7 @@ pub fn find<'a>(file: &'a [u8], record: &Record) -> Search<'a> {
     }
     let named = entries_of_program(file, record);
     let by_name = || named.first().map(|&(entry, name)| found(entry, name, How::Name));
-    device::by_device(file, record, &named).or_else(by_name).ok_or_else(|| why(file, record))
+    device::by_device(file, record, &named).or_else(by_name).ok_or_else(|| why(file))
 }
 
 fn by_hash(file: &[u8]) -> Option<Found<'_>> {
@@ -84,10 +83,9 @@ fn found(entry: u64, name: &[u8], how: How) -> Found<'_> {
     Found { path: name.into(), entry, name, how }
 }
 
-fn why(file: &[u8], record: &Record) -> &'static str {
+fn why(file: &[u8]) -> &'static str {
     let program = program_name(file).unwrap_or_default();
     match HOSTS.iter().any(|host| utf16(host) == program) {
-        _ if record.metrics_count == 0 => NO_FILES,
         true => HOSTING,
         false => NEITHER,
     }
@@ -134,11 +132,13 @@ pub fn volume_of<'a>(file: &'a [u8], record: &Record, name: &[u8]) -> Option<(u6
 
 #[cfg(test)]
 mod tests {
-    use super::*;
+    use super::is_of;
 
     #[test]
     fn the_last_part_is_the_name() {
-        let is = |path: &str, program: &str| is_of(&utf16(path), &utf16(program));
+        let units =
+            |text: &str| -> Vec<u8> { text.encode_utf16().flat_map(u16::to_le_bytes).collect() };
+        let is = |path: &str, program: &str| is_of(&units(path), &units(program));
         assert!(is(r"\A\CMD.EXE", "CMD.EXE") && is("CMD.EXE", "CMD.EXE"));
         assert!(!is(r"\A\XCMD.EXE", "CMD.EXE") && !is(r"\CMD.EXE\A", "CMD.EXE"));
         let long = "A".repeat(40);

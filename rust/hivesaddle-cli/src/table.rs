@@ -308,7 +308,7 @@ A           7  \\u{1B},
     fn a_narrow_terminal_has_fewer_columns() {
         let lines = |width: usize| {
             let mut out = Vec::new();
-            let fit = Some(Fit { width, order: &[1] });
+            let fit = Some(Fit { width, order: &[1, 0] });
             let mut table = Table::new(&mut out, Style::Aligned, TITLES).fitted(fit);
             let path = Cell::words(r"\DISK\FOLDER\A-LONG-NAME.EXE");
             table.row(vec![Cell::words("A"), Cell::Number(7), path]).unwrap();
@@ -322,8 +322,24 @@ A           7  \\u{1B},
         assert_eq!(lines(34)[1], "A        7  \u{2026}OLDER\\A-LONG-NAME.EXE");
         assert_eq!(lines(34)[2], format!("B        7  {}\u{2026}", "x".repeat(21)));
         assert_eq!(lines(31)[0], "name  path");
-        assert_eq!(lines(20)[1], "A     \u{2026}LONG-NAME.EXE");
+        assert_eq!(lines(20)[1], "\u{2026}DER\\A-LONG-NAME.EXE");
         assert!(lines(20).iter().all(|line| line.chars().count() <= 20));
+    }
+
+    /// One that is not among those that may be left out.
+    #[test]
+    fn the_first_column_is_cut() {
+        let first = |width: usize, name: &str| {
+            let mut out = Vec::new();
+            let fit = Some(Fit { width, order: &[1] });
+            let mut table = Table::new(&mut out, Style::Aligned, TITLES).fitted(fit);
+            let path = Cell::words(r"\DISK\FOLDER\A-LONG-NAME.EXE");
+            table.row(vec![Cell::words(name), Cell::Number(7), path]).unwrap();
+            table.end().unwrap();
+            String::from_utf8(out).unwrap().lines().nth(1).unwrap().to_string()
+        };
+        assert_eq!(first(20, "A"), "A     \u{2026}LONG-NAME.EXE");
+        assert_eq!(first(30, "folder/file.pf"), "\u{2026}r/file.pf  \u{2026}R\\A-LONG-NAME.EXE");
     }
 
     /// A wide row widens those that follow it, and not those long before it.

@@ -1,5 +1,7 @@
 //! `hivesaddle volumes`: the volumes that the files loaded lie on.
 
+pub mod directories;
+
 use crate::args::Known;
 use crate::options::{of_files, of_tables};
 use crate::outcome::Outcome;
@@ -16,7 +18,8 @@ usage: hivesaddle volumes [OPTIONS] FILE|FOLDER ..
 
 The volumes of files, a row for each: path, serial number, when it was created (UTC), how many file
 references, how many directories, and the Prefetch file that it stands in. Of a file that is refused
-the volumes that are sound are shown, and then the refusal on standard error.
+the volumes that are sound are shown, and then the refusal on standard error. `hivesaddle
+directories` shows the directories themselves.
 
   --references  instead a row for each file reference of each volume: the volume's number, path and
                 serial number, the reference as entry-sequence, and the Prefetch file

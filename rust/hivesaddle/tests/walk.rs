@@ -40,16 +40,16 @@ fn no_entries() {
 fn refused() {
     let sound = two_chains();
     let cycle = file(&[(1, 0), (0, 0), (NONE, 0), (NONE, 0)]);
-    let refusal = |number, index, offset| Refusal { number, index, offset };
-    let cases = [
-        (&sound[..], 4, 3, refusal(23, 0, 0)),
-        (&sound, 4, 0, refusal(23, 0, 0)),
-        (&sound, 3, 3, refusal(7, 0, 96)),
-        (&sound[..195], 4, 0, refusal(16, 0, 12)),
-        (&cycle, 4, 0, refusal(13, 0, 148)),
+    let cases: [(&[u8], usize, usize, (u32, u64, u64)); 5] = [
+        (&sound, 4, 3, (23, 0, 0)),
+        (&sound, 4, 0, (23, 0, 0)),
+        (&sound, 3, 3, (7, 0, 96)),
+        (&sound[..195], 4, 0, (16, 0, 12)),
+        (&cycle, 4, 0, (13, 0, 148)),
     ];
-    for (file, places, order_length, refusal) in cases {
+    for (file, places, order_length, (number, index, offset)) in cases {
         let (mut slots, mut order) = (vec![7; places], vec![7; order_length]);
+        let refusal = Refusal { number, index, offset };
         assert_eq!(walk(file, &mut slots, &mut order), Err(refusal));
         assert_eq!(slots, vec![NONE; places]);
         assert_eq!(order, vec![7; order_length]);

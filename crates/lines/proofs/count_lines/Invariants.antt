@@ -1,13 +1,8 @@
 -- Every byte but the last is passed, some at a time: each line feed there ends a line, and another follows it. The last byte is in the last line.
-use mathlib.Core.Path.{◌≡◌, refl, sym, ap, ◌∙◌}
-use mathlib.Core.List.{List, [], ◌∷◌}
-use mathlib.Core.Logic.{⊎_elim}
-use Prim.Native.Nat.{ℕ, ◌+◌, ◌-◌, ◌≤◌}
-use native.Mathlib.Omega.{arith}
+use mathlib.Core.Path.{◌≡◌}
+use Prim.Native.Nat.{◌+◌, ◌-◌, ◌≤◌}
 use lib.ListN.{length, drop}
 use Rattle.lines.specs.Lines.{lines_in}
-use Rattle.lines.proofs.Lines.{no_lines, count_last, feeds_few, count_feeds}
-use borrow.Author.Rules.{rules}
 use Rattle.lines.proofs.count_lines.Given as goal
 
 abbrev pub invariant-loop-i : goal.invariant-loop-i

@@ -1,6 +1,5 @@
 -- A line feed at the end of so many bytes, and none before it.
 use mathlib.Core.Path.{sym, ◌∙◌}
-use mathlib.Core.Bool.{false}
 use native.Mathlib.Omega.{arith}
 use borrow.Author.Tests.{eqb-true}
 use Rattle.lines.proofs.Lines.{ends_known}

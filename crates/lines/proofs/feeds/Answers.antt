@@ -1,10 +1,10 @@
 use mathlib.Core.Path.{◌≡◌}
-use mathlib.Core.Logic.{⊎_elim}
 use Prim.Native.Nat.{suc, ◌+◌}
 use native.Mathlib.Omega.{arith}
 use Rattle.lines.proofs.Lines.{feeds_start, feeds_yes, feeds_no}
 use borrow.Author.Rules.{rules}
 use Rattle.lines.proofs.feeds.Goals as goal
+use Rattle.lines.proofs.feeds.Goals.{then-bytes-at-eq10, else-bytes-at-eq10}
 
 pub loop-k-preserved : goal.loop-k-preserved
 loop-k-preserved c =
@@ -13,11 +13,12 @@ loop-k-preserved c =
     let v = c.loop-k.invariant in
     let q : k + 1 ≡ suc k = omega arith in (
       omega arith,
-      ⊎_elim (λ w. omega arith) (λ w. omega arith) c.if-bytes-at-eq10.branch,
+      elim c.if-bytes-at-eq10.branch [ then-bytes-at-eq10 w ↦ omega arith | else-bytes-at-eq10 w ↦ omega arith ],
       rw q
-          (⊎_elim
-          (λ w. omega (arith, v.2, feeds_yes s.bytes.now s.at k w.0.taken))
-          (λ w. omega (arith, v.2, feeds_no s.bytes.now s.at k w.0.left)) c.if-bytes-at-eq10.branch),
+          (elim c.if-bytes-at-eq10.branch [
+            | then-bytes-at-eq10 w ↦ omega (arith, v.2, feeds_yes s.bytes.now s.at k w.if-bytes-at-eq10.true)
+            | else-bytes-at-eq10 w ↦ omega (arith, v.2, feeds_no s.bytes.now s.at k w.if-bytes-at-eq10.false)
+          ]),
     )
 
 pub loop-k-init : goal.loop-k-init

@@ -1,11 +1,7 @@
 -- After k turns n is the number of line feeds among the first k bytes.
-use mathlib.Core.Path.{◌≡◌, ap, ◌∙◌}
-use mathlib.Core.Logic.{⊎_elim}
-use Prim.Native.Nat.{suc, ◌+◌, ◌-◌, ◌≤◌}
-use native.Mathlib.Omega.{arith}
+use mathlib.Core.Path.{◌≡◌}
+use Prim.Native.Nat.{◌-◌, ◌≤◌}
 use Rattle.lines.specs.Private.{feeds_in}
-use Rattle.lines.proofs.Lines.{feeds_start, feeds_yes, feeds_no}
-use borrow.Author.Rules.{rules}
 use Rattle.lines.proofs.feeds.Given as goal
 
 abbrev pub invariant-loop-k : goal.invariant-loop-k

@@ -5,7 +5,6 @@ use Prim.Native.Nat.{ℕ, suc, ◌+◌}
 use native.Mathlib.Numerals.{add-one}
 use native.Mathlib.Omega.{arith}
 use lib.ListN.{take}
-use borrow.Author.Tests.{not-true, not-false}
 use Rattle.lines.specs.Lines.{is_line}
 use Rattle.lines.proofs.Leading.{short_no_line, passing_start, passing_stop, passing_end, passing_step}
 use borrow.Author.Rules.{rules}
@@ -19,10 +18,10 @@ pub returns : goal.returns
 returns c = search (rules, passing_end)
 
 pub returns-then-not-is_line : goal.returns-then-not-is_line
-returns-then-not-is_line c = search (rules, passing_stop, seen, not-true)
+returns-then-not-is_line c = search (rules, passing_stop, seen)
 
 pub loop-at-preserved : goal.loop-at-preserved
-loop-at-preserved c = search (rules, seen, not-false, add-one, passing_step)
+loop-at-preserved c = search (rules, seen, add-one, passing_step)
 
 pub returns-then-bytes-digits : goal.returns-then-bytes-digits
 returns-then-bytes-digits c =

@@ -1,12 +1,7 @@
 -- A good line's end is known; else no byte passed is a line feed, so the first that is ends the line; without one the line ends with the bytes.
 use mathlib.Core.Path.{◌≡◌}
-use mathlib.Core.Logic.{⊎_elim}
 use Prim.Native.Nat.{ℕ, ◌-◌, ◌≤◌, ◌<◌}
-use native.Mathlib.Nat.{eq-or-lt_of_le, le_of_suc-le-suc}
-use native.Mathlib.Omega.{arith}
 use lib.ListN.{length, get_or}
-use Rattle.lines.proofs.Lines.{ends_here, ends_last, end_past, end_found}
-use borrow.Author.Rules.{rules}
 use Rattle.lines.proofs.line_end.Given as goal
 
 abbrev pub invariant-loop-i : goal.invariant-loop-i

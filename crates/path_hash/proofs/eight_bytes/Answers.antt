@@ -5,4 +5,4 @@ use Rattle.path_hash.proofs.eight_bytes.Goals as goal
 pub returns : goal.returns
 returns c =
     let a = c.args in
-    rw c.u64_at-x.ensures (text_eight a.text.now a.h a.i (λ k. (c.shared_slice_known-1.given k).fits))
+    rw c.u64_at-x.ensures (text_eight a.text.now a.h a.i (λ k. (c.type_inv.text k).fits))

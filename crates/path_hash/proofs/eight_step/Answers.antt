@@ -6,4 +6,4 @@ use Rattle.path_hash.proofs.eight_step.Goals as goal
 
 pub returns : goal.returns
 unfolding eight eight_sum
-returns c = wrapped _ _ _ (search rules) c.wrapping_sub_u32.ensures
+returns c = wrapped _ _ _ (search rules) c.wrapping_sub_u32.ensures.value

@@ -1,8 +1,6 @@
 -- An eight-number step equals eight plain steps, so after each turn the plain hash of the rest is that of the whole list.
-use Rattle.std.proofs.Common.{◌≡◌, ◌+◌, ◌-◌, ◌≤◌, length, drop, sym, ◌∙◌, arith, rules}
-use Rattle.lists.proofs.Table.{rest_all}
+use Rattle.std.proofs.Common.{◌≡◌, ◌-◌, ◌≤◌, length, drop}
 use Rattle.path_hash.specs.Hash.{plain}
-use Rattle.path_hash.proofs.Laws.{plain-eight}
 use Rattle.path_hash.proofs.hash_numbers.Given as goal
 
 abbrev pub invariant-loop-i : goal.invariant-loop-i

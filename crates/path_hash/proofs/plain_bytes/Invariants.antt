@@ -1,7 +1,6 @@
 -- After i turns the plain hash of the bytes left, from the hash so far, is that of all of them.
-use Rattle.std.proofs.Common.{◌≡◌, ◌-◌, ◌<◌, ◌≤◌, length, drop, sym, refl, ◌∙◌, arith, rules}
+use Rattle.std.proofs.Common.{◌≡◌, ◌-◌, ◌≤◌, length, drop}
 use Rattle.path_hash.specs.Hash.{plain}
-use Rattle.path_hash.proofs.Laws.{plain_more, plain_done}
 use Rattle.path_hash.proofs.plain_bytes.Given as goal
 
 abbrev pub invariant-loop-i : goal.invariant-loop-i

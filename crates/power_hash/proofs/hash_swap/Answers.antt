@@ -9,10 +9,10 @@ slice_bounds-hash_vista-end c = simp length-take (omega arith)
 pub returns-then-n-p : goal.returns-then-n-p
 returns-then-n-p c =
     let a = c.args in
-    answer_long a.old-hash a.p a.old.now a.start.now c.if-n-p.true
+    answer_long a.old_hash a.p a.old.now a.start.now c.if-n-p.true
 
 pub returns : goal.returns
 returns c =
     let a = c.args in
-    answer_swapped a.old-hash a.p _ _ _ a.old.now a.start.now c.if-n-p.false c.hash_vista-new.ensures
+    answer_swapped a.old_hash a.p _ _ _ a.old.now a.start.now c.if-n-p.false c.hash_vista-new.ensures
     c.hash_vista-before.ensures c.swapped.ensures

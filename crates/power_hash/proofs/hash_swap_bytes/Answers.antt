@@ -9,10 +9,10 @@ slice_bounds-hash_vista_bytes-end c = simp length-take (omega arith)
 pub returns-then-size-p : goal.returns-then-size-p
 returns-then-size-p c =
     let a = c.args in
-    answer_long a.old-hash a.p a.old.now a.start.now c.if-size-p.true
+    answer_long a.old_hash a.p a.old.now a.start.now c.if-size-p.true
 
 pub returns : goal.returns
 returns c =
     let a = c.args in
-    answer_swapped a.old-hash a.p _ _ _ a.old.now a.start.now c.if-size-p.false c.hash_vista_bytes-new.ensures
+    answer_swapped a.old_hash a.p _ _ _ a.old.now a.start.now c.if-size-p.false c.hash_vista_bytes-new.ensures
     c.hash_vista_bytes-before.ensures c.swapped.ensures

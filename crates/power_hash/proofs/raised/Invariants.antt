@@ -1,6 +1,6 @@
 -- What is gathered and the square to the exponent left stand for the power.
-use Rattle.std.proofs.Common.{◌*◌, ◌%◌, ◌^◌, ◌∙◌, ⊎_elim, rules}
-use Rattle.power_hash.proofs.Products.{Stands, stands_start, stands_odd, stands_even, stands_done}
+use Rattle.std.proofs.Common.{◌*◌, ◌%◌, ◌^◌}
+use Rattle.power_hash.proofs.Products.{Stands}
 use Rattle.power_hash.proofs.raised.Given as goal
 
 abbrev pub invariant-loop-q : goal.invariant-loop-q

@@ -14,14 +14,14 @@ loop-i-preserved c =
       search rules,
       sum_turn a.text.now a.t.now c.loop-i.sum c.loop-i.i _ _ _ _
           p.1 p.0 (search rules)
-          c.wrapping_add_u32-b.ensures c.times.ensures c.wrapping_add_u32-sum.ensures
+          c.wrapping_add_u32-b.ensures.value c.times.ensures c.wrapping_add_u32-sum.ensures.value
           c.loop-i.invariant.2,
     )
 
 pub overflow_cast-text : goal.overflow_cast-text
-overflow_cast-text c = omega (arith, (c.shared_slice_known-in-loop-i-1.given c.loop-i.i).fits)
+overflow_cast-text c = omega (arith, (c.type_inv.text c.loop-i.i).fits)
 
 pub returns : goal.returns
 returns c =
     let s = c.args.text.now in
-    omega (arith, c.wrapping_add_u32.ensures, c.loop-i.invariant.2, left_done s c.loop-i.i c.loop-i-test.false)
+    omega (arith, c.wrapping_add_u32.ensures.value, c.loop-i.invariant.2, left_done s c.loop-i.i c.loop-i-test.false)

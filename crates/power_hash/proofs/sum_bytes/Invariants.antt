@@ -1,8 +1,7 @@
 -- After each turn the sum so far and what is left to add are the Vista hash.
-use Rattle.std.proofs.Common.{◌≡◌, ◌+◌, ◌-◌, ◌%◌, ◌^◌, ◌<◌, ◌≤◌, length, arith, rules}
+use Rattle.std.proofs.Common.{◌≡◌, ◌+◌, ◌-◌, ◌%◌, ◌^◌, ◌<◌, ◌≤◌, length}
 use Rattle.path_hash.specs.Hash.{vista}
-use Rattle.power_hash.proofs.Sum.{left, left_start, left_done}
-use Rattle.power_hash.proofs.Table.{sum_turn}
+use Rattle.power_hash.proofs.Sum.{left}
 use Rattle.power_hash.proofs.sum_bytes.Given as goal
 
 abbrev pub invariant-loop-i : goal.invariant-loop-i

@@ -14,11 +14,11 @@ loop-i-preserved c =
       search rules,
       sum_turn a.cs.now a.t.now c.loop-i.sum c.loop-i.i _ _ _ _
           p.1 p.0 (search rules)
-          c.wrapping_add_u32-c.ensures c.times.ensures c.wrapping_add_u32-sum.ensures
+          c.wrapping_add_u32-c.ensures.value c.times.ensures c.wrapping_add_u32-sum.ensures.value
           c.loop-i.invariant.2,
     )
 
 pub returns : goal.returns
 returns c =
     let s = c.args.cs.now in
-    omega (arith, c.wrapping_add_u32.ensures, c.loop-i.invariant.2, left_done s c.loop-i.i c.loop-i-test.false)
+    omega (arith, c.wrapping_add_u32.ensures.value, c.loop-i.invariant.2, left_done s c.loop-i.i c.loop-i-test.false)

@@ -15,4 +15,4 @@ returns c = search path_shown
 
 pub overflow_cast-i : goal.overflow_cast-i
 overflow_cast-i c =
-    omega (arith, (section_met _ _ _ _ c.section_shown.ensures c.if-not-section_shown.false).below, c.well-formed.1.0)
+    omega (arith, (section_met _ _ _ _ c.section_shown.ensures c.if-not-section_shown.false).below, c.well_formed.1.0)

@@ -8,14 +8,14 @@ returns-then-v-k c = search volumes_asked
 
 pub overflow_cast-i : goal.overflow_cast-i
 overflow_cast-i c =
-    omega (arith, (section_met _ _ _ _ c.section_shown.ensures c.if-not-section_shown.false).below, c.well-formed.1.0)
+    omega (arith, (section_met _ _ _ _ c.section_shown.ensures c.if-not-section_shown.false).below, c.well_formed.1.0)
 
 pub returns-then-not-section_shown : goal.returns-then-not-section_shown
 returns-then-not-section_shown c = search volumes_asked
 
 pub overflow_cast-i-2 : goal.overflow_cast-i-2
 overflow_cast-i-2 c =
-    omega (arith, (section_met _ _ _ _ c.section_shown.ensures c.if-not-section_shown.false).below, c.well-formed.1.0)
+    omega (arith, (section_met _ _ _ _ c.section_shown.ensures c.if-not-section_shown.false).below, c.well_formed.1.0)
 
 pub returns : goal.returns
 returns c = search volumes_asked

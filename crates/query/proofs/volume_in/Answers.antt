@@ -14,7 +14,7 @@ overflow_add-result c =
 
 pub overflow_cast-i : goal.overflow_cast-i
 overflow_cast-i c =
-    omega (arith, (section_met _ _ _ _ c.section_shown.ensures c.if-not-section_shown.false).below, c.well-formed.1.0)
+    omega (arith, (section_met _ _ _ _ c.section_shown.ensures c.if-not-section_shown.false).below, c.well_formed.1.0)
 
 pub returns-then-not-section_shown : goal.returns-then-not-section_shown
 returns-then-not-section_shown c = search volumes_asked

@@ -10,10 +10,10 @@ use borrow.Author.Rules.{rules}
 use Rattle.replay.proofs.take_input.Given as goal
 
 abbrev pub invariant-loop-turns : goal.invariant-loop-turns
-invariant-loop-turns l =
+invariant-loop-turns g l =
     (length l.buffer ≡ length l.initial.buffer)
     × (length l.times ≡ length l.initial.times) × (length l.boards ≡ length l.initial.boards) × (length l.work ≡ length l.initial.work) × (length l.answers ≡ length l.initial.answers)
     × (l.input.kept ≤ length l.initial.buffer)
 
 abbrev pub decreases-loop-turns : goal.decreases-loop-turns
-decreases-loop-turns l = l.turns
+decreases-loop-turns g l = l.turns

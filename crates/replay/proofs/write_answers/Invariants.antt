@@ -8,7 +8,7 @@ use borrow.Author.Rules.{rules}
 use Rattle.replay.proofs.write_answers.Given as goal
 
 abbrev pub invariant-loop-next : goal.invariant-loop-next
-invariant-loop-next l = length l.out ≡ length l.initial.out
+invariant-loop-next g l = length l.out ≡ length l.initial.out
 
 abbrev pub decreases-loop-next : goal.decreases-loop-next
-decreases-loop-next l = l.starts - l.next
+decreases-loop-next g l = l.starts - l.next

@@ -3,8 +3,6 @@ use mathlib.Core.Path.{◌≡◌}
 use Prim.Native.Nat.{◌-◌, ◌≤◌}
 use lib.ListN.{length, take}
 use Rattle.text.specs.Put.{Put}
-use Rattle.text.proofs.Growth.{put_none, put_next, put_end}
-use borrow.Author.Rules.{rules}
 use Rattle.text.proofs.put_all.Given as goal
 
 abbrev pub invariant-loop-i : goal.invariant-loop-i

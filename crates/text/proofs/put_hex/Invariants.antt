@@ -4,8 +4,6 @@ use Prim.Native.Nat.{◌-◌, ◌≤◌}
 use lib.ListN.{length, take}
 use Rattle.digits.specs.Hex.{hex_digits}
 use Rattle.text.specs.Put.{Put}
-use Rattle.text.proofs.Growth.{put_none, hex_next, hex_end}
-use borrow.Author.Rules.{rules}
 use Rattle.text.proofs.put_hex.Given as goal
 
 abbrev pub invariant-loop-k : goal.invariant-loop-k

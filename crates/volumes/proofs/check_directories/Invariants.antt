@@ -1,11 +1,7 @@
 -- Each turn steps over one string; the checks from the cursor on are those of all, so a failing step decides.
-use mathlib.Core.Path.{◌≡◌, sym, ap, ◌∙◌}
-use Prim.Native.Nat.{ℕ, ◌≤◌, ◌-◌}
-use native.Mathlib.Omega.{arith}
-use borrow.Author.Rules.{rules}
-use Rattle.incremental.specs.Decision.{checked_of}
+use mathlib.Core.Path.{◌≡◌}
+use Prim.Native.Nat.{◌≤◌, ◌-◌}
 use Rattle.volumes.specs.Volumes.{directory_checks, directory_count, directories_at}
-use Rattle.volumes.proofs.Laws.{directories_start, directories_step, directories_end}
 use Rattle.volumes.proofs.check_directories.Given as goal
 
 abbrev pub invariant-loop-done : goal.invariant-loop-done

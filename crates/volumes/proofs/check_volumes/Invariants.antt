@@ -1,11 +1,7 @@
 -- Check 8 first; then, while the volumes so far pass, those from i on decide.
-use mathlib.Core.Path.{◌≡◌, sym, ap, ◌∙◌}
+use mathlib.Core.Path.{◌≡◌}
 use Prim.Native.Nat.{◌≤◌, ◌-◌}
-use native.Mathlib.Omega.{arith}
-use Rattle.incremental.specs.Decision.{checked_of}
 use Rattle.volumes.specs.Volumes.{volumes_from}
-use Rattle.volumes.proofs.Laws.{volumes_start, volumes_next, volumes_refused, volumes_end, volumes_crowded, volumes_room}
-use borrow.Author.Rules.{rules}
 use Rattle.volumes.proofs.check_volumes.Given as goal
 
 abbrev pub invariant-loop-i : goal.invariant-loop-i

@@ -4,18 +4,15 @@ use super::{Trouble, INPUT, LARGEST};
 use std::ffi::OsStr;
 use std::fs::{File, Metadata};
 use std::io::{self, Read};
+use std::ops::{Deref, DerefMut};
 use std::path::Path;
 use std::time::SystemTime;
 
 /// Reads one file after another into the same memory.
 #[derive(Default)]
 pub struct Reader {
-    buffer: Vec<u8>,
-    /// Where in it a file starts: at a page, to which the system copies quicker.
-    start: usize,
+    pub(super) buffer: Buffer,
 }
-
-const PAGE: usize = 4_096;
 
 impl Reader {
     /// All bytes of a file, or of standard input for `-`: one at least, and at
@@ -28,7 +25,7 @@ impl Reader {
         };
         match length {
             0 => Err(Trouble::Empty),
-            length => Ok(&self.room()[..length]),
+            length => Ok(&self.buffer[..length]),
         }
     }
 
@@ -51,12 +48,16 @@ impl Reader {
 
     /// Reads to the end, or as many bytes as are expected, if any; gives their
     /// number.
-    fn fill(&mut self, source: &mut impl Read, expected: usize) -> Result<usize, Trouble> {
+    pub(super) fn fill(
+        &mut self,
+        source: &mut impl Read,
+        expected: usize,
+    ) -> Result<usize, Trouble> {
         let mut length = 0;
-        self.make_room(expected, 0);
+        self.buffer.make_room(expected, 0);
         loop {
-            let end = if expected > 0 { expected } else { self.room().len() };
-            match source.read(&mut self.room()[length..end]) {
+            let end = if expected > 0 { expected } else { self.buffer.len() };
+            match source.read(&mut self.buffer[length..end]) {
                 Ok(0) => return Ok(length),
                 Ok(count) => length += count,
                 Err(error) if error.kind() == io::ErrorKind::Interrupted => {}
@@ -68,25 +69,46 @@ impl Reader {
             if length == expected {
                 return Ok(length);
             }
-            if length == self.room().len() {
-                self.make_room(2 * length, length);
+            if length == self.buffer.len() {
+                self.buffer.make_room(2 * length, length);
             }
         }
     }
+}
 
-    fn room(&mut self) -> &mut [u8] {
-        &mut self.buffer[self.start..]
-    }
+/// Bytes that start at a page, to which the system copies quicker.
+#[derive(Default)]
+pub(super) struct Buffer {
+    memory: Vec<u8>,
+    start: usize,
+}
 
+const PAGE: usize = 4_096;
+
+impl Buffer {
     /// Room for so many bytes at least, of which the first are there already.
     fn make_room(&mut self, length: usize, kept: usize) {
         let length = length.clamp(65_536, LARGEST + 1);
-        if self.buffer.len() < self.start + length {
+        if self.len() < length {
             let kept = self.start..self.start + kept;
-            self.buffer.resize(length + PAGE, 0);
-            self.start = self.buffer.as_ptr().align_offset(PAGE).min(PAGE);
-            self.buffer.copy_within(kept, self.start);
+            self.memory.resize(length + PAGE, 0);
+            self.start = self.memory.as_ptr().align_offset(PAGE).min(PAGE);
+            self.memory.copy_within(kept, self.start);
         }
+    }
+}
+
+impl Deref for Buffer {
+    type Target = [u8];
+
+    fn deref(&self) -> &[u8] {
+        &self.memory[self.start..]
+    }
+}
+
+impl DerefMut for Buffer {
+    fn deref_mut(&mut self) -> &mut [u8] {
+        &mut self.memory[self.start..]
     }
 }
 
@@ -99,22 +121,11 @@ fn stamp(data: &Metadata) -> (u64, Option<SystemTime>) {
 mod tests {
     use super::*;
 
-    /// What came before leaves nothing behind.
     #[test]
-    fn memory_serves_one_after_another() {
-        let mut reader = Reader::default();
-        for text in ["a long text", "short", ""] {
-            let length = reader.fill(&mut text.as_bytes(), text.len()).unwrap();
-            assert_eq!(&reader.room()[..length], text.as_bytes());
-        }
-        let bytes = |count: usize| io::repeat(7).take(count as u64);
-        assert_eq!(reader.fill(&mut bytes(LARGEST), 0).unwrap(), LARGEST);
-        let above = reader.fill(&mut bytes(LARGEST + 1), 0);
-        assert!(matches!(above, Err(Trouble::AboveLimit)));
-        // Bytes stay where the room grows.
+    fn bytes_stay_where_the_room_grows() {
         let text: Vec<u8> = (0..300_000u32).map(|i| (i % 251) as u8).collect();
         let mut reader = Reader::default();
         assert_eq!(reader.fill(&mut &text[..], 0).unwrap(), text.len());
-        assert!(reader.room()[..text.len()] == text);
+        assert!(reader.buffer[..text.len()] == text);
     }
 }

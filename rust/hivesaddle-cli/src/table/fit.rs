@@ -6,8 +6,8 @@ use crate::text;
 #[derive(Clone, Copy)]
 pub struct Fit {
     pub width: usize,
-    /// Columns, from the one that is left out first. The first and the last of all
-    /// are not among them: they are cut.
+    /// Columns, from the one that is left out first. The last of all is not among
+    /// them: it is cut, and so is the first, unless it is left out.
     pub order: &'static [usize],
 }
 
@@ -30,9 +30,11 @@ impl Fit {
             }
             limits[column] = None;
         }
-        let others = before(&limits) - widths[0];
-        let room = self.width.saturating_sub(others + least).max(self.width / 3);
-        limits[0] = Some(widths[0].min(room));
+        if limits[0].is_some() {
+            let others = before(&limits) - widths[0];
+            let room = self.width.saturating_sub(others + least).max(self.width / 3);
+            limits[0] = Some(widths[0].min(room));
+        }
         limits[last] = Some(self.width.saturating_sub(before(&limits)));
         limits
     }

@@ -81,16 +81,28 @@ fn names_over_many_files() {
     folder.put("a.pf", file("A.EXE", &[]));
     folder.put("b.pf", file("B.EXE", &[]));
     let found = out(&folder.run(&["names", "--find", "ntDLL", "."]));
-    let row = |file: &str| format!("0\t\\X\\NTDLL.DLL\t./{file}.pf\t0-0\t\n");
-    assert_eq!(found, row("a") + &row("b"));
+    assert_eq!(found, "0\t\\X\\NTDLL.DLL\t./a.pf\n0\t\\X\\NTDLL.DLL\t./b.pf\n");
     let found = out(&folder.run(&["names", "--find=windows\\b", "--csv", "a.pf", "b.pf"]));
-    let titles = "entry,name,file,reference,program";
-    assert_eq!(found, format!("{titles}\n1,{DISK}\\WINDOWS\\B.EXE,b.pf,0-0,by hash\n"));
+    assert_eq!(found, format!("entry,name,file\n1,{DISK}\\WINDOWS\\B.EXE,b.pf\n"));
     let none = folder.run(&["names", "--find", "nowhere", "."]);
     assert_eq!(said(&none), "-- status 0\n");
     let volumes = out(&folder.run(&["volumes", "."]));
     assert_eq!(volumes.lines().count(), 2);
     assert!(volumes.ends_with("\t./b.pf\n"), "{volumes}");
+}
+
+#[test]
+fn references_over_many_files() {
+    let folder = Folder::new("find-references");
+    folder.put("a.pf", file("A.EXE", &[]));
+    folder.put("b.pf", file("B.EXE", &[]));
+    let found = out(&folder.run(&["names", "--references", "--find", "ntDLL", "."]));
+    let row = |file: &str| format!("0\t\\X\\NTDLL.DLL\t./{file}.pf\t0-0\t\n");
+    assert_eq!(found, row("a") + &row("b"));
+    let words = ["names", "--references", "--find=windows\\b", "--csv", "a.pf", "b.pf"];
+    let titles = "entry,name,file,reference,program";
+    let expected = format!("{titles}\n1,{DISK}\\WINDOWS\\B.EXE,b.pf,0-0,by hash\n");
+    assert_eq!(out(&folder.run(&words)), expected);
 }
 
 #[test]
@@ -118,7 +130,6 @@ fn folders_inside_folders() {
         &["check", "--recursive", "top"][..],
         &["names", "--recursive", "top"],
         &["volumes", "--recursive", "top"],
-        &["directories", "--recursive", "top"],
         &["timeline", "--recursive", "top"],
         &["catalogue", "--recursive", "3=top"],
         &["starts", "--recursive", "3=top"],
@@ -130,6 +141,17 @@ fn folders_inside_folders() {
     fs::create_dir_all(folder.0.join("bare/bare")).unwrap();
     let listed = out(&folder.run(&["list", "--recursive", "bare"]));
     assert!(listed.ends_with("\tno .pf files in this folder\n"), "{listed}");
+}
+
+#[test]
+fn directories_of_folders_inside_folders() {
+    let folder = Folder::new("recursive-directories");
+    fs::create_dir_all(folder.0.join("top/inner")).unwrap();
+    folder.put("top/inner/a.pf", small());
+    folder.put("top/inner/packed", b"MAM\x04\x10\0\0\0packed");
+    let shown = folder.run(&["directories", "--recursive", "top"]);
+    assert_eq!(status(&shown), 1, "{}", said(&shown));
+    assert!(!out(&shown).is_empty());
 }
 
 #[test]

@@ -118,7 +118,7 @@ fn said_by_list_timeline_and_names() {
     assert_eq!((fields[2], fields[7], fields[9]), (&*device(2), "5C0A70E1", found));
     let body = out(&folder.run(&["timeline", "--bodyfile", "a.pf"]));
     assert!(body.starts_with(&format!("0|{} (prefetch a.pf)|0|", device(2))), "{body}");
-    let names = out(&folder.run(&["names", "a.pf"]));
+    let names = out(&folder.run(&["names", "--references", "a.pf"]));
     let expected = format!(
         "0\t{VOLUME}\\WINDOWS\\NTDLL.DLL\ta.pf\t0-0\t\n1\t{VOLUME}{PATH}\ta.pf\t0-0\t{found}\n"
     );
@@ -130,17 +130,14 @@ fn said_by_list_timeline_and_names() {
 fn no_path_at_all() {
     let folder = Folder::new("no-path");
     let named = |name: &str| TestFile::new(23).name(name).hash(7).run_time(7);
+    let hosting = "none: the hash of a hosting program covers its command line, \
+                   and no file loaded has its name";
+    let neither = "none: no file loaded has the stored hash or the program's name";
     let cases = [
-        (named("SVCHOST.EXE"), "none: it names no files"),
-        (
-            named("SVCHOST.EXE").file("A"),
-            "none: the hash of a hosting program covers its command line, \
-             and no file loaded has its name",
-        ),
-        (
-            named("A.EXE").file("A"),
-            "none: no file loaded has the stored hash or the program's name",
-        ),
+        (named("SVCHOST.EXE"), hosting),
+        (named("SVCHOST.EXE").file("A"), hosting),
+        (named("A.EXE"), neither),
+        (named("A.EXE").file("A"), neither),
     ];
     for (file, why) in cases {
         let file = file.write().expect("a sound file");

@@ -123,8 +123,7 @@ fn json_has_every_unit() {
         assert_eq!(shown, expected.join(" "));
     }
     let rows = python(OF_JSON, &out(&folder.run(&["names", "--json", "11.pf"])));
-    let [name, file] = [text(names()[11].iter().copied()), words("11.pf")];
-    assert_eq!(rows, [format!("0 {name} {file} {} {}", words("0-0"), words("by hash"))]);
+    assert_eq!(rows, [format!("0 {} {}", text(names()[11].iter().copied()), words("11.pf"))]);
 }
 
 /// As the text is shown, see src/text.rs; an apostrophe before a formula.
@@ -197,12 +196,39 @@ fn no_control_is_written() {
     all.extend([vec!["list", "--csv", "."], vec!["list", "--json", "."]]);
     all.extend([vec!["make", "wrong\u{1B}.txt", "x"], vec!["check", "--\u{1B}"]]);
     for file in &files {
-        all.extend([vec!["names", file], vec!["volumes", file], vec!["directories", file]]);
-        all.extend([vec!["volumes", "--references", file], vec!["timeline", file]]);
+        all.extend([vec!["names", file], vec!["volumes", file]]);
     }
     for words in all {
         let said = said(&folder.run(&words));
         let harmful = |c: char| c.is_control() && c != '\n' && c != '\t' || c == '\u{202E}';
         assert!(!said.contains(harmful), "{words:?}: {said:?}");
     }
+}
+
+/// The same of `directories`, of times, and of what only an option shows.
+#[test]
+fn no_control_of_parts_is_written() {
+    let folder = Folder::new("part-controls");
+    for (i, name) in names().iter().enumerate() {
+        let file_name = format!("{i}\u{1B}.pf");
+        folder.put(&file_name, file(name));
+        for words in [
+            &["names", "--references"][..],
+            &["directories"],
+            &["volumes", "--references"],
+            &["timeline"],
+        ] {
+            let said = said(&folder.run(&[words, &[&*file_name]].concat()));
+            let harmful = |c: char| c.is_control() && c != '\n' && c != '\t' || c == '\u{202E}';
+            assert!(!said.contains(harmful), "{words:?}: {said:?}");
+        }
+    }
+}
+
+#[test]
+fn json_has_every_unit_beside_a_reference() {
+    let folder = folder();
+    let rows = python(OF_JSON, &out(&folder.run(&["names", "--references", "--json", "11.pf"])));
+    let [name, file] = [text(names()[11].iter().copied()), words("11.pf")];
+    assert_eq!(rows, [format!("0 {name} {file} {} {}", words("0-0"), words("by hash"))]);
 }

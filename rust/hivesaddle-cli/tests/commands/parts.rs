@@ -1,7 +1,9 @@
 //! What stands in a file: directories and file references.
 
-use crate::folder::{out, said, status, Folder};
+use crate::folder::{out, root, said, small, status, Folder};
+use crate::help::{copy, path_with_program};
 use hivesaddle::{Reference, TestFile, TestVolume};
+use std::process::Command;
 
 fn volume(path: &str, references: &[(u64, u16)], directories: &[&str]) -> TestVolume {
     let reference =
@@ -42,6 +44,30 @@ fn directories() {
     assert_eq!(status(&shown), 1);
 }
 
+/// The general help does not list it, and it has one of its own.
+#[test]
+fn help_of_directories() {
+    let folder = Folder::new("directories-help");
+    copy(&root().join("examples"), &folder.0.join("examples"));
+    folder.put("examples/samples/small.pf", small());
+    let help = folder.run(&["directories", "--help"]);
+    assert_eq!(said(&help), said(&folder.run(&["help", "directories"])));
+    let help = out(&help);
+    assert!(help.starts_with("usage: hivesaddle directories "), "{help}");
+    assert!(help.lines().all(|line| line.chars().count() <= 100), "{help}");
+    let (_, example) = help.split_once("\nexample: ").expect("an example");
+    let output = Command::new("sh")
+        .args(["-c", example])
+        .current_dir(&folder.0)
+        .env("PATH", path_with_program())
+        .output()
+        .expect("a shell");
+    assert_eq!(status(&output), 0, "{}", said(&output));
+    assert!(!output.stdout.is_empty() && output.stderr.is_empty(), "{}", said(&output));
+    // The help of `volumes` leads to it.
+    assert!(out(&folder.run(&["volumes", "--help"])).contains("directories` shows"));
+}
+
 #[test]
 fn references_of_volumes() {
     let folder = files();
@@ -63,9 +89,11 @@ fn references_of_names() {
         let metrics = u32::from_le_bytes(file[84..88].try_into().unwrap()) as usize;
         file[metrics + 24..metrics + 32].copy_from_slice(&[0xFF, 2, 0, 0, 0, 1, 3, 0]);
         folder.put("a.pf", &file);
-        let names = out(&folder.run(&["names", "a.pf"]));
+        let names = out(&folder.run(&["names", "--references", "a.pf"]));
         assert_eq!(names, "0\tA\ta.pf\t1099511628543-3\t\n1\tB\ta.pf\t0-0\t\n");
     }
     folder.put("a.pf", TestFile::new(17).file("A").lay_out());
-    assert_eq!(out(&folder.run(&["names", "a.pf"])), "0\tA\ta.pf\t\t\n");
+    assert_eq!(out(&folder.run(&["names", "--references", "a.pf"])), "0\tA\ta.pf\t\t\n");
+    // Without the option there is no such column.
+    assert_eq!(out(&folder.run(&["names", "a.pf"])), "0\tA\ta.pf\n");
 }

@@ -86,9 +86,6 @@ fn a_start_is_written_once() {
     let times: Vec<String> = out(&made).lines().map(|line| line[15..18].to_string()).collect();
     assert_eq!(times, ["503", "403", "303", "903", "803", "703", "603", "203"]);
     assert_eq!(err(&made), "hivesaddle: starts: 3 starts stood more than once, and count once\n");
-    // More than a file keeps.
-    put(&folder, "w0", &eight(&[16, 15, 14, 13, 12, 11, 10, 9]));
-    assert_eq!(out(&run(&folder, "starts 3=w1 3=w2 3=w0")).lines().count(), 15);
     // Another board, or another name with the same hash, is another start.
     let made = run(&folder, "starts 3=w1 7=w1");
     assert_eq!(out(&made).lines().count(), 6);
@@ -98,6 +95,16 @@ fn a_start_is_written_once() {
     let made = run(&folder, "starts 3=w1 3=w3");
     assert_eq!(out(&made).lines().count(), 4);
     assert_eq!(err(&made), "hivesaddle: starts: 1 start stood more than once, and counts once\n");
+}
+
+/// Over more pulls than a file keeps starts.
+#[test]
+fn starts_of_many_pulls() {
+    let folder = Folder::new("many-pulls");
+    put(&folder, "w1", &eight(&[5, 4, 4, 3]));
+    put(&folder, "w2", &eight(&[9, 8, 7, 6, 5, 4, 3, 2]));
+    put(&folder, "w0", &eight(&[16, 15, 14, 13, 12, 11, 10, 9]));
+    assert_eq!(out(&run(&folder, "starts 3=w1 3=w2 3=w0")).lines().count(), 15);
 }
 
 /// What was made of pulls without joining them.

@@ -105,7 +105,6 @@ fn why_a_line_is_bad() {
             (1, format!("{line}\r\n").repeat(2).into_bytes(), windows),
             (2, two(&format!("{line}\r\n{line}\r\n")), windows),
             (2, two(&format!("{small}\n{line}\n")), "it has lowercase digits"),
-            (2, two(&format!("{line} \t\n{line}\n")), "it has blanks behind its digits"),
             (2, two(line), "it is the last, and has no line feed behind it"),
             (
                 1,
@@ -129,6 +128,20 @@ fn why_a_line_is_bad() {
             let piped = folder.run_with(&words.split(' ').collect::<Vec<&str>>(), &bad);
             assert_eq!(complaint(&piped, 1).ends_with(why), is_start);
         }
+    }
+}
+
+#[test]
+fn blanks_behind_a_line_are_said() {
+    let folder = Folder::new("blanks");
+    let (start, reading) = ("00000000000000050300000041", "000000000000000503FF38");
+    for (name, line) in [("starts.txt", start), ("recording.txt", reading)] {
+        folder.put("starts.txt", format!("{start}\n"));
+        folder.put("recording.txt", format!("{reading}\n"));
+        folder.put(name, format!("{line}\n{line} \t\n{line}\n"));
+        let said = complaint(&run(&folder, "replay starts.txt recording.txt"), 1);
+        assert!(said.starts_with(&format!("{name}: refused 22: line 2 is no ")), "{said}");
+        assert!(said.ends_with(": it has blanks behind its digits"), "{said}");
     }
 }
 

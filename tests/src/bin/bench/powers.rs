@@ -8,7 +8,7 @@ const SHORT_TURNS: usize = 101;
 const PATHS: usize = 200_000;
 /// Bytes or numbers hashed in one turn of a single length.
 const NUMBERS: usize = 1 << 17;
-const LENGTHS: [usize; 11] = [10, 50, 100, 150, 200, 300, 384, 385, 512, 1_024, 2_000];
+const LENGTHS: [usize; 10] = [10, 50, 100, 150, 200, 256, 257, 512, 1_024, 2_000];
 
 const OLD_VOLUME: &str = r"\DEVICE\HARDDISKVOLUME1";
 const NEW_VOLUME: &str = r"\DEVICE\HARDDISKVOLUME2";

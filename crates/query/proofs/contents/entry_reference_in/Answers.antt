@@ -18,4 +18,4 @@ file_reference-requires c =
 pub overflow_cast-i : goal.overflow_cast-i
 overflow_cast-i c =
     let h : c.args.i < c.args.o.head.metrics.count = search entry_below in
-    omega (arith, c.well-formed.1.0)
+    omega (arith, c.well_formed.1.0)

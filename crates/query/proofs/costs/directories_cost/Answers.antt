@@ -1,5 +1,4 @@
 use mathlib.Core.Path.{◌≡◌, sym, ap, ◌∙◌}
-use mathlib.Core.Logic.{⊎_elim}
 use Prim.Native.Nat.{ℕ}
 use native.Mathlib.Omega.{arith}
 use Rattle.lists.specs.Count.{sum_below}
@@ -7,6 +6,7 @@ use Rattle.lists.proofs.Sum.{sum-zero}
 use Rattle.query.specs.Cost.{directory_cost}
 use Rattle.query.proofs.Sums.{directories_most, sum_next}
 use Rattle.query.proofs.costs.directories_cost.Goals as goal
+use Rattle.query.proofs.costs.directories_cost.Goals.{then-bytes-size, else-bytes-size}
 
 pub loop-i-preserved : goal.loop-i-preserved
 loop-i-preserved c =
@@ -14,8 +14,10 @@ loop-i-preserved c =
     let f = directory_cost a.l a.section.now a.size in
     let n = c.directory_count.ensures in (
       omega arith,
-      ⊎_elim (λ w. omega (arith, c.loop-i.invariant.1, sum_next f c.loop-i.i, n)) (λ w. omega (arith, c.loop-i.invariant.1, sum_next f c.loop-i.i, n))
-          c.if-bytes-size.branch,
+      elim c.if-bytes-size.branch [
+        | then-bytes-size w ↦ omega (arith, c.loop-i.invariant.1, sum_next f c.loop-i.i, n)
+        | else-bytes-size w ↦ omega (arith, c.loop-i.invariant.1, sum_next f c.loop-i.i, n)
+      ],
     )
 
 pub overflow_add-sum : goal.overflow_add-sum

@@ -1,13 +1,8 @@
 -- After i turns the sum is that of the first i entries, each of which costs no more than the size.
-use mathlib.Core.Path.{◌≡◌, sym, ap, ◌∙◌}
-use mathlib.Core.Logic.{⊎_elim}
-use Prim.Native.Nat.{ℕ, ◌-◌, ◌≤◌}
-use native.Mathlib.Omega.{arith}
+use mathlib.Core.Path.{◌≡◌}
+use Prim.Native.Nat.{◌-◌, ◌≤◌}
 use Rattle.lists.specs.Count.{sum_below}
-use Rattle.lists.proofs.Sum.{sum-zero}
 use Rattle.query.specs.Cost.{directory_cost}
-use Rattle.query.proofs.Sums.{directories_most, sum_next}
-use borrow.Author.Rules.{rules}
 use Rattle.query.proofs.costs.directories_cost.Given as goal
 
 abbrev pub invariant-loop-i : goal.invariant-loop-i

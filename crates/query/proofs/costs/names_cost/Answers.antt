@@ -1,5 +1,4 @@
 use mathlib.Core.Path.{◌≡◌, sym, ap, ◌∙◌}
-use mathlib.Core.Logic.{⊎_elim}
 use Prim.Native.Nat.{ℕ}
 use native.Mathlib.Omega.{arith}
 use Rattle.lists.specs.Count.{sum_below}
@@ -7,6 +6,7 @@ use Rattle.lists.proofs.Sum.{sum-zero}
 use Rattle.query.specs.Cost.{name_cost}
 use Rattle.query.proofs.Sums.{names_most, name_counts, name_passed, sum_next}
 use Rattle.query.proofs.costs.names_cost.Goals as goal
+use Rattle.query.proofs.costs.names_cost.Goals.{then-name_fits, else-name_fits}
 
 pub loop-i-init : goal.loop-i-init
 loop-i-init c = (omega arith, sym (sum-zero _))
@@ -17,22 +17,22 @@ loop-i-preserved c =
     let f = name_cost a.l a.metrics.now a.size in
     let i = c.loop-i.i in (
       omega arith,
-      ⊎_elim
-          (λ w.
-          omega (
-            arith,
-            c.loop-i.invariant.1,
-            sum_next f i,
-            name_counts a.l a.metrics.now a.size i c.name_at-at.ensures c.name_units-units.ensures c.name_fits.ensures w.0.taken,
-          ))
-          (λ w.
-          omega (
-            arith,
-            c.loop-i.invariant.1,
-            sum_next f i,
-            name_passed a.l a.metrics.now a.size i c.name_at-at.ensures c.name_units-units.ensures c.name_fits.ensures w.0.left,
-          ))
-          c.if-name_fits.branch,
+      elim c.if-name_fits.branch [
+        | then-name_fits w ↦
+            omega (
+              arith,
+              c.loop-i.invariant.1,
+              sum_next f i,
+              name_counts a.l a.metrics.now a.size i c.name_at-at.ensures c.name_units-units.ensures c.name_fits.ensures w.if-name_fits.true,
+            )
+        | else-name_fits w ↦
+            omega (
+              arith,
+              c.loop-i.invariant.1,
+              sum_next f i,
+              name_passed a.l a.metrics.now a.size i c.name_at-at.ensures c.name_units-units.ensures c.name_fits.ensures w.if-name_fits.false,
+            )
+      ],
     )
 
 pub overflow_add-sum-then-name_fits : goal.overflow_add-sum-then-name_fits

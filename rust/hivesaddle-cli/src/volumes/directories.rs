@@ -5,7 +5,6 @@ use crate::options::{of_files, of_tables};
 use crate::outcome::Outcome;
 use crate::parts::{Parts, Put, Whole};
 use crate::table::Cell;
-use crate::volumes;
 use std::ffi::OsString;
 use std::io;
 
@@ -40,7 +39,7 @@ pub fn run(words: Vec<OsString>) -> Outcome {
 }
 
 fn each(whole: &Whole, put: &mut Put) -> io::Result<()> {
-    for (i, _) in volumes::shown(whole) {
+    for (i, _) in super::shown(whole) {
         let directories = hivesaddle::directories(whole.file, i);
         for directory in directories.into_iter().filter(|text| whole.is_wanted(text)) {
             let cells = [Cell::Number(i), Cell::units(Some(directory)), Cell::name(whole.name)];
