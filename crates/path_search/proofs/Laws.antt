@@ -1,6 +1,6 @@
 -- The search on the sections is the search on the file: an entry lies whole in the metrics exactly when it is one of those looked at,
 -- and its name has the same bytes. And what a found path is.
-use Rattle.std.proofs.Common.{◌≡◌, ℕ, ◌+◌, ◌*◌, ◌%◌, ◌^◌, ◌<◌, ◌≤◌, Bool, true, false, ◌&&◌, eqb, ltb, List, [], ◌++◌, length, get_or, take, drop, sym, ap, ◌∙◌, le_trans, le_refl, div-lt_iff_lt-mul, add-mul, one-mul, le-div_iff_mul-le, arith, take-append-drop, le-ltb, lt-ltb, ne_eqb, le-leb}
+use Rattle.std.proofs.Common.{◌≡◌, ℕ, ◌+◌, ◌*◌, ◌%◌, ◌^◌, ◌<◌, ◌≤◌, Bool, true, false, ◌&&◌, eqb, ltb, List, [], ◌++◌, length, get_or, take, drop, sym, ap, ◌∙◌, le_trans, le_refl, div-le_self, div-lt_iff_lt-mul, add-mul, one-mul, le-div_iff_mul-le, arith, take-append-drop, le-ltb, lt-ltb, ne_eqb, le-leb}
 use borrow.Author.Tests.{lt-leb}
 use Rattle.lists.proofs.Tests.{by_test}
 use Rattle.little_endian.proofs.Number.{le-lt}
@@ -131,6 +131,10 @@ from_matches o p v start s l n i =
       plain-append (hash_start o.version) start (drop (length (path_of o p v)) (name_of o p i)),
     )
     (by_test (entry_shown o p i) (λ e. rw e) (λ e. rw e))
+
+-- there are fewer entries than bytes, of which there are few
+pub few_entries : (l : Layout) (metrics : List ℕ) → length metrics ≤ size_limit → entries_in l metrics ≤ size_limit
+few_entries l metrics h = omega (arith, div-le_self (length metrics) l.metrics_entry)
 
 -- for the code, which has the sections from calls
 pub metrics_low : (o : Opening) (p : List ℕ) {metrics : List ℕ} → OpenFacts p o → metrics ≡ part o.head.metrics p → length metrics ≤ size_limit

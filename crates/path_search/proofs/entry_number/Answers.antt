@@ -1,6 +1,5 @@
 -- A name that does not fit has no number; one that fits is hashed first, and only where a number is left its soundness decides.
 use Rattle.std.proofs.Common.{sym, refl, ◌∙◌, arith}
-use borrow.Author.Tests.{not-true, not-false}
 use Rattle.names.proofs.Laws.{fits_le}
 use Rattle.path_search.proofs.NameNumber.{match_misfit, match_none, match_sound, match_unsound}
 use Rattle.path_search.proofs.entry_number.Goals as goal
@@ -18,11 +17,11 @@ returns-then-n-eq-NO_NUMBER c =
 pub returns-then-not-name_fits : goal.returns-then-not-name_fits
 returns-then-not-name_fits c =
     match_misfit _ _ _ _ _ _ c.name_at-at.ensures c.name_units-units.ensures
-    (sym c.name_fits.ensures ∙ not-true _ c.if-not-name_fits.true)
+    (sym c.name_fits.ensures ∙ c.if-not-name_fits.true)
 
 pub slice_bounds-number_of-end : goal.slice_bounds-number_of-end
 slice_bounds-number_of-end c =
-    let h = fits_le _ _ _ (sym c.name_fits.ensures ∙ not-false _ c.if-not-name_fits.false) in
+    let h = fits_le _ _ _ (sym c.name_fits.ensures ∙ c.if-not-name_fits.false) in
     omega arith
 
 pub returns-else-name_sound : goal.returns-else-name_sound

@@ -6,4 +6,4 @@ use Rattle.path_search.proofs.path_in.Goals as goal
 pub returns : goal.returns
 returns c =
     path_given c.args.o c.args.file.now c.requires (omega arith)
-    (stored_low _ (λ k. (c.shared_slice_known-1.given k).fits)) c.part.ensures.contents c.hash_start.ensures c.search_in.ensures
+    (stored_low _ (λ k. (c.type_inv.file k).fits)) c.part.ensures.contents c.hash_start.ensures c.search_in.ensures

@@ -7,7 +7,7 @@ use Rattle.path_search.proofs.paths_in.Goals as goal
 pub returns : goal.returns
 returns c =
     pairs-given c.args.o c.args.file.now c.requires (omega arith)
-    (stored_low _ (λ k. (c.shared_slice_known-1.given k).fits)) c.part.ensures.contents c.hash_start.ensures
+    (stored_low _ (λ k. (c.type_inv.file k).fits)) c.part.ensures.contents c.hash_start.ensures
     c.part_of-metrics.ensures.contents c.part_of-strings.ensures.contents c.sought_in-sought.ensures c.list_in.ensures
 
 pub list_in-requires : goal.list_in-requires

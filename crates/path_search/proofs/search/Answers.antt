@@ -2,16 +2,9 @@ use Rattle.std.proofs.Common.{◌≤◌, length, ⊎_elim, div-le_self, arith}
 use Rattle.layout.specs.Versions.{size_limit}
 use Rattle.path_search.specs.Private.{entries_in}
 use Rattle.path_search.proofs.Least.{lowest_start, lowest_less, lowest-same, lowest-end, lowest_at, lowest-none, lowest-zero}
-use Rattle.path_search.proofs.Laws.{metric_some}
+use Rattle.path_search.proofs.Laws.{metric_some, few_entries}
 use Rattle.path_search.proofs.search.Goals as goal
-
--- there are fewer entries than bytes, of which there are few
-few : (s : goal.In-loop-i) → entries_in s.args.l s.args.metrics.now ≤ size_limit
-few s = omega (arith, s.requires.0, div-le_self (length s.args.metrics.now) s.args.l.metrics_entry)
-
--- there are fewer entries than bytes, of which there are few_2
-few_2 : (s : goal.Joined-n-least) → entries_in s.args.l s.args.metrics.now ≤ size_limit
-few_2 s = omega (arith, s.requires.0, div-le_self (length s.args.metrics.now) s.args.l.metrics_entry)
+use Rattle.path_search.proofs.search.Goals.{then-n-least, else-n-least}
 
 pub returns : goal.returns
 returns c =
@@ -30,10 +23,12 @@ loop-i-preserved c =
     let w = c.loop-i in
     let low = w.invariant.2 in
     let number = c.entry_number-n.ensures in
-    ⊎_elim
-    (λ z. (omega arith, omega (arith, z.1, c.if-n-eq0.false), rw (z.1, z.2) (lowest_less _ _ _ _ _ low number z.0.taken)))
-    (λ z. (omega arith, omega (arith, z.1, w.invariant.1), rw (z.1, z.2) (lowest-same _ _ _ _ _ low number z.0.left)))
-    c.if-n-least.branch
+    elim c.if-n-least.branch [
+      then-n-least z ↦
+        (omega arith, omega (arith, z.least-is, c.if-n-eq0.false), rw (z.least-is, z.index-is) (lowest_less _ _ _ _ _ low number z.if-n-least.true))
+    | else-n-least z ↦
+        (omega arith, omega (arith, z.least-is, w.invariant.1), rw (z.least-is, z.index-is) (lowest-same _ _ _ _ _ low number z.if-n-least.false))
+    ]
 
 pub loop-i-init : goal.loop-i-init
 loop-i-init c = (omega arith, omega arith, lowest_start _)
@@ -47,7 +42,7 @@ pub nonzero_div-entries : goal.nonzero_div-entries
 nonzero_div-entries c = metric_some _ c.requires.1
 
 pub overflow_cast-i : goal.overflow_cast-i
-overflow_cast-i c = omega (arith, few c)
+overflow_cast-i c = omega (arith, few_entries c.args.l c.args.metrics.now c.requires.0)
 
 pub overflow_add-i : goal.overflow_add-i
-overflow_add-i c = omega (arith, few_2 c)
+overflow_add-i c = omega (arith, few_entries c.args.l c.args.metrics.now c.requires.0)

@@ -5,7 +5,7 @@ use Rattle.path_search.proofs.begins.begins_with.Goals as goal
 
 pub returns : goal.returns
 returns c =
-    begins_below _ _ (λ k. (c.shared_slice_known-2-1.given k).fits) c.if-name-end.false (omega arith)
+    begins_below _ _ (λ k. (c.type_inv.name k).fits) c.if-name-end.false (omega arith)
     (sym c.u16_at.ensures ∙ c.if-u16_at-ne-BACKSLASH.false) c.same_start-2.ensures
 
 pub returns-then-name-end : goal.returns-then-name-end

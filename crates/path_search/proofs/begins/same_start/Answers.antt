@@ -19,7 +19,7 @@ pub loop-i-preserved : goal.loop-i-preserved
 loop-i-preserved c =
     (
       omega arith,
-      agree_eight _ _ c.loop-i.i (λ k. (c.shared_slice_known-1.given k).fits) (λ k. (c.shared_slice_known-2-1.given k).fits) c.loop-i.invariant.1
+      agree_eight _ _ c.loop-i.i (λ k. (c.type_inv.path k).fits) (λ k. (c.type_inv.name k).fits) c.loop-i.invariant.1
           (sym c.u64_at.ensures ∙ c.if-u64_at.false ∙ c.u64_at-in-loop-i.ensures),
     )
 

@@ -12,5 +12,5 @@ pub returns : goal.returns
 returns c =
     let a = c.args in
     from_given a.o a.file.now a.volume a.start.now c.requires (omega arith)
-    (stored_low _ (λ k. (c.shared_slice_known-1.given k).fits)) c.path_in-path.ensures.contents c.if-path-eq0.false
+    (stored_low _ (λ k. (c.type_inv.file k).fits)) c.path_in-path.ensures.contents c.if-path-eq0.false
     c.hash_start.ensures c.carry_bytes-from.ensures c.search_in.ensures
