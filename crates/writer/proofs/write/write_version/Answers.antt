@@ -49,14 +49,14 @@ write_planned-requires c =
         known = c.requires.1;
         writable = rw c.of-l.ensures c.requires.0;
         numbers = record {
-      units = λ k. omega (arith, c.type_inv.name k);
-      hash = omega (arith, c.well_formed);
-      time = omega (arith, c.well_formed);
-      count = omega (arith, c.well_formed);
-      metrics = λ k. omega (arith, c.type_inv.metrics k);
-      trace = λ k. omega (arith, c.type_inv.trace k);
-      volumes = omega (arith, c.well_formed);
-    };
+          units = λ k. omega (arith, c.type_inv.name k);
+          hash = omega (arith, c.well_formed);
+          time = omega (arith, c.well_formed);
+          count = omega (arith, c.well_formed);
+          metrics = λ k. omega (arith, c.type_inv.metrics k);
+          trace = λ k. omega (arith, c.type_inv.trace k);
+          volumes = omega (arith, c.well_formed);
+        };
         plan = fits.0;
         small = fits.1;
         named = c.name_units-units.ensures;
