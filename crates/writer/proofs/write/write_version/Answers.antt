@@ -1,11 +1,7 @@
 -- 3, then 4, and the rest by a plan.
 use mathlib.Core.Path.{sym, ◌∙◌}
-use mathlib.Core.List.{List}
-use Prim.Native.Nat.{ℕ, ◌<◌}
 use native.Mathlib.Omega.{arith}
-use lib.ListN.{get_or}
 use Rattle.writer.proofs.Answering.{below_30, version_laid, plan_is, plan_none, version_large, version_endless}
-use Rattle.writer.specs.LaidOut.{description_of, Numbers}
 use Rattle.writer.proofs.write.write_version.Goals as goal
 
 pub plan_of-requires : goal.plan_of-requires
