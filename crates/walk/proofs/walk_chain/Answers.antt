@@ -1,9 +1,9 @@
 -- What is read at an entry are its next index and its block count; the laws of `Going` say the rest.
 use mathlib.Core.List.{List}
-use Prim.Native.Nat.{ℕ, ◌+◌, ◌<◌, ◌≤◌}
+use Prim.Native.Nat.{ℕ, ◌+◌, ◌<◌}
 use native.Mathlib.Omega.{arith}
 use lib.ListN.{length}
-use Rattle.trace.specs.Links.{end, nexts}
+use Rattle.trace.specs.Links.{nexts}
 use Rattle.trace.proofs.Steps.{length-nexts}
 use Rattle.walk.specs.declared.Visits.{Visits}
 use Rattle.walk.specs.Walk.{chain_of}

@@ -1,14 +1,9 @@
 -- What has been written and what is left of the chain make up the whole of it, so there is room for each entry.
-use mathlib.Core.Path.{◌≡◌}
-use mathlib.Core.List.{List}
-use Prim.Native.Nat.{ℕ, ◌+◌, ◌-◌, ◌<◌}
-use native.Mathlib.Omega.{arith}
+use Prim.Native.Nat.{◌-◌}
 use lib.ListN.{length}
-use borrow.Author.Rules.{rules}
 use Rattle.trace.specs.Links.{nexts}
-use Rattle.trace.proofs.Steps.{length-nexts}
 use Rattle.walk.specs.Walk.{blocks, chain_of}
-use Rattle.walk.proofs.AlongChain.{next_is, block_is, Going, going_start, going_room, going_step, going_end}
+use Rattle.walk.proofs.AlongChain.{Going}
 use Rattle.walk.proofs.walk_chain.Given as goal
 
 abbrev pub invariant-loop-j : goal.invariant-loop-j

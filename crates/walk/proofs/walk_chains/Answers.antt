@@ -1,7 +1,6 @@
 -- The table tells whether an entry is a head, and the chain of a head is written behind the others.
 use mathlib.Core.Path.{◌≡◌, refl, ap, ◌∙◌}
-use mathlib.Core.List.{List}
-use Prim.Native.Nat.{ℕ, ◌<◌}
+use Prim.Native.Nat.{◌<◌}
 use native.Mathlib.Omega.{arith}
 use lib.ListN.{length}
 use Rattle.trace.specs.Links.{nexts}
@@ -36,11 +35,11 @@ loop-h-preserved c =
     let inside : c.loop-h.h < length s = omega (arith, n) in (
       omega arith,
       elim c.if-predecessors-h.branch [
-          then-predecessors-h w ↦ ap length (w.order-is ∙ w.walk_chain-visits.ensures.placed) ∙ length-written _ _ _ ∙ v.1
+        | then-predecessors-h w ↦ ap length (w.order-is ∙ w.walk_chain-visits.ensures.placed) ∙ length-written _ _ _ ∙ v.1
         | else-predecessors-h w ↦ ap length w.order-is ∙ v.1
       ],
       elim c.if-predecessors-h.branch [
-          then-predecessors-h w ↦
+        | then-predecessors-h w ↦
             rw (w.order-is, w.visits-is)
             (visit_head s _ _ c.loop-h.h _ _ v.2 _ _ (head_yes s _ _ c.loop-h.h p inside 0 _ refl w.if-predecessors-h.true) w.walk_chain-visits.ensures)
         | else-predecessors-h w ↦

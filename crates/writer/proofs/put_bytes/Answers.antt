@@ -1,8 +1,8 @@
 -- One byte more is laid behind those that are there.
-use mathlib.Core.Path.{◌≡◌, ap, ◌∙◌}
+use mathlib.Core.Path.{ap, ◌∙◌}
 use Prim.Native.Nat.{◌+◌}
 use native.Mathlib.Omega.{arith}
-use lib.ListN.{length, length-take}
+use lib.ListN.{length-take}
 use lib.Seq.{take_all}
 use Rattle.writer.specs.Private.{patch}
 use Rattle.writer.proofs.Stores.{patch-none, patch_one, then_laid, laid_long, bytes_more}

@@ -10,12 +10,11 @@ use Rattle.writer.proofs.HeadPieces.{first_ordered, first_long, behind_long, hea
 use Rattle.writer.proofs.put_head.Goals as goal
 
 pub put_zeros-requires : goal.put_zeros-requires
-put_zeros-requires c =
-    (
-      omega (arith, c.requires.0.head, c.requires.0.section),
-      omega
-          (arith, c.put_fields.auto.output, c.put_units.auto.output, c.put_numbers.auto.output, c.requires.1),
-    )
+put_zeros-requires c = (
+  omega (arith, c.requires.0.head, c.requires.0.section),
+  omega
+      (arith, c.put_fields.auto.output, c.put_units.auto.output, c.put_numbers.auto.output, c.requires.1),
+)
 
 pub put_numbers-requires : goal.put_numbers-requires
 put_numbers-requires c =

@@ -1,9 +1,7 @@
 -- What is put and what is left make up the whole.
 use Prim.Native.Nat.{◌-◌}
-use native.Mathlib.Omega.{arith}
 use lib.ListN.{length}
-use Rattle.writer.proofs.Entries.{Putting, putting_start, putting_room, putting_step, putting_end}
-use borrow.Author.Rules.{rules}
+use Rattle.writer.proofs.Entries.{Putting}
 use Rattle.writer.proofs.put_numbers.Given as goal
 
 abbrev pub invariant-loop-i : goal.invariant-loop-i

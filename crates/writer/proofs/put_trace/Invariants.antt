@@ -1,12 +1,8 @@
 -- After i turns the first i entries are there.
-use mathlib.Core.Path.{refl}
 use Prim.Native.Nat.{◌-◌}
-use native.Mathlib.Omega.{arith}
 use Rattle.layout.specs.Versions.{trace_entry}
 use Rattle.writer.specs.LaidOut.{trace_bytes}
-use Rattle.sections.proofs.Cases.{length-fits}
-use Rattle.writer.proofs.Entries.{trace_size, Laying, laying_start, laying_long, laying_room, laying_step, laying_end}
-use borrow.Author.Rules.{rules}
+use Rattle.writer.proofs.Entries.{Laying}
 use Rattle.writer.proofs.put_trace.Given as goal
 
 abbrev pub invariant-loop-i : goal.invariant-loop-i

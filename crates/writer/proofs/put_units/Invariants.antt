@@ -1,13 +1,9 @@
 -- The first i units are there after i turns.
-use mathlib.Core.Path.{◌≡◌, ◌∙◌}
-use Prim.Native.Nat.{◌-◌, ◌*◌, ◌≤◌}
-use native.Mathlib.Omega.{arith}
-use lib.ListN.{length, take, length-take}
+use mathlib.Core.Path.{◌≡◌}
+use Prim.Native.Nat.{◌-◌, ◌≤◌}
+use lib.ListN.{take}
 use Rattle.writer.specs.Private.{patch}
 use Rattle.writer.specs.LaidOut.{unit_bytes}
-use Rattle.writer.proofs.Bytes.{length-units}
-use Rattle.writer.proofs.Stores.{patch-none, then_laid, laid_long, laid_by, units_more}
-use borrow.Author.Rules.{rules}
 use Rattle.writer.proofs.put_units.Given as goal
 
 abbrev pub invariant-loop-i : goal.invariant-loop-i

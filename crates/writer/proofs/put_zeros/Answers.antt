@@ -1,8 +1,7 @@
 -- One zero more is laid behind those that are there.
-use mathlib.Core.Path.{◌≡◌}
 use Prim.Native.Nat.{ℕ, ◌-◌}
 use native.Mathlib.Omega.{arith}
-use lib.ListN.{length, replicate, length-replicate}
+use lib.ListN.{replicate, length-replicate}
 use Rattle.writer.proofs.Stores.{patch_one, then_laid, laid_long, laid_by, zeros_start, zeros_next}
 use Rattle.writer.proofs.put_zeros.Goals as goal
 

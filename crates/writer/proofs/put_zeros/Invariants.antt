@@ -1,11 +1,8 @@
 -- So many zeros are there after each turn.
 use mathlib.Core.Path.{◌≡◌}
-use Prim.Native.Nat.{ℕ, ◌-◌, ◌≤◌}
-use native.Mathlib.Omega.{arith}
-use lib.ListN.{length, replicate, length-replicate}
+use Prim.Native.Nat.{◌-◌, ◌≤◌}
+use lib.ListN.{replicate}
 use Rattle.writer.specs.Private.{patch}
-use Rattle.writer.proofs.Stores.{patch_one, then_laid, laid_long, laid_by, zeros_start, zeros_next}
-use borrow.Author.Rules.{rules}
 use Rattle.writer.proofs.put_zeros.Given as goal
 
 abbrev pub invariant-loop-i : goal.invariant-loop-i

@@ -13,12 +13,11 @@ returns-in-At-entries_fault c =
     c.entries_fault.ensures c.in-At-entries_fault.is c.refuse-in-At-entries_fault.ensures
 
 pub check_tables-requires : goal.check_tables-requires
-check_tables-requires c =
-    (
-      places_met _ _ _ c.places_fault.ensures c.in_default.is,
-      entries_met _ _ _ _ c.entries_fault.ensures
-          c.in_default-entries_fault.is,
-    )
+check_tables-requires c = (
+  places_met _ _ _ c.places_fault.ensures c.in_default.is,
+  entries_met _ _ _ _ c.entries_fault.ensures
+      c.in_default-entries_fault.is,
+)
 
 pub returns : goal.returns
 returns c =

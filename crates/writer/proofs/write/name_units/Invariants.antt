@@ -1,9 +1,7 @@
 -- So many units are not zero.
 use Prim.Native.Nat.{◌-◌}
-use native.Mathlib.Omega.{arith}
 use lib.ListN.{length}
-use Rattle.writer.proofs.Planning.{Counting, counting_start, counting_step, counted_zero, counted_most}
-use borrow.Author.Rules.{rules}
+use Rattle.writer.proofs.Planning.{Counting}
 use Rattle.writer.proofs.write.name_units.Given as goal
 
 abbrev pub invariant-loop-k : goal.invariant-loop-k

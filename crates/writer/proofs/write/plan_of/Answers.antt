@@ -1,9 +1,8 @@
 -- Each length is within the limit before it is multiplied, so no sum wraps.
-use Prim.Native.Nat.{◌/◌, ◌≤◌}
+use Prim.Native.Nat.{◌/◌}
 use native.Mathlib.Omega.{arith}
 use Rattle.layout.specs.Versions.{metrics_entry, trace_entry}
 use Rattle.sections.proofs.Cases.{length-fits}
-use Rattle.writer.specs.Private.{plan_by}
 use Rattle.writer.proofs.Planning.{many_metrics, many_links, plan_large, plan_fits, plan_low}
 use Rattle.writer.proofs.write.plan_of.Goals as goal
 

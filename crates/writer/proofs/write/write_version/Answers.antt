@@ -1,11 +1,7 @@
 -- 3, then 4, and the rest by a plan.
 use mathlib.Core.Path.{sym, ◌∙◌}
-use mathlib.Core.List.{List}
-use Prim.Native.Nat.{ℕ, ◌<◌}
 use native.Mathlib.Omega.{arith}
-use lib.ListN.{get_or}
 use Rattle.writer.proofs.Answering.{below_30, version_laid, plan_is, plan_none, version_large, version_endless}
-use Rattle.writer.specs.LaidOut.{description_of, Numbers}
 use Rattle.writer.proofs.write.write_version.Goals as goal
 
 pub plan_of-requires : goal.plan_of-requires
@@ -49,14 +45,14 @@ write_planned-requires c =
         known = c.requires.1;
         writable = rw c.of-l.ensures c.requires.0;
         numbers = record {
-      units = λ k. omega (arith, c.type_inv.name k);
-      hash = omega (arith, c.well_formed);
-      time = omega (arith, c.well_formed);
-      count = omega (arith, c.well_formed);
-      metrics = λ k. omega (arith, c.type_inv.metrics k);
-      trace = λ k. omega (arith, c.type_inv.trace k);
-      volumes = omega (arith, c.well_formed);
-    };
+          units = λ k. omega (arith, c.type_inv.name k);
+          hash = omega (arith, c.well_formed);
+          time = omega (arith, c.well_formed);
+          count = omega (arith, c.well_formed);
+          metrics = λ k. omega (arith, c.type_inv.metrics k);
+          trace = λ k. omega (arith, c.type_inv.trace k);
+          volumes = omega (arith, c.well_formed);
+        };
         plan = fits.0;
         small = fits.1;
         named = c.name_units-units.ensures;
