@@ -13,7 +13,7 @@ use Rattle.lists.proofs.Tests.{by_test, never}
 use Rattle.lists.proofs.Count.{true-false}
 use native.Mathlib.Decide.{dec_lt, ℕ_discrete}
 use lib.Dec.{leb, eqb, lit<}
-use Rattle.digits.specs.Hex.{hex_at, written}
+use Rattle.digits.specs.Hex.{hex_at}
 use Rattle.digits.proofs.Hex.{hex_lt}
 use Rattle.layout.specs.Versions.{version_of, layout_of, head_end, size_limit}
 use Rattle.layout.specs.declared.Version.{Version}

@@ -6,7 +6,7 @@ use Prim.Native.Nat.{ℕ, ◌+◌, ◌*◌, ◌≤◌, ◌<◌}
 use native.Mathlib.Nat.{mul-le-mul_right}
 use native.Mathlib.Omega.{arith}
 use borrow.Author.Tests.{le-leb, lt-ltb}
-use denote.Ref.{Bor, MutBor}
+use denote.Ref.{Bor}
 use lib.ListN.{length, length-take, length-drop}
 use Rattle.layout.specs.Head.{program_name_at}
 use Rattle.layout.specs.Versions.{head_end, metrics_entry}
@@ -92,7 +92,7 @@ module _ (p : List ℕ) (o : Opening) (a : Allowed p o) where
   unfolding reference_shown volume_facts
   reference-is i k l h = rw (opened, volume_is_shown i l, lt-ltb k (volume_of (part o.head.volumes p) (entry_at o.layout i)).references h)
 
-all_shown : (file : MutBor (List ℕ)) (o : Opening) → Allowed file.now o → AllShown file o
+all_shown : (file : Bor (List ℕ)) (o : Opening) → Allowed file.now o → AllShown file o
 all_shown file o a =
     let p = file.now in
     let named : program_name_at + 2 * o.name_units ≤ length p = omega (arith, a.name.short, (facts p o a).start.named) in

@@ -1,7 +1,6 @@
 -- Each turn's count is at most what is left of the text, and above 0 where the loop goes on.
 use Prim.Native.Nat.{◌-◌, ◌≤◌}
 use lib.ListN.{length}
-use borrow.Author.Rules.{rules}
 use Rattle.console.proofs.write_output.Given as goal
 
 abbrev pub invariant-loop-n : goal.invariant-loop-n

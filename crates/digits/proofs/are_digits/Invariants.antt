@@ -1,13 +1,8 @@
 -- After k turns `all` says whether the first k bytes are digits.
-use mathlib.Core.Path.{◌≡◌, sym, ap, ◌∙◌}
-use mathlib.Core.Bool.{Bool, ◌&&◌}
+use mathlib.Core.Path.{◌≡◌}
 use Prim.Native.Nat.{◌+◌, ◌-◌, ◌≤◌}
-use native.Mathlib.Numerals.{add-one}
-use native.Mathlib.Omega.{arith}
 use lib.ListN.{length}
 use Rattle.digits.specs.Hex.{are_digits}
-use Rattle.digits.proofs.Laws.{digits_outside, digits_none, digits_more}
-use borrow.Author.Rules.{rules}
 use Rattle.digits.proofs.are_digits.Given as goal
 
 abbrev pub invariant-loop-k : goal.invariant-loop-k

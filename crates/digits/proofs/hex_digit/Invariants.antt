@@ -1,11 +1,6 @@
 -- After each turn y is x without its lowest digits: so many as the places passed.
-use mathlib.Core.Path.{◌≡◌, sym, ap, ◌∙◌}
-use Prim.Native.Nat.{ℕ, suc, ◌-◌, ◌/◌, ◌%◌, ◌^◌, ◌≤◌}
-use native.Mathlib.Nat.{div-div-eq-div-mul, pow-suc, div-one, pow-zero}
-use native.Mathlib.Omega.{arith}
-use Rattle.digits.specs.Hex.{digit_of}
-use Rattle.digits.proofs.Hex.{zero_digit}
-use borrow.Author.Rules.{rules}
+use mathlib.Core.Path.{◌≡◌}
+use Prim.Native.Nat.{◌-◌, ◌/◌, ◌^◌, ◌≤◌}
 use Rattle.digits.proofs.hex_digit.Given as goal
 
 abbrev pub invariant-loop-p : goal.invariant-loop-p

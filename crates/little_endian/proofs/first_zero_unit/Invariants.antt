@@ -1,11 +1,6 @@
 -- `end` stays the count until a zero unit is met, which becomes the end: no unit before it is zero, and the loop leaves there.
-use mathlib.Core.Path.{sym, ◌∙◌}
-use mathlib.Core.Logic.{⊎_elim}
 use Prim.Native.Nat.{◌+◌, ◌-◌, ◌*◌}
-use native.Mathlib.Omega.{arith}
-use borrow.Author.Tests.{eq-eqb, ne_eqb}
-use borrow.Author.Rules.{rules}
-use Rattle.lists.proofs.First.{Ending, ending_start, ending_hit, ending_miss, ending_at, ending_none}
+use Rattle.lists.proofs.First.{Ending}
 use Rattle.little_endian.specs.Number.{zero_unit}
 use Rattle.little_endian.proofs.first_zero_unit.Given as goal
 

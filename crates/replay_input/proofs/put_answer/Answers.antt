@@ -8,14 +8,10 @@ returns-then-answers-i c = let s = c.args in
     rw (← none_past s.answers.now s.i (omega (arith, c.if-answers-i.true))) c.put_all.ensures
 
 pub returns-then-answers-from-eq0 : goal.returns-then-answers-from-eq0
-returns-then-answers-from-eq0 c = let d = c in
-    let s = d.before.before.before.before.before.args in
-    rw (← none_held s.answers.now s.i (omega (arith, d.before.before.if1.false)) d.if2.true) c.put_all-then-answers-from-eq0.ensures
+returns-then-answers-from-eq0 c = let s = c.args in
+    rw (← none_held s.answers.now s.i (omega (arith, c.if-answers-i.false)) c.if-answers-from-eq0.true) c.put_all-then-answers-from-eq0.ensures
 
 pub returns : goal.returns
-returns c = let c₁ = c in
-    let c₂ = c₁.before.before.before.before.before.before.before.before in
-    let s = c₂.before.before.before.before.before.before.before.before.args in
-    rw (← digits_held s.answers.now s.i (omega (arith, c₂.before.before.before.before.before.if1.false)) c₂.before.before.before.if2.false)
-    (digits_put s.answers.now s.i c₂.put-hex.ensures c₁.before.before.before.put-hex2.ensures
-    c.put_hex-c.ensures c.put.ensures)
+returns c = let s = c.args in
+    rw (← digits_held s.answers.now s.i (omega (arith, c.if-answers-i.false)) c.if-answers-from-eq0.false)
+    (digits_put s.answers.now s.i c.put_hex-a.ensures c.put_hex-b.ensures c.put_hex-c.ensures c.put.ensures)

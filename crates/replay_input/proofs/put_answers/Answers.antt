@@ -16,9 +16,9 @@ pub shape_of-out-after-loop-next : goal.shape_of-out-after-loop-next
 shape_of-out-after-loop-next c = search (rules, putting_size)
 
 pub loop-next-preserved : goal.loop-next-preserved
-loop-next-preserved c = let d = c in
-    putting_step _ _ _ _ _ _ _ d.before.before.before.loop.invariant d.before.before.loop-test.true
-    (omega (arith, d.if1.false, d.before.line_size.ensures)) _ _ c.put_answer-at.ensures
+loop-next-preserved c =
+    putting_step _ _ _ _ _ _ _ c.loop-next.invariant c.loop-next-test.true (omega (arith, c.if-out-at.false, c.line_size.ensures)) _ _
+    c.put_answer-at.ensures
 
 pub shape_of-out-then-out-at : goal.shape_of-out-then-out-at
 shape_of-out-then-out-at c = search (rules, putting_size)

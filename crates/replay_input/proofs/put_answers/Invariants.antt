@@ -1,6 +1,6 @@
 -- Some lines have been put; the next is put only where all of it fits.
-use Rattle.std.proofs.Common.{◌-◌, arith, rules}
-use Rattle.replay_input.proofs.Text.{Putting, putting_start, putting_size, putting_step, putting_full, putting_all}
+use Rattle.std.proofs.Common.{◌-◌}
+use Rattle.replay_input.proofs.Text.{Putting}
 use Rattle.replay_input.proofs.put_answers.Given as goal
 
 abbrev pub invariant-loop-next : goal.invariant-loop-next

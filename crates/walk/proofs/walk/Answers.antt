@@ -17,11 +17,11 @@ reader-first p m n f e = rw e refl
 
 pub walk_opened-requires : goal.walk_opened-requires
 walk_opened-requires c =
-    reader_accepts _ _ _ _ _ _ c.read_opened.ensures c.in-Accepted.is c.read_opened.auto.1.0
+    reader_accepts _ _ _ _ _ _ c.read_opened.ensures c.in-Accepted.is c.read_opened.auto.predecessors
 
 pub returns-in-Accepted : goal.returns-in-Accepted
 returns-in-Accepted c =
-    walks_length _ _ _ _ _ _ _ c.read_opened.auto.1.0 c.walk_opened.ensures
+    walks_length _ _ _ _ _ _ _ c.read_opened.auto.predecessors c.walk_opened.ensures
 
 pub returns-in-Refused : goal.returns-in-Refused
 returns-in-Refused c =

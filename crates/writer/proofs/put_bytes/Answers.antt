@@ -1,3 +1,4 @@
+-- One byte more is laid behind those that are there.
 use mathlib.Core.Path.{◌≡◌, ap, ◌∙◌}
 use Prim.Native.Nat.{◌+◌}
 use native.Mathlib.Omega.{arith}
@@ -7,20 +8,11 @@ use Rattle.writer.specs.Private.{patch}
 use Rattle.writer.proofs.Stores.{patch-none, patch_one, then_laid, laid_long, bytes_more}
 use Rattle.writer.proofs.put_bytes.Goals as goal
 
-long : (c : goal.After-shared_slice_known-1) → length c.loop-i.output ≡ length c.args.output.now
-long c = laid_long _ _ _ _ c.loop-i.invariant.1
-
-long_2 : (c : goal.After-loop-i) → length c.loop-i.output ≡ length c.args.output.now
-long_2 c = laid_long _ _ _ _ c.loop-i.invariant.1
-
 pub loop-i-init : goal.loop-i-init
 loop-i-init c = (omega arith, patch-none _ _)
 
-pub overflow_add-output : goal.overflow_add-output
-overflow_add-output c = let b = c in omega (arith, b.before.requires, b.before.well-formed)
-
 pub bounds-output-at : goal.bounds-output-at
-bounds-output-at c = let b = c in omega (arith, b.before.requires, long b)
+bounds-output-at c = omega (arith, laid_long _ _ _ _ c.loop-i.invariant.1)
 
 pub loop-i-preserved : goal.loop-i-preserved
 loop-i-preserved c =
@@ -30,10 +22,5 @@ loop-i-preserved c =
           (bytes_more c.args.bytes.now c.loop-i.i (omega arith)),
     )
 
-pub shape_of-output : goal.shape_of-output
-shape_of-output c = long_2 c
-
 pub returns : goal.returns
-returns c =
-    c.loop-i.invariant.1 ∙ ap (patch c.args.output.now c.args.at) (take_all c.loop-i.i
-    c.args.bytes.now (omega arith))
+returns c = c.loop-i.invariant.1 ∙ ap (patch c.args.output.now c.args.at) (take_all c.loop-i.i c.args.bytes.now (omega arith))

@@ -14,7 +14,7 @@ put_zeros-requires c =
     (
       omega (arith, c.requires.0.head, c.requires.0.section),
       omega
-          (arith, c.put_fields.auto.0, c.put_units.auto.0, c.put_numbers.auto.0, c.requires.1),
+          (arith, c.put_fields.auto.output, c.put_units.auto.output, c.put_numbers.auto.output, c.requires.1),
     )
 
 pub put_numbers-requires : goal.put_numbers-requires

@@ -9,9 +9,6 @@ pub loop-i-preserved : goal.loop-i-preserved
 loop-i-preserved c =
     putting_step c.loop-i.invariant _ (omega arith) c.put_field.ensures
 
-pub shape_of-output : goal.shape_of-output
-shape_of-output c = c.loop-i.invariant.long
-
 pub bounds-values-i : goal.bounds-values-i
 bounds-values-i c = omega (arith, c.loop-i.invariant.same)
 

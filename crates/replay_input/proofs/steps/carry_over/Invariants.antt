@@ -1,6 +1,6 @@
 -- The first k bytes have been carried.
-use Rattle.std.proofs.Common.{◌≡◌, ◌-◌, ◌≤◌, length, refl, arith, rules}
-use Rattle.replay_input.proofs.Carrying.{moved_up, carried_size, carried_step}
+use Rattle.std.proofs.Common.{◌≡◌, ◌-◌, ◌≤◌}
+use Rattle.replay_input.proofs.Carrying.{moved_up}
 use Rattle.replay_input.proofs.steps.carry_over.Given as goal
 
 abbrev pub invariant-loop-k : goal.invariant-loop-k

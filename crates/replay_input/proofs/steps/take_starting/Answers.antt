@@ -13,12 +13,9 @@ pub begin_recording-fed-requires : goal.begin_recording-fed-requires
 begin_recording-fed-requires c = search (rules, starts_room)
 
 pub overflow_add-result : goal.overflow_add-result
-overflow_add-result c = let c₁ = c in
-    let c₂ = c₁.before.before.before.before.before.before.before.before in
-    let c₃ = c₂.before.before.before.before.before.before.before.before in
-    let s = c₃.before.before.before in
-    let f = taken_fit _ s.args.stage.starts _ _ _ _ _ c₂.before.before.before.take-starts.ensures in
-    omega (arith, f.0, begun_used _ _ _ _ _ _ _ _ _ _ c.begin_recording-fed.ensures, s.well-formed)
+overflow_add-result c =
+    let f = taken_fit _ c.args.stage.starts _ _ _ _ _ c.take_starts-k.ensures in
+    omega (arith, f.0, begun_used _ _ _ _ _ _ _ _ _ _ c.begin_recording-fed.ensures, c.well_formed)
 
 pub overflow_mul-at : goal.overflow_mul-at
 overflow_mul-at c = omega (arith, (taken_fit _ c.args.stage.starts _ _ _ _ _ c.take_starts-k.ensures).0)

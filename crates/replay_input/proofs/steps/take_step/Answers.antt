@@ -13,11 +13,9 @@ pub take_bytes-took-requires : goal.take_bytes-took-requires
 take_bytes-took-requires c = search (rules, fitting-fits)
 
 pub carry_over-kept-requires : goal.carry_over-kept-requires
-carry_over-kept-requires c = let c₁ = c in
-    let c₂ = c₁.before.before.before.before.before.before.before.before in
-    let c₃ = c₂.before.before.before.before.before.before.before.before in
-    let n = c₂.before.before.least in
-    let e : length (take n.result c₃.args.buffer.now) ≡ n.result = length-take-le _ _ (omega (arith, n.ensures)) in
-    let s = c₃.args in
-    let u = bytes_used c₂.fitting.result (take n.result s.buffer.now) s.times.now s.boards.now s.work.now s.answers.now in
-    (omega (arith, c₁.before.before.take-bytes.ensures.used, u.0), omega (arith, n.ensures))
+carry_over-kept-requires c =
+    let n = c.least-upto in
+    let s = c.args in
+    let e : length (take n.result s.buffer.now) ≡ n.result = length-take-le _ _ (omega (arith, n.ensures)) in
+    let u = bytes_used c.fitting-stage.result (take n.result s.buffer.now) s.times.now s.boards.now s.work.now s.answers.now in
+    (omega (arith, c.take_bytes-took.ensures.used, u.0), omega (arith, n.ensures))

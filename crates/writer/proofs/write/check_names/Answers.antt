@@ -10,10 +10,10 @@ returns-in-At c =
 
 pub returns : goal.returns
 returns c =
-    check_nowhere _ _ _ _ _ (rw names_pairs at c.misfit_fault.ensures) c.enum_told-1.given.1
+    check_nowhere _ _ _ _ _ (rw names_pairs at c.misfit_fault.ensures) c.in_default.is
     (last_nowhere _ _ _ (rw names_pairs at c.unsound_fault.ensures) c.in_default-unsound_fault.is)
 
 pub returns-in-At-unsound_fault : goal.returns-in-At-unsound_fault
 returns-in-At-unsound_fault c =
-    check_nowhere _ _ _ _ _ (rw names_pairs at c.misfit_fault.ensures) c.enum_told-1.given.1
+    check_nowhere _ _ _ _ _ (rw names_pairs at c.misfit_fault.ensures) c.in_default.is
     (last_at _ _ _ _ _ _ (rw names_pairs at c.unsound_fault.ensures) c.in-At-unsound_fault.is c.refuse-in-At-unsound_fault.ensures)

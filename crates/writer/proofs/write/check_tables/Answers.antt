@@ -8,15 +8,15 @@ returns-in-Refused c =
 
 pub returns-in-Refused-check_links : goal.returns-in-Refused-check_links
 returns-in-Refused-check_links c =
-    links_refused c.args.l c.args.p c.args.count _ _ _ _ _ _ c.check_names.ensures c.enum_told-1.given.1 c.requires.0 _ _
+    links_refused c.args.l c.args.p c.args.count _ _ _ _ _ _ c.check_names.ensures c.in_default.is c.requires.0 _ _
     c.check_links.ensures _ c.in-Refused-check_links.is
 
 pub returns-in-Refused-check_volumes : goal.returns-in-Refused-check_volumes
 returns-in-Refused-check_volumes c =
-    volumes_refused c.args.l c.args.p c.args.count _ _ _ _ _ _ c.check_names.ensures c.enum_told-1.given.1 c.requires.0 _ _
+    volumes_refused c.args.l c.args.p c.args.count _ _ _ _ _ _ c.check_names.ensures c.in_default.is c.requires.0 _ _
     c.check_links.ensures _ c.in-Chains.is c.requires.1 _ c.check_volumes.ensures _ c.in-Refused-check_volumes.is
 
 pub returns-in-Passed : goal.returns-in-Passed
 returns-in-Passed c =
-    all_passed c.args.l c.args.p c.args.count _ _ _ _ _ _ c.check_names.ensures c.enum_told-1.given.1 c.requires.0 _ _
+    all_passed c.args.l c.args.p c.args.count _ _ _ _ _ _ c.check_names.ensures c.in_default.is c.requires.0 _ _
     c.check_links.ensures _ c.in-Chains.is c.requires.1 _ c.check_volumes.ensures c.in-Passed.is

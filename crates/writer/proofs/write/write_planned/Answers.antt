@@ -23,7 +23,7 @@ pub returns-then-output-p : goal.returns-then-output-p
 returns-then-output-p c =
     planned_short c.args.w _ _ _ _ _ c.requires.0 c.requires.1 _ _ _ _ c.check_sections.ensures _
     c.in-Chains.is _ _
-    c.if-output-p.true c.check_sections.auto.1.1.1.1.1.1.1.0 c.refused.ensures place_kept
+    c.if-output-p.true c.check_sections.auto.predecessors c.refused.ensures place_kept
 
 pub returns-else-output-p : goal.returns-else-output-p
 returns-else-output-p c =
@@ -35,4 +35,4 @@ pub returns-in-Refused : goal.returns-in-Refused
 returns-in-Refused c =
     planned_refused c.args.w _ _ _ _ _ c.requires.0 c.requires.1 _ _ _ _ c.check_sections.ensures _ _ _
     c.in-Refused.is
-    c.check_sections.auto.1.1.1.1.1.1.1.0 c.refused-in-Refused.ensures (checks-first _ _ _ _) place_kept
+    c.check_sections.auto.predecessors c.refused-in-Refused.ensures (checks-first _ _ _ _) place_kept

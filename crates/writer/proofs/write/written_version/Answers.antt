@@ -1,9 +1,10 @@
 -- The two versions, and none for any other number.
+use native.Mathlib.Omega.{arith}
 use Rattle.writer.proofs.Answering.{is_17, is_23, is_other}
 use Rattle.writer.proofs.write.written_version.Goals as goal
 
 pub returns-in_default : goal.returns-in_default
-returns-in_default c = is_other _ c.in_default-own.rest.0.1 c.in_default-own.rest.1
+returns-in_default c = is_other _ (λ e. omega arith) (λ e. omega arith)
 
 pub returns-in-23 : goal.returns-in-23
 returns-in-23 c = is_23 _ c.in-23.is
