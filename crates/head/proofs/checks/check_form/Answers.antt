@@ -3,7 +3,6 @@ use Rattle.head.proofs.Steps.{steps}
 use Rattle.head.specs.Checks.{form_plan}
 use lib.ListN.{length-take}
 use native.Mathlib.Omega.{arith}
-use borrow.Author.Rules.{rules}
 use Rattle.head.proofs.checks.check_form.Goals as goal
 
 pub returns-then-file-required : goal.returns-then-file-required
@@ -14,21 +13,9 @@ pub returns : goal.returns
 unfolding form_plan
 returns c = search steps depth 12
 
-pub enum_known-l : goal.enum_known-l
-unfolding form_plan
-enum_known-l c = search rules
-
-pub enum_told-1 : goal.enum_told-1
-unfolding form_plan
-enum_told-1 c = search rules
-
 pub slice_bounds-find_form-end : goal.slice_bounds-find_form-end
 slice_bounds-find_form-end c = simp length-take (omega arith)
 
 pub returns-in_default : goal.returns-in_default
 unfolding form_plan
 returns-in_default c = search steps depth 12
-
-pub overflow_cast-required : goal.overflow_cast-required
-unfolding form_plan
-overflow_cast-required c = search rules

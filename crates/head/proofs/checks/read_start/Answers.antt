@@ -3,7 +3,6 @@ use Rattle.head.proofs.Steps.{steps, start_refused_is}
 use Rattle.head.specs.Checks.{start_plan}
 use lib.ListN.{length-take}
 use native.Mathlib.Omega.{arith}
-use borrow.Author.Rules.{rules}
 use Rattle.head.proofs.checks.read_start.Goals as goal
 
 pub returns-in_default-name_end : goal.returns-in_default-name_end
@@ -14,40 +13,16 @@ pub returns-in-At-size_fault : goal.returns-in-At-size_fault
 unfolding start_plan
 returns-in-At-size_fault c = start_refused_is _ _ _ c.start_refused-in-At-size_fault.ensures (search steps depth 24)
 
-pub enum_told-in_default-signature_fault : goal.enum_told-in_default-signature_fault
-unfolding start_plan
-enum_told-in_default-signature_fault c = search rules
-
 pub slice_bounds-name_end-end : goal.slice_bounds-name_end-end
 slice_bounds-name_end-end c = simp length-take (omega arith)
-
-pub enum_known-i : goal.enum_known-i
-unfolding start_plan
-enum_known-i c = search rules
 
 pub returns-in-At : goal.returns-in-At
 unfolding start_plan
 returns-in-At c = search steps depth 24
 
-pub enum_told-in_default-name_end : goal.enum_told-in_default-name_end
-unfolding start_plan
-enum_told-in_default-name_end c = search rules
-
 pub returns-then-file-lt4 : goal.returns-then-file-lt4
 unfolding start_plan
 returns-then-file-lt4 c = search steps depth 24
-
-pub enum_known-version : goal.enum_known-version
-unfolding start_plan
-enum_known-version c = search rules
-
-pub enum_known-units : goal.enum_known-units
-unfolding start_plan
-enum_known-units c = search rules
-
-pub enum_known-i-in-At-size_fault : goal.enum_known-i-in-At-size_fault
-unfolding start_plan
-enum_known-i-in-At-size_fault c = search rules
 
 pub returns-then-file-lt76 : goal.returns-then-file-lt76
 unfolding start_plan
@@ -56,17 +31,9 @@ returns-then-file-lt76 c = search steps depth 24
 pub slice_bounds-signature_fault-end : goal.slice_bounds-signature_fault-end
 slice_bounds-signature_fault-end c = simp length-take (omega arith)
 
-pub enum_told-in_default-size_fault : goal.enum_told-in_default-size_fault
-unfolding start_plan
-enum_told-in_default-size_fault c = search rules
-
 pub returns-then-file-lt8 : goal.returns-then-file-lt8
 unfolding start_plan
 returns-then-file-lt8 c = search steps depth 24
-
-pub enum_told-1 : goal.enum_told-1
-unfolding start_plan
-enum_told-1 c = search rules
 
 pub returns-in_default : goal.returns-in_default
 unfolding start_plan

@@ -5,48 +5,19 @@ use native.Mathlib.Omega.{arith}
 use Rattle.incremental.proofs.Plan.{reach_on}
 use Rattle.reader.specs.Checks.{rest_plan}
 use Rattle.reader.proofs.Stages.{stages, stage_then, last_stage, given_record}
-use borrow.Author.Rules.{rules}
 use Rattle.reader.proofs.checks.check_rest.Goals as goal
-
-pub enum_told-in-Passed-check_texts : goal.enum_told-in-Passed-check_texts
-unfolding rest_plan
-enum_told-in-Passed-check_texts c = search rules
-
-pub enum_told-in-Passed-check_volumes : goal.enum_told-in-Passed-check_volumes
-unfolding rest_plan
-enum_told-in-Passed-check_volumes c = search rules
 
 pub returns-in-Wanted-check_texts : goal.returns-in-Wanted-check_texts
 unfolding rest_plan
 returns-in-Wanted-check_texts c = search stages depth 16
 
-pub enum_known-k-in-Wanted-check_texts : goal.enum_known-k-in-Wanted-check_texts
-unfolding rest_plan
-enum_known-k-in-Wanted-check_texts c = search rules
-
 pub check_trace-requires : goal.check_trace-requires
 unfolding rest_plan
 check_trace-requires c = search stages depth 4
 
-pub enum_told-1 : goal.enum_told-1
-unfolding rest_plan
-enum_told-1 c = search rules
-
-pub enum_known-r-in-Refused-check_texts : goal.enum_known-r-in-Refused-check_texts
-unfolding rest_plan
-enum_known-r-in-Refused-check_texts c = search rules
-
 pub returns-in-Refused-check_fits : goal.returns-in-Refused-check_fits
 unfolding rest_plan
 returns-in-Refused-check_fits c = search stages depth 16
-
-pub enum_known-k-in-Wanted-check_trace : goal.enum_known-k-in-Wanted-check_trace
-unfolding rest_plan
-enum_known-k-in-Wanted-check_trace c = search rules
-
-pub enum_known-k-in-Wanted-check_fits : goal.enum_known-k-in-Wanted-check_fits
-unfolding rest_plan
-enum_known-k-in-Wanted-check_fits c = search rules
 
 pub returns-in-Refused-check_texts : goal.returns-in-Refused-check_texts
 unfolding rest_plan
@@ -58,25 +29,9 @@ returns-in-Refused-check_volumes c =
     c.check_texts.ensures c.in-Passed-check_texts.is _ _ c.check_trace.ensures _ c.in-Chains.is _
     (stage_then _ _ _ _ _ _ c.check_volumes.ensures c.in-Refused-check_volumes.is refl)
 
-pub enum_known-n : goal.enum_known-n
-unfolding rest_plan
-enum_known-n c = search rules
-
-pub shape_of-predecessors-in-Wanted-check_volumes : goal.shape_of-predecessors-in-Wanted-check_volumes
-unfolding rest_plan
-shape_of-predecessors-in-Wanted-check_volumes c = search rules
-
-pub shape_of-predecessors-in-Wanted-check_trace : goal.shape_of-predecessors-in-Wanted-check_trace
-unfolding rest_plan
-shape_of-predecessors-in-Wanted-check_trace c = search rules
-
 pub returns-in-Wanted : goal.returns-in-Wanted
 unfolding rest_plan
 returns-in-Wanted c = search stages depth 16
-
-pub enum_known-k-in-Wanted-check_volumes : goal.enum_known-k-in-Wanted-check_volumes
-unfolding rest_plan
-enum_known-k-in-Wanted-check_volumes c = search rules
 
 pub returns-in-Passed-check_volumes : goal.returns-in-Passed-check_volumes
 returns-in-Passed-check_volumes c =
@@ -86,41 +41,9 @@ returns-in-Passed-check_volumes c =
     (stage_then _ _ _ _ _ _ c.check_volumes.ensures c.in-Passed-check_volumes.is
     (reach_on _ _ _ _ c.requires.whole (given_record _ _ _ _ _ _ _ _ c.record_of.ensures t.2 t.3)))
 
-pub shape_of-predecessors-in-Passed-check_volumes : goal.shape_of-predecessors-in-Passed-check_volumes
-unfolding rest_plan
-shape_of-predecessors-in-Passed-check_volumes c = search rules
-
-pub enum_known-k : goal.enum_known-k
-unfolding rest_plan
-enum_known-k c = search rules
-
 pub returns-in-Wanted-check_fits : goal.returns-in-Wanted-check_fits
 unfolding rest_plan
 returns-in-Wanted-check_fits c = search stages depth 16
-
-pub shape_of-predecessors-in-Refused-check_volumes : goal.shape_of-predecessors-in-Refused-check_volumes
-unfolding rest_plan
-shape_of-predecessors-in-Refused-check_volumes c = search rules
-
-pub overflow_cast-h : goal.overflow_cast-h
-unfolding rest_plan
-overflow_cast-h c = search rules
-
-pub enum_known-r : goal.enum_known-r
-unfolding rest_plan
-enum_known-r c = search rules
-
-pub enum_told-in-Passed-check_fits : goal.enum_told-in-Passed-check_fits
-unfolding rest_plan
-enum_told-in-Passed-check_fits c = search rules
-
-pub enum_known-r-in-Refused-check_fits : goal.enum_known-r-in-Refused-check_fits
-unfolding rest_plan
-enum_known-r-in-Refused-check_fits c = search rules
-
-pub enum_known-r-in-Refused-check_trace : goal.enum_known-r-in-Refused-check_trace
-unfolding rest_plan
-enum_known-r-in-Refused-check_trace c = search rules
 
 pub returns-in-Wanted-check_trace : goal.returns-in-Wanted-check_trace
 unfolding rest_plan
@@ -144,14 +67,6 @@ pub returns-in-Refused-check_trace : goal.returns-in-Refused-check_trace
 unfolding rest_plan
 returns-in-Refused-check_trace c = search stages depth 16
 
-pub enum_known-r-in-Refused-check_volumes : goal.enum_known-r-in-Refused-check_volumes
-unfolding rest_plan
-enum_known-r-in-Refused-check_volumes c = search rules
-
 pub check_volumes-requires : goal.check_volumes-requires
 unfolding rest_plan
 check_volumes-requires c = search stages depth 4
-
-pub shape_of-predecessors-in-Refused-check_trace : goal.shape_of-predecessors-in-Refused-check_trace
-unfolding rest_plan
-shape_of-predecessors-in-Refused-check_trace c = search rules
