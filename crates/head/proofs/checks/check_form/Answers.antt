@@ -1,8 +1,6 @@
 -- Line by line the code is check 21 of the plan.
 use Rattle.head.proofs.Steps.{steps}
 use Rattle.head.specs.Checks.{form_plan}
-use lib.ListN.{length-take}
-use native.Mathlib.Omega.{arith}
 use Rattle.head.proofs.checks.check_form.Goals as goal
 
 pub returns-then-file-required : goal.returns-then-file-required
@@ -12,9 +10,6 @@ returns-then-file-required c = search steps depth 12
 pub returns : goal.returns
 unfolding form_plan
 returns c = search steps depth 12
-
-pub slice_bounds-find_form-end : goal.slice_bounds-find_form-end
-slice_bounds-find_form-end c = simp length-take (omega arith)
 
 pub returns-in_default : goal.returns-in_default
 unfolding form_plan

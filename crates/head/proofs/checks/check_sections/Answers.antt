@@ -1,7 +1,6 @@
 -- Line by line the code is checks 5 and 6 of the plan.
 use Rattle.head.proofs.Steps.{steps, outside_refused, shared_refused, sections_pass}
 use Rattle.head.specs.Checks.{section_plan}
-use lib.ListN.{length-take}
 use native.Mathlib.Omega.{arith}
 use Rattle.head.proofs.checks.check_sections.Goals as goal
 
@@ -13,9 +12,6 @@ pub returns : goal.returns
 returns c =
     sections_pass _ _ _ (omega arith) c.head_of-h.ensures _ c.outside_fault.ensures c.in_default.is _
     c.overlap_fault.ensures c.in_default-overlap_fault.is
-
-pub slice_bounds-head_of-end : goal.slice_bounds-head_of-end
-slice_bounds-head_of-end c = simp length-take (omega arith)
 
 pub returns-in-At-overlap_fault : goal.returns-in-At-overlap_fault
 returns-in-At-overlap_fault c =

@@ -1,8 +1,6 @@
 -- The code asks for bytes and refuses line by line as the plan does, so each way out is a run of the plan up to its line.
 use Rattle.head.proofs.Steps.{steps, start_refused_is}
 use Rattle.head.specs.Checks.{start_plan}
-use lib.ListN.{length-take}
-use native.Mathlib.Omega.{arith}
 use Rattle.head.proofs.checks.read_start.Goals as goal
 
 pub returns-in_default-name_end : goal.returns-in_default-name_end
@@ -12,9 +10,6 @@ returns-in_default-name_end c = start_refused_is _ _ _ c.start_refused-in_defaul
 pub returns-in-At-size_fault : goal.returns-in-At-size_fault
 unfolding start_plan
 returns-in-At-size_fault c = start_refused_is _ _ _ c.start_refused-in-At-size_fault.ensures (search steps depth 24)
-
-pub slice_bounds-name_end-end : goal.slice_bounds-name_end-end
-slice_bounds-name_end-end c = simp length-take (omega arith)
 
 pub returns-in-At : goal.returns-in-At
 unfolding start_plan
@@ -28,9 +23,6 @@ pub returns-then-file-lt76 : goal.returns-then-file-lt76
 unfolding start_plan
 returns-then-file-lt76 c = search steps depth 24
 
-pub slice_bounds-signature_fault-end : goal.slice_bounds-signature_fault-end
-slice_bounds-signature_fault-end c = simp length-take (omega arith)
-
 pub returns-then-file-lt8 : goal.returns-then-file-lt8
 unfolding start_plan
 returns-then-file-lt8 c = search steps depth 24
@@ -39,15 +31,9 @@ pub returns-in_default : goal.returns-in_default
 unfolding start_plan
 returns-in_default c = search steps depth 24
 
-pub slice_bounds-u32_at-end : goal.slice_bounds-u32_at-end
-slice_bounds-u32_at-end c = simp length-take (omega arith)
-
 pub returns-then-file-lt16 : goal.returns-then-file-lt16
 unfolding start_plan
 returns-then-file-lt16 c = search steps depth 24
-
-pub slice_bounds-size_fault-end : goal.slice_bounds-size_fault-end
-slice_bounds-size_fault-end c = simp length-take (omega arith)
 
 pub returns : goal.returns
 unfolding start_plan

@@ -1,7 +1,6 @@
 -- What check_links decides on the section is what the plan's lines decide, and it leaves the table.
 use native.Mathlib.Omega.{arith}
 use Rattle.reader.proofs.Stages.{trace_short, trace_refused, trace_passed}
-use lib.ListN.{length-take}
 use native.Mathlib.Omega.{arith}
 use Rattle.reader.proofs.checks.check_trace.Goals as goal
 
@@ -9,9 +8,6 @@ pub returns-in-Refused : goal.returns-in-Refused
 returns-in-Refused c =
     trace_refused _ _ _ _ c.trace_required-required.ensures _ (omega arith) c.part_of-links.ensures.contents _ c.link_count.ensures c.requires _ _
     c.check_links.ensures _ c.in-Refused.is
-
-pub slice_bounds-part_of-end : goal.slice_bounds-part_of-end
-slice_bounds-part_of-end c = simp length-take (omega arith)
 
 pub returns-then-file-required : goal.returns-then-file-required
 returns-then-file-required c = trace_short _ _ _ _ c.trace_required-required.ensures _ c.if-file-required.true

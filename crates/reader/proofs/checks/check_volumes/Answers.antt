@@ -1,12 +1,8 @@
 -- The plan of checks 14 and 15; a call gives its required length, and 8 has passed.
 use native.Mathlib.Omega.{arith}
 use Rattle.reader.proofs.Stages.{volumes_short, volumes_pass, volumes_refused}
-use lib.ListN.{length-take}
 use native.Mathlib.Omega.{arith}
 use Rattle.reader.proofs.checks.check_volumes.Goals as goal
-
-pub slice_bounds-part_of-end : goal.slice_bounds-part_of-end
-slice_bounds-part_of-end c = simp length-take (omega arith)
 
 pub returns-in-Passed : goal.returns-in-Passed
 returns-in-Passed c =
