@@ -24,10 +24,10 @@ loop-i-preserved c =
     let low = w.invariant.2 in
     let number = c.entry_number-n.ensures in
     elim c.if-n-least.branch [
-      then-n-least z ↦
-        (omega arith, omega (arith, z.least-is, c.if-n-eq0.false), rw (z.least-is, z.index-is) (lowest_less _ _ _ _ _ low number z.if-n-least.true))
-    | else-n-least z ↦
-        (omega arith, omega (arith, z.least-is, w.invariant.1), rw (z.least-is, z.index-is) (lowest-same _ _ _ _ _ low number z.if-n-least.false))
+      | then-n-least z ↦
+          (omega arith, omega (arith, z.least-is, c.if-n-eq0.false), rw (z.least-is, z.index-is) (lowest_less _ _ _ _ _ low number z.if-n-least.true))
+      | else-n-least z ↦
+          (omega arith, omega (arith, z.least-is, w.invariant.1), rw (z.least-is, z.index-is) (lowest-same _ _ _ _ _ low number z.if-n-least.false))
     ]
 
 pub loop-i-init : goal.loop-i-init

@@ -16,12 +16,11 @@ loop-i-2-preserved c =
     (omega arith, below_more _ _ c.loop-i-2.invariant.1 c.if-path-i.false)
 
 pub loop-i-preserved : goal.loop-i-preserved
-loop-i-preserved c =
-    (
-      omega arith,
-      agree_eight _ _ c.loop-i.i (λ k. (c.type_inv.path k).fits) (λ k. (c.type_inv.name k).fits) c.loop-i.invariant.1
-          (sym c.u64_at.ensures ∙ c.if-u64_at.false ∙ c.u64_at-in-loop-i.ensures),
-    )
+loop-i-preserved c = (
+  omega arith,
+  agree_eight _ _ c.loop-i.i (λ k. (c.type_inv.path k).fits) (λ k. (c.type_inv.name k).fits) c.loop-i.invariant.1
+      (sym c.u64_at.ensures ∙ c.if-u64_at.false ∙ c.u64_at-in-loop-i.ensures),
+)
 
 pub loop-i-init : goal.loop-i-init
 loop-i-init c = (omega arith, λ k l. absurd (omega arith))
