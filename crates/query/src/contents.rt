@@ -119,6 +119,7 @@ pub fn references(file: &[u8], i: usize, pairs: &mut [u64]) -> usize
 }
 
 // The file reference of metrics entry i, where the version has the field.
+#[tactic(auto, using(crate::proofs::Entries::entry_references))]
 fn file_reference(metrics: &[u8], l: Layout, i: u32) -> EntryReference
     requires { SoundLayout l }
     ensures { result ≡ file_reference_of l metrics.now i }

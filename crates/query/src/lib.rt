@@ -133,6 +133,7 @@ fn name_shown(metrics: &[u8], strings: &[u8], l: Layout, i: u32) -> PlaceAnswer
 }
 
 // Metrics entry i, where checks 1 to 6 pass. The index is below a 32-bit count before it is cast.
+#[tactic(auto, using(crate::proofs::Entries::entries))]
 pub(crate) fn entry_in(file: &[u8], o: Opening, i: usize) -> PlaceAnswer
     requires { OpenFacts file.now o }
     ensures { result ≡ entry_in o file.now i }
@@ -177,6 +178,7 @@ pub fn entry_name(file: &[u8], i: usize) -> &[u8]
 }
 
 // Whether volume i can be shown, on the bytes that are there of its section.
+#[tactic(auto, using(crate::proofs::Volumes::sections))]
 pub(crate) fn section_shown(s: Section, l: Layout, section: &[u8], i: usize) -> bool
     ensures { result ≡ section_shown s l section.now i }
 {

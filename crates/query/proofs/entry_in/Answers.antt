@@ -16,9 +16,6 @@ overflow_add-result c =
     let h : o.head.strings.at + w.at ≤ size_limit = search name_low in
     omega arith
 
-pub returns-then-metrics-i : goal.returns-then-metrics-i
-returns-then-metrics-i c = search entries
-
 pub returns-then-entries-i : goal.returns-then-entries-i
 returns-then-entries-i c = search entries
 

@@ -8,9 +8,6 @@ returns-in-At c = search sections
 pub returns-then-s-i : goal.returns-then-s-i
 returns-then-s-i c = search sections
 
-pub returns-then-section-s : goal.returns-then-section-s
-returns-then-section-s c = search sections
-
 pub returns-in-Refused : goal.returns-in-Refused
 returns-in-Refused c = search sections
 

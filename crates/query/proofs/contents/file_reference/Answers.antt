@@ -19,8 +19,5 @@ overflow_add-at-2 c =
     let a = c.args in
     omega (arith, entry_low a.i a.l.metrics_entry (omega arith) (omega arith))
 
-pub returns-then-l-eq0 : goal.returns-then-l-eq0
-returns-then-l-eq0 c = search entry_references
-
 pub returns : goal.returns
 returns c = search entry_references
