@@ -276,6 +276,7 @@ fn write_version(
 }
 
 // The version that is written under a number.
+#[tactic(auto, unfolding(crate::specs::Writes::writable))]
 fn written_version(number: u32) -> KnownVersion
     ensures { known_is result ≡ writable number }
 {
