@@ -33,7 +33,7 @@ returns-then-values-i c =
     overlay-done _ _ _ c.loop-i.i (omega arith) (omega arith) (inr (omega (arith, n))) c.loop-i.invariant.3
 
 pub returns-after-loop-i : goal.returns-after-loop-i
-returns-after-loop-i c = let b = c in overlay-done _ _ _ b.loop.i (omega arith) (omega arith) (inl (omega arith)) b.loop.invariant.3
+returns-after-loop-i c = overlay-done _ _ _ c.loop-i.i (omega arith) (omega arith) (inl (omega arith)) c.loop-i.invariant.3
 
 pub returns-then-count-i : goal.returns-then-count-i
 returns-then-count-i c =
