@@ -13,6 +13,9 @@ use layout::{KnownVersion, Layout, SIZE_LIMIT, Version};
 // The limit for the size of an old line.
 const OLD_SIZE_LIMIT: u32 = 16_777_215;
 
+// The bytes of a new line.
+const LINE_BYTES: usize = 27;
+
 // What a line says of a file.
 #[derive(Clone, Copy)]
 pub struct Fields {
@@ -111,7 +114,7 @@ fn write_fields(output: &mut [u8], fields: Fields, width: usize)
 pub fn write_line(fields: Fields, output: &mut [u8]) -> WrittenLine
     ensures { Writing fields output.old result output.new }
 {
-    if output.len() < 27 {
+    if output.len() < LINE_BYTES {
         return WrittenLine::Refused;
     }
     if can_form(fields, SIZE_LIMIT) {

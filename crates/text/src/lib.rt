@@ -7,6 +7,9 @@ ghost use Rattle.digits.specs.Hex.{hex_digits};
 ghost use Rattle.text.specs.Decimal.{decimal};
 ghost use Rattle.text.specs.Put.{Put};
 
+// The least number of two digits.
+const TWO_DIGITS: u64 = 10;
+
 // One byte at a position, where there is room: the position behind it.
 pub fn put(out: &mut [u8], at: usize, b: u8) -> usize
     ensures { Put out.old at (b ∷ []) result out.new }
@@ -36,7 +39,7 @@ pub fn put_decimal(out: &mut [u8], at: usize, n: u64) -> usize
     ensures { Put out.old at (decimal n) result out.new }
 {
     let digit = 48 + (n % 10) as u8;
-    if n < 10 {
+    if n < TWO_DIGITS {
         return put(out, at, digit);
     }
     let end = put_decimal(out, at, n / 10);
