@@ -96,7 +96,7 @@ pub fn hash_xp(cs: &[u32]) -> u32
     xp_end(hash_numbers(0, cs))
 }
 
-// Vista and 2008 are equal on every list (`vista-2008`).
+// Vista and 2008 are equal on every list (`vista_2008`).
 pub fn hash_2008(cs: &[u32]) -> u32
     ensures { result ≡ hash2008 cs.now }
 {

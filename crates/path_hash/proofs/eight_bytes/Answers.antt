@@ -1,4 +1,4 @@
--- The masks bound each sum, and the lanes take the step: `text-eight`.
+-- The masks bound each sum, and the lanes take the step: `text_eight`.
 use Rattle.path_hash.proofs.Lanes.{text_eight}
 use Rattle.path_hash.proofs.eight_bytes.Goals as goal
 
