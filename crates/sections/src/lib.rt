@@ -38,6 +38,7 @@ pub fn part_of(bytes: &[u8], s: Section) -> &[u8]
 }
 
 // Check 2.
+#[tactic(auto, unfolding(crate::specs::Fields::signature_fault))]
 pub fn signature_fault(b: &[u8]) -> Fault
     ensures { result ≡ signature_fault b.now }
 {
@@ -49,6 +50,7 @@ pub fn signature_fault(b: &[u8]) -> Fault
 }
 
 // Check 3.
+#[tactic(auto, unfolding(crate::specs::Fields::size_fault))]
 pub fn size_fault(b: &[u8], l: Layout) -> Fault
     ensures { result ≡ size_fault l b.now }
 {
@@ -63,6 +65,7 @@ pub fn size_fault(b: &[u8], l: Layout) -> Fault
 }
 
 // How many of the program name's units lie whole in so many bytes.
+#[tactic(auto, unfolding(crate::specs::Fields::name_units_in))]
 fn name_units_in(length: usize) -> u32
     ensures { result ≡ name_units_in length }
 {
@@ -84,6 +87,7 @@ pub fn name_end(b: &[u8]) -> Found
 }
 
 // Check 21: the layout of the head form, where the version's is `l`.
+#[tactic(auto, unfolding(crate::specs::Fields::form_in))]
 pub fn find_form(b: &[u8], l: Layout) -> KnownForm
     ensures { form_said result ≡ form_in l b.now }
 {
@@ -262,6 +266,7 @@ pub fn overlap_fault(h: Head) -> Fault
 }
 
 // How many trace entries have a next index.
+#[tactic(auto, unfolding(crate::specs::Fields::link_count))]
 pub fn link_count(l: Layout, h: Head) -> u32
     ensures { result ≡ link_count l h }
 {
