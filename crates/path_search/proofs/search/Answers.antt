@@ -1,6 +1,4 @@
-use Rattle.std.proofs.Common.{◌≤◌, length, ⊎_elim, div-le_self, arith}
-use Rattle.layout.specs.Versions.{size_limit}
-use Rattle.path_search.specs.Private.{entries_in}
+use Rattle.std.proofs.Common.{arith}
 use Rattle.path_search.proofs.Least.{lowest_start, lowest_less, lowest-same, lowest-end, lowest_at, lowest-none, lowest-zero}
 use Rattle.path_search.proofs.Laws.{metric_some, few_entries}
 use Rattle.path_search.proofs.search.Goals as goal

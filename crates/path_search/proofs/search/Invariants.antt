@@ -1,9 +1,7 @@
 -- The loop keeps the least number of the entries passed and the first entry that has it; an entry with 0 ends it.
-use Rattle.std.proofs.Common.{◌-◌, ◌<◌, ◌≤◌, length, ⊎_elim, div-le_self, arith, rules}
-use Rattle.layout.specs.Versions.{size_limit}
-use Rattle.path_search.specs.Private.{number_in, entries_in}
-use Rattle.path_search.proofs.Least.{Lowest, lowest_start, lowest_less, lowest-same, lowest-end, lowest_at, lowest-none, lowest-zero}
-use Rattle.path_search.proofs.Laws.{metric_some}
+use Rattle.std.proofs.Common.{◌-◌, ◌<◌, ◌≤◌}
+use Rattle.path_search.specs.Private.{number_in}
+use Rattle.path_search.proofs.Least.{Lowest}
 use Rattle.path_search.proofs.search.Given as goal
 
 abbrev pub invariant-loop-i : goal.invariant-loop-i

@@ -1,6 +1,6 @@
 -- The bytes passed agree; the first that do not decide, eight at once or one.
-use Rattle.std.proofs.Common.{◌-◌, ◌≤◌, length, sym, ◌∙◌, arith, rules, below_more}
-use Rattle.path_search.proofs.Same.{Agree, agree_eight, agree_all, differ_one, differ_eight}
+use Rattle.std.proofs.Common.{◌-◌, ◌≤◌, length}
+use Rattle.path_search.proofs.Same.{Agree}
 use Rattle.path_search.proofs.begins.same_start.Given as goal
 
 abbrev pub invariant-loop-i : goal.invariant-loop-i
