@@ -1,12 +1,9 @@
 -- After k turns the first k units have been put.
-use mathlib.Core.Path.{◌≡◌, ap, ◌∙◌}
+use mathlib.Core.Path.{◌≡◌}
 use Prim.Native.Nat.{◌-◌, ◌≤◌}
-use native.Mathlib.Omega.{arith}
 use lib.ListN.{length}
 use Rattle.text.specs.Put.{Put}
-use Rattle.listing_text.specs.Listing.{shown_unit, shown_name}
-use Rattle.listing_text.proofs.Lines.{name_start, name_next, name_end}
-use borrow.Author.Rules.{rules}
+use Rattle.listing_text.specs.Listing.{shown_name}
 use Rattle.listing_text.proofs.put_name.Given as goal
 
 abbrev pub invariant-loop-k : goal.invariant-loop-k
