@@ -117,9 +117,9 @@ replay (replay_answer.Refused x) = refl
 abbrev line_back : LineAnswer → ReadLine
 line_back a = pick (eqb a.number 0) (read_line.Line a.fields) read_line.Refused
 
-read_line : (r : ReadLine) → line_back (read_answer r) ≡ r
-read_line (read_line.Line f) = refl
-read_line read_line.Refused = refl
+read_line_lem : (r : ReadLine) → line_back (read_answer r) ≡ r
+read_line_lem (read_line.Line f) = refl
+read_line_lem read_line.Refused = refl
 
 abbrev written_back : ℕ → WrittenLine
 written_back n = pick (eqb n 0) written_line.Written written_line.Refused
@@ -178,7 +178,7 @@ settled =
       text_put_all = put;
       text_put_decimal = λ out at n. put out at _;
       text_put_hex = λ out at width x. put out at _;
-      catalogue_read_line = λ line r s p q. told read_answer line_back read_line r s (p ∙ sym q);
+      catalogue_read_line = λ line r s p q. told read_answer line_back read_line_lem r s (p ∙ sym q);
       catalogue_write_line = λ f out r s a b p q. (told written_number written_back written r s (p.number ∙ sym q.number), cc);
       layout_of_form = λ n r s p q. told form_said form_back known_form r s (p ∙ sym q);
       sections_find_form = λ l b r s p q. told form_said form_back known_form r s (p ∙ sym q);
