@@ -30,7 +30,7 @@ use Rattle.reader.proofs.Free.{free_clear}
 use Rattle.reader.proofs.Rest.{read_facts, whole_accepted, links_pass}
 use Rattle.walk.specs.declared.WalkAnswer.{WalkAnswer}
 use Rattle.walk.specs.declared.WalkAnswer.TheVariants.{Walked, Refused}
-use Rattle.walk.specs.Walk.{walk, flat_map, along, blocks, total, nexts_of, blocks_of, blocks_in}
+use Rattle.walk.specs.Walk.{walk, flat_map, along, blocks, nexts_of, blocks_of, blocks_in}
 use Rattle.walk.specs.Walk.{Visited, walked, Values, walked_values, values_of, decision_values, order_after}
 use Rattle.walk.specs.EveryEntry.{EveryEntry, times}
 use Rattle.walk.proofs.EveryEntry.{every_entry}

@@ -1,7 +1,7 @@
 // The static library for C and Rust: each function of `hivesaddle` under its exported name, with the same promise.
 #![tactic(auto)]
 
-ghost use Rattle.std.specs.Prelude.{◌≡◌, [], ◌∷◌};
+ghost use Rattle.std.specs.Prelude.{◌≡◌};
 ghost use Rattle.hivesaddle.specs.Output.{interface, PrefixOut, FileOut, WalkOut, WriteOut, Answered, line_said, fields_of, LineWriting, ReplayOut, progress_of, BeginOut, FeedOut, FinishOut, YearOut};
 ghost use Rattle.writer.specs.LaidOut.{description};
 ghost use Rattle.path_hash.specs.Hash.{xp, vista, hash2008};

@@ -1,12 +1,7 @@
 -- What waits lies in the buffer, and no list changes its length.
-use mathlib.Core.Path.{◌≡◌, refl, ap, ◌∙◌}
-use Prim.Native.Nat.{◌-◌, ◌≤◌}
-use native.Mathlib.Omega.{arith}
-use lib.ListN.{length, drop, length-take, length-drop}
-use borrow.Rule.Slice.PartMut.{same_len_mid}
-use Rattle.replay_input.specs.declared.steps.Input.{Input}
-use Rattle.replay_input.proofs.Taking.{step_within}
-use borrow.Author.Rules.{rules}
+use mathlib.Core.Path.{◌≡◌}
+use Prim.Native.Nat.{◌≤◌}
+use lib.ListN.{length}
 use Rattle.replay.proofs.take_input.Given as goal
 
 abbrev pub invariant-loop-turns : goal.invariant-loop-turns

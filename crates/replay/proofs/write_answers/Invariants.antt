@@ -1,10 +1,7 @@
 -- What was put lies in the buffer, whose length stays.
-use mathlib.Core.Path.{◌≡◌, refl, sym, ◌∙◌}
+use mathlib.Core.Path.{◌≡◌}
 use Prim.Native.Nat.{◌-◌}
 use lib.ListN.{length}
-use lib.Seq.{length-take-le}
-use Rattle.replay_input.proofs.Text.{puts_within}
-use borrow.Author.Rules.{rules}
 use Rattle.replay.proofs.write_answers.Given as goal
 
 abbrev pub invariant-loop-next : goal.invariant-loop-next
