@@ -4,9 +4,9 @@
 ghost use Rattle.std.specs.Prelude.{◌≡◌};
 ghost use Rattle.hivesaddle.specs.Output.{interface};
 
+pub mod catalogue_lines;
 pub mod files;
 pub mod hashes;
-pub mod lines;
 pub mod queries;
 pub mod recordings;
 mod replies;

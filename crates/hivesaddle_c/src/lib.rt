@@ -178,7 +178,7 @@ pub extern "C" fn hs_hash_swap_bytes(
 pub extern "C" fn hs_catalogue_read(line: &[u8], out: &mut [u64]) -> u32
     ensures { Answered (line_said (reading line.now)) result out.old out.new }
 {
-    hivesaddle::lines::hs_catalogue_read(line, out)
+    hivesaddle::catalogue_lines::hs_catalogue_read(line, out)
 }
 
 // 0 and the new line in the first 27 bytes of the output, or 19 and the output as it was.
@@ -192,7 +192,7 @@ pub extern "C" fn hs_catalogue_write(
 ) -> u32
     ensures { LineWriting (fields_of size hash runs version) output.old result output.new }
 {
-    hivesaddle::lines::hs_catalogue_write(size, hash, runs, version, output)
+    hivesaddle::catalogue_lines::hs_catalogue_write(size, hash, runs, version, output)
 }
 
 // How many working places the readers need for the file, where checks 1 to 6 pass.

@@ -1,5 +1,5 @@
 -- The reply says what the call answered.
-use Rattle.hivesaddle.proofs.lines.hs_catalogue_read.Goals as goal
+use Rattle.hivesaddle.proofs.catalogue_lines.hs_catalogue_read.Goals as goal
 
 pub returns : goal.returns
 returns c =

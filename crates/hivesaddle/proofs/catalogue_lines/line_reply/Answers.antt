@@ -1,5 +1,5 @@
 -- Each case's reply has the number and the values that the case says.
-use Rattle.hivesaddle.proofs.lines.line_reply.Goals as goal
+use Rattle.hivesaddle.proofs.catalogue_lines.line_reply.Goals as goal
 
 pub returns-in-Refused : goal.returns-in-Refused
 returns-in-Refused c = rw c.in-Refused.is c.fields_reply-in-Refused.ensures

@@ -2,7 +2,7 @@
 use mathlib.Core.Path.{ap}
 use Rattle.catalogue.specs.Line.{written_number}
 use Rattle.hivesaddle.proofs.Output.{writing_is}
-use Rattle.hivesaddle.proofs.lines.hs_catalogue_write.Goals as goal
+use Rattle.hivesaddle.proofs.catalogue_lines.hs_catalogue_write.Goals as goal
 
 pub returns-in-Refused : goal.returns-in-Refused
 returns-in-Refused c = writing_is _ _ _ _ _ c.write_line.ensures (ap written_number c.in-Refused.is)
