@@ -131,8 +131,8 @@ module _ (path name : List ℕ) where
       at (suc zero) h = behind-at 1 h ∙ omega arith
       at (suc (suc k)) h = absurd (omega arith)
 
--- for the code: what each of its tests says
-pub ruleset begins = (begins_whole, begins_short, begins_other, begins_below)
+-- for the code: what the unit behind the path says
+pub ruleset behinds = (begins_other, begins_below)
 
 -- ---- an empty path
 pub belongs-none : (path name : List ℕ) → length path ≡ 0 → true ≡ belongs path name
