@@ -9,12 +9,14 @@ use Rattle.lists.proofs.Those.{those-same}
 use Rattle.lists.proofs.First.{first_at, first_is_at, first_is_nothing, first_nothing}
 use Rattle.lists.specs.declared.Found.{Found}
 use Rattle.lists.specs.declared.Found.TheVariants.{At, Nothing}
+use Rattle.layout.specs.declared.Layout.{Layout}
 use Rattle.layout.specs.declared.Version.{Version}
 use Rattle.layout.specs.declared.Version.TheVariants.{V17, V23, V26, V30}
 use Rattle.path_hash.specs.Hash.{plain, xp_end, magnitude, wrap_sub}
 use Rattle.path_hash.proofs.Laws.{plain-lt, vista_2008}
 use Rattle.path_search.specs.Search.{hash_of, entry_by, pair_by, least_pair, pairs_below}
-use Rattle.path_search.specs.Private.{hash_start, hash_end, number_for}
+use Rattle.path_search.specs.Private.{hash_start, hash_end, number_for, number_in, numbered_in, entries_in, searched}
+use Rattle.path_search.specs.declared.Sought.{Sought}
 use Rattle.path_search.specs.declared.PathAnswer.{PathAnswer}
 use Rattle.path_search.specs.declared.PathAnswer.TheVariants as path_answer
 
@@ -163,19 +165,32 @@ lowest-none num m least index q l =
 pub lowest-end : (num : ℕ → ℕ) (m i least index : ℕ) → Lowest num i least index → i ≤ m → m ≤ i → Lowest num m least index
 lowest-end num m i least index q a b = let e : i ≡ m = omega arith in rw (← e) q
 
--- an entry with 0 after entries that have more
-pub lowest-zero : (num : ℕ → ℕ) (m i least index n : ℕ) → Lowest num i least index → (0 < least) → i < m → n ≡ num i → n ≡ 0
-    → path_answer.Entry i 0 ≡ least_pair (numbered num) m
-lowest-zero num m i least index n q h b e z =
-    sym
-    (least_at (numbered num) m i 0
-    (record {
-      below = b;
-      number = omega arith;
-      matched = eq-eqb _ _ (sym e ∙ z);
-      least = λ k j c d. absurd (omega arith);
-      first = λ j c. ne_eqb (num j) 0 (λ y. omega (arith, q.none_less j c));
-    }))
+-- ---- the loop's early end: none of the entries passed has 0, and the next one has
+module _ (q : Sought) (path : List ℕ) (l : Layout) (metrics strings : List ℕ) where
+  abbrev at-zero : ℕ → Bool
+  at-zero = numbered_in q path l metrics strings 0
+
+  pub none_zero : any_below at-zero 0 ≡ false
+  none_zero = any_no at-zero 0 (λ k h. absurd (omega arith))
+
+  pub more_zero : (i : ℕ) {n : ℕ} → any_below at-zero i ≡ false → n ≡ number_in q path l metrics strings i → (n ≡ 0 → ⊥)
+      → any_below at-zero (i + 1) ≡ false
+  more_zero i w e z =
+      any_no at-zero (i + 1)
+      (λ k h. ⊎_elim (λ (y : k ≡ i). rw y (ne_eqb _ 0 (λ x. z (e ∙ x)))) (λ y. any_false at-zero i w k y) (eq-or-lt_of_le (omega arith)))
+
+  pub search_zero : {i n : ℕ} → n ≡ number_in q path l metrics strings i → n ≡ 0 → any_below at-zero i ≡ false → i < entries_in l metrics
+      → path_answer.Entry i 0 ≡ searched q path l metrics strings
+  search_zero {i} e z w b =
+      sym
+      (least_at (numbered_in q path l metrics strings) (entries_in l metrics) i 0
+      (record {
+        below = b;
+        number = omega arith;
+        matched = eq-eqb _ _ (sym e ∙ z);
+        least = λ k j c d. absurd (omega arith);
+        first = λ j c. any_false at-zero i w j c;
+      }))
 
 -- ---- a hash and the stored one: adding n makes the one the other exactly when n is their difference
 sub_number : (h stored n : ℕ) → h < 2 ^ 32 → stored < 2 ^ 32 → n < 9 → ((h + n) % 2 ^ 32 ≡ stored) ↔ (wrap_sub stored h ≡ n)

@@ -65,6 +65,9 @@ module _ (q : Sought) (path : List ℕ) (l : Layout) (metrics strings : List ℕ
       → r ≡ sound strings at units → r ≡ false → 9 ≡ number_in q path l metrics strings i
   match_unsound d e s z = sym (match-here d e ∙ rw (sym s ∙ z))
 
+-- for the code: what each of its tests says
+pub ruleset numbers = (match_misfit, match_none, match_sound, match_unsound)
+
 -- the number says by which number a name matches
 pub number_test : (q : Sought) (path name : List ℕ) (n : ℕ) → q.from < 2 ^ 32 → q.stored < 2 ^ 32 → n < 9
     → (belongs path name && eqb ((hash_from q path name + n) % 2 ^ 32) q.stored) ≡ eqb (number_of q path name) n

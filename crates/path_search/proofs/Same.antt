@@ -118,18 +118,21 @@ module _ (path name : List ℕ) where
       let a' : get_or name (length path) 0 ≡ 0x5C = rw (add-zero (length path)) at a in
       n (omega arith)))
 
-  pub begins_below : {r : Bool} → Bytes name → (length name ≡ length path → ⊥) → length path + 2 ≤ length name → le 2 name (length path) ≡ 0x5C
+  pub begins_below : {r : Bool} → (length name ≡ length path → ⊥) → length path + 2 ≤ length name → le 2 name (length path) ≡ 0x5C
       → r ≡ same (take (length path) name) path → r ≡ begins_with path name
   unfolding begins_with le
-  begins_below {r} hn e l u q =
+  begins_below {r} e l u q =
       let n : length (behind path name) ≡ 2 = simp (length-take, length-drop) (omega arith) in
       let s = ext_get_or 0 (behind path name) (0x5C ∷ 0 ∷ []) n (λ k h. at k (omega arith)) in
       rw (← q, ne_eqb _ _ e, same_yes (behind path name) (0x5C ∷ 0 ∷ []) s) (and-true r)
     where
       at : (k : ℕ) → k < 2 → get_or (behind path name) k 0 ≡ get_or (0x5C ∷ 0 ∷ []) k 0
-      at zero h = behind-at 0 h ∙ rw (add-zero (length path)) (omega (arith, hn (length path), hn (length path + 1)))
-      at (suc zero) h = behind-at 1 h ∙ omega (arith, hn (length path), hn (length path + 1))
+      at zero h = behind-at 0 h ∙ rw (add-zero (length path)) (omega arith)
+      at (suc zero) h = behind-at 1 h ∙ omega arith
       at (suc (suc k)) h = absurd (omega arith)
+
+-- for the code: what the unit behind the path says
+pub ruleset behinds = (begins_other, begins_below)
 
 -- ---- an empty path
 pub belongs-none : (path name : List ℕ) → length path ≡ 0 → true ≡ belongs path name

@@ -28,6 +28,7 @@ fn same_start(path: &[u8], name: &[u8]) -> bool
 }
 
 // Whether a name begins with a path, followed by nothing or by a backslash. That is looked at first: it is one unit.
+#[tactic(auto, using(crate::proofs::Same::behinds))]
 fn begins_with(path: &[u8], name: &[u8]) -> bool
     ensures { result ≡ begins_with path.now name.now }
 {

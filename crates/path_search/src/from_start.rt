@@ -9,6 +9,7 @@ use crate::PathAnswer;
 use head::{OpenAnswer, Opening};
 
 // The search over the names that begin with a volume's path, where checks 1 to 6 pass. A volume that can't be shown has an empty one.
+#[tactic(auto, using(crate::proofs::Laws::from_none))]
 fn path_from_in(file: &[u8], o: Opening, volume: usize, start: &[u8]) -> PathAnswer
     requires { OpenFacts file.now o }
     ensures { result ≡ least_pair (matches_from o file.now volume start.now) o.head.metrics.count }

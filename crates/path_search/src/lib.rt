@@ -83,6 +83,7 @@ fn number_of(path: &[u8], name: &[u8], sought: Sought) -> u32
 
 // The number by which an entry that lies whole in the metrics matches. Few names match, so the hash comes first, and only a name that
 // matches is looked through for a zero unit.
+#[tactic(auto, using(crate::proofs::NameNumber::numbers))]
 fn entry_number(
     metrics: &[u8],
     strings: &[u8],
@@ -113,6 +114,7 @@ fn entry_number(
 
 // The least number over the entries that lie whole in the metrics, and the first entry that has it: the others can't be shown. None
 // is less than 0, so the first entry with 0 ends the search.
+#[tactic(auto, using(crate::proofs::Least::search_zero))]
 fn search(metrics: &[u8], strings: &[u8], path: &[u8], l: Layout, sought: Sought) -> PathAnswer
     requires { (length metrics.now ≤ size_limit) × SoundLayout l }
     ensures { result ≡ searched sought path.now l metrics.now strings.now }

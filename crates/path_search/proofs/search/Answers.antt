@@ -1,5 +1,5 @@
 use Rattle.std.proofs.Common.{arith}
-use Rattle.path_search.proofs.Least.{lowest_start, lowest_less, lowest-same, lowest-end, lowest_at, lowest-none, lowest-zero}
+use Rattle.path_search.proofs.Least.{lowest_start, lowest_less, lowest-same, lowest-end, lowest_at, lowest-none, none_zero, more_zero}
 use Rattle.path_search.proofs.Laws.{metric_some, few_entries}
 use Rattle.path_search.proofs.search.Goals as goal
 use Rattle.path_search.proofs.search.Goals.{then-n-least, else-n-least}
@@ -21,20 +21,16 @@ loop-i-preserved c =
     let w = c.loop-i in
     let low = w.invariant.2 in
     let number = c.entry_number-n.ensures in
+    let none = more_zero _ _ _ _ _ w.i w.invariant.1 number (λ e. omega (arith, e)) in
     elim c.if-n-least.branch [
       | then-n-least z ↦
-          (omega arith, omega (arith, z.least-is, c.if-n-eq0.false), rw (z.least-is, z.index-is) (lowest_less _ _ _ _ _ low number z.if-n-least.true))
+          (omega arith, none, rw (z.least-is, z.index-is) (lowest_less _ _ _ _ _ low number z.if-n-least.true))
       | else-n-least z ↦
-          (omega arith, omega (arith, z.least-is, w.invariant.1), rw (z.least-is, z.index-is) (lowest-same _ _ _ _ _ low number z.if-n-least.false))
+          (omega arith, none, rw (z.least-is, z.index-is) (lowest-same _ _ _ _ _ low number z.if-n-least.false))
     ]
 
 pub loop-i-init : goal.loop-i-init
-loop-i-init c = (omega arith, omega arith, lowest_start _)
-
-pub returns-then-n-eq0 : goal.returns-then-n-eq0
-returns-then-n-eq0 c =
-    let w = c.loop-i in
-    lowest-zero _ _ _ _ _ _ w.invariant.2 w.invariant.1 (omega arith) c.entry_number-n.ensures c.if-n-eq0.true
+loop-i-init c = (omega arith, none_zero _ _ _ _ _, lowest_start _)
 
 pub nonzero_div-entries : goal.nonzero_div-entries
 nonzero_div-entries c = metric_some _ c.requires.1

@@ -1,16 +1,11 @@
 -- A volume that is not shown, or with an empty path, has no names; else the start's hash is carried on behind its path.
 use Rattle.std.proofs.Common.{arith}
-use Rattle.path_search.proofs.Laws.{stored_low, from_none, from_given}
+use Rattle.path_search.proofs.Laws.{stored_low, from_given}
 use Rattle.path_search.proofs.from_start.path_from_in.Goals as goal
-
-pub returns-then-path-eq0 : goal.returns-then-path-eq0
-returns-then-path-eq0 c =
-    let a = c.args in
-    from_none a.o a.file.now a.volume a.start.now c.path_in-path.ensures.contents c.if-path-eq0.true
 
 pub returns : goal.returns
 returns c =
     let a = c.args in
     from_given a.o a.file.now a.volume a.start.now c.requires (omega arith)
-    (stored_low _ (λ k. (c.type_inv.file k).fits)) c.path_in-path.ensures.contents c.if-path-eq0.false
+    (stored_low _ (λ k. (c.type_inv.file k).fits)) c.path_in-path.ensures.contents (λ e. omega (arith, e))
     c.hash_start.ensures c.carry_bytes-from.ensures c.search_in.ensures
