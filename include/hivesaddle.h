@@ -521,23 +521,23 @@ uint32_t hs_year_table(const uint8_t *lines, size_t length, const uint32_t *hash
  * fixed size and no function calls itself, so neither the size nor the shape of a file makes it more. Beside the stack a
  * call uses the lists that it is handed, and nothing is allocated.
  *
- *   hs_read_prefix           1,368      hs_hash_xp                   0
- *   hs_read_file             2,040      hs_hash_vista                0
- *   hs_walk                  2,056      hs_hash_2008                 0
- *   hs_write_file            1,128      hs_hash_xp_bytes            24
- *   hs_places                  656      hs_hash_vista_bytes         24
- *   hs_program_name            304      hs_hash_2008_bytes          24
- *   hs_entry_name              704      hs_hash_powers           4,104
- *   hs_volume                  784      hs_hash_powers_bytes     4,120
- *   hs_reference               800      hs_hash_swap                56
- *   hs_find_path               720      hs_hash_swap_bytes          68
- *   hs_list_paths              912      hs_replay                  464
- *   hs_entry_reference         736      hs_replay_begin            304
- *   hs_directories             752      hs_replay_feed             528
- *   hs_references              768      hs_replay_finish           112
- *   hs_find_path_from          848      hs_year_table           57,592
- *   hs_cost                    736      hs_catalogue_write           0
- *   hs_interface                 0      hs_catalogue_read          312
+ *   hs_read_prefix           1,280      hs_hash_xp                   0
+ *   hs_read_file             2,224      hs_hash_vista                0
+ *   hs_walk                  2,384      hs_hash_2008                 0
+ *   hs_write_file            1,072      hs_hash_xp_bytes            80
+ *   hs_places                  612      hs_hash_vista_bytes         80
+ *   hs_program_name            224      hs_hash_2008_bytes          80
+ *   hs_entry_name              692      hs_hash_powers               0
+ *   hs_volume                  836      hs_hash_powers_bytes        56
+ *   hs_reference               948      hs_hash_swap                65
+ *   hs_find_path               820      hs_hash_swap_bytes         144
+ *   hs_list_paths              836      hs_replay                  400
+ *   hs_entry_reference         852      hs_replay_begin            336
+ *   hs_directories             740      hs_replay_feed             480
+ *   hs_references              740      hs_replay_finish           128
+ *   hs_find_path_from        1,028      hs_year_table           57,564
+ *   hs_cost                    724      hs_catalogue_write           8
+ *   hs_interface                 0      hs_catalogue_read          428
  */
 
 #ifdef __cplusplus

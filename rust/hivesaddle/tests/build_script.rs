@@ -9,19 +9,19 @@ use std::process::{Command, Output};
 use std::thread;
 
 /// What `tools/library` runs beside the toolchain.
-const TOOLS: [&str; 9] =
-    ["bash", "dirname", "readlink", "mkdir", "flock", "find", "sleep", "touch", "rmdir"];
+const TOOLS: [&str; 10] =
+    ["bash", "dirname", "readlink", "mkdir", "flock", "find", "sleep", "touch", "rmdir", "cp"];
 
 /// Fails where another is at it. The second call would too: the first one's
 /// archive is there.
 const RT: &str = "#!/usr/bin/env bash
 set -eu
-[ \"$*\" = \"staticlib hivesaddle\" ]
-mkdir target/at-it
+[ \"$*\" = lib ]
+mkdir ../../target/at-it
 sleep 0.5
-mkdir target/staticlib
-touch target/staticlib/libhivesaddle.a
-rmdir target/at-it
+mkdir out
+touch out/libhivesaddle_c.a
+rmdir ../../target/at-it
 ";
 
 struct Repository {
@@ -33,7 +33,7 @@ impl Repository {
     fn new(name: &str) -> Repository {
         let root = Path::new(env!("CARGO_TARGET_TMPDIR")).join(name);
         let _ = fs::remove_dir_all(&root);
-        for folder in ["bin", "crates", "tools", "rust/hivesaddle"] {
+        for folder in ["bin", "crates/hivesaddle_c", "tools", "rust/hivesaddle"] {
             fs::create_dir_all(root.join(folder)).unwrap();
         }
         fs::write(root.join("crates.txt"), "").unwrap();
