@@ -43,6 +43,9 @@ pub high_value : (c : ℕ) → 70 < c → 16 ≡ value_or16 c
 unfolding value_or16 is_digit
 high_value c l = rw (lt-leb c 57 (omega arith), lt-leb c 70 l, and-false (leb 48 c), and-false (leb 65 c))
 
+-- for the code: what each of its tests says
+pub ruleset outside_table = (low_value, high_value)
+
 pub value_few : (c : ℕ) → value_or16 c ≤ 16
 unfolding value_or16
 value_few c = by_test (is_digit c) (λ e. rw e (omega (arith, (digit_law c e).small))) (λ e. rw e (omega arith))

@@ -37,6 +37,7 @@ pub fn are_digits(line: &[u8], at: usize, width: usize) -> bool
 }
 
 // The value of a digit; 16 where the byte is none. Looked up, as a branch on which are letters would be foretold wrong.
+#[tactic(auto, using(crate::proofs::Values::outside_table))]
 fn value_of(b: u8, values: &[u8; 23]) -> u64
     requires { ValueTable values.now }
     ensures { result ≡ value_or16 b }
@@ -51,6 +52,7 @@ fn value_of(b: u8, values: &[u8; 23]) -> u64
 }
 
 // The number that up to 16 digits from `at` form; 0 where they are no digits. Tested and valued in one pass.
+#[tactic(auto, using(crate::proofs::Laws::number_wide))]
 pub fn number_in(line: &[u8], at: usize, width: usize) -> u64
     ensures { result ≡ number_in line.now at width }
 {
@@ -87,6 +89,7 @@ fn digit_of(d: u8) -> u8
 }
 
 // The digit of x at a place, counted from the lowest. A number of 64 bits has 16 digits, and zeros before them.
+#[tactic(auto, using(crate::proofs::Hex::zero_digit))]
 pub fn hex_digit(x: u64, place: usize) -> u8
     ensures { result ≡ digit_of (x / 16 ^ place % 16) }
 {

@@ -8,6 +8,9 @@ use layout::{KnownForm, KnownVersion, Layout, Version};
 use lists::Found;
 use sections::Head;
 
+// Document 01: the reach of check 4, the end of the program name.
+const NAME_REACH: usize = 76;
+
 // What checks 1 to 4 give: the version with its layout, and the name's units before its first zero.
 #[derive(Clone, Copy)]
 pub struct Start {
@@ -69,10 +72,10 @@ pub fn read_start(file: &[u8]) -> StartAnswer
     if let Fault::At(i, at) = sections::size_fault(&file[..16], l) {
         return start_refused(3, i, at);
     }
-    if file.len() < 76 {
-        return StartAnswer::Wanted(76);
+    if file.len() < NAME_REACH {
+        return StartAnswer::Wanted(NAME_REACH);
     }
-    let Found::At(units) = sections::name_end(&file[..76]) else {
+    let Found::At(units) = sections::name_end(&file[..NAME_REACH]) else {
         return start_refused(4, 0, layout::PROGRAM_NAME_AT);
     };
     StartAnswer::Started(Start {

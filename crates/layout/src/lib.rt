@@ -195,6 +195,7 @@ impl Version {
     }
 
     // The version of such a number, where it is one of the four.
+    #[tactic(auto, unfolding(crate::specs::Versions::version_of))]
     pub fn of(number: u32) -> KnownVersion
         ensures { Answers known_said (version_of number) result }
     {

@@ -94,14 +94,13 @@ module _ (s : List ℕ) (held : ℕ) (times boards : List ℕ) (k : ℕ) (times'
 
   module _ (before lines : ℕ) (l : lines ≡ (before + k) % 2 ^ 64) (work answers : List ℕ) where
     -- fewer bytes are left than a start line has
-    pub starts_wait : length s - 19 * k < 19
-        → TakesBytes (starts_taken ks held before s times boards work answers)
-        (record { stage = record { starts = held + k; starting = true; progress = record { lines = lines; bad = 0 } }; used = 19 * k })
-        times' boards' work answers
-    starts_wait n =
+    pub starts_wait : (r : Took) → length s - 19 * k < 19
+        → r ≡ record { stage = record { starts = held + k; starting = true; progress = record { lines = lines; bad = 0 } }; used = 19 * k }
+        → TakesBytes (starts_taken ks held before s times boards work answers) r times' boards' work answers
+    starts_wait r n is =
         let e = g.count in
         let q = lt-ltb (length (drop (19 * length ks) s)) 19 (omega (arith, e, length-drop (19 * length ks) s)) in
-        rw q (record { stage = rw (l, e); used = rw e; timed = g.times'_are; boarded = g.boards'_are; working = refl; given = refl })
+        rw (q, is) (record { stage = rw (l, e); used = rw e; timed = g.times'_are; boarded = g.boards'_are; working = refl; given = refl })
 
     -- the recording begins behind the starts
     pub starts_begin : (r : Fed) (work' answers' : List ℕ) → 19 ≤ length s - 19 * k

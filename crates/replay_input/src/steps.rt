@@ -103,6 +103,7 @@ fn still_starting(starts: usize, lines: u64, used: usize) -> Took
 }
 
 // Bytes where more starts may come.
+#[tactic(auto, using(crate::proofs::Taking::starts_wait))]
 fn take_starting(
     bytes: &[u8],
     stage: Stage,

@@ -5,7 +5,7 @@ use native.Mathlib.Omega.{arith}
 use borrow.Author.Count.{below_more}
 use Rattle.digits.specs.Hex.{hex_at}
 use Rattle.digits.proofs.Hex.{hex_room, digit_law}
-use Rattle.digits.proofs.Laws.{digits_outside, digits_other, digits_all, number_wide, number_other, number_digits}
+use Rattle.digits.proofs.Laws.{digits_outside, digits_other, digits_all, number_other, number_digits}
 use Rattle.digits.proofs.Values.{values, values_right, value_none, value_digit}
 use borrow.Author.Rules.{rules}
 use Rattle.digits.proofs.number_in.Goals as goal
@@ -20,9 +20,6 @@ pub returns-then-v-eq16 : goal.returns-then-v-eq16
 returns-then-v-eq16 c =
     number_other _ _ _
     (digits_other _ _ _ c.loop-k.k c.loop-k.invariant.1 (omega arith) (value_none _ (sym c.value_of-v.ensures ∙ c.if-v-eq16.true)))
-
-pub returns-then-width-gt16 : goal.returns-then-width-gt16
-returns-then-width-gt16 c = search (rules, number_wide)
 
 pub loop-k-preserved : goal.loop-k-preserved
 unfolding hex_at

@@ -19,9 +19,9 @@ pub returns-then-file-lt4 : goal.returns-then-file-lt4
 unfolding start_plan
 returns-then-file-lt4 c = search steps depth 24
 
-pub returns-then-file-lt76 : goal.returns-then-file-lt76
+pub returns-then-file-lt-NAME_REACH : goal.returns-then-file-lt-NAME_REACH
 unfolding start_plan
-returns-then-file-lt76 c = search steps depth 24
+returns-then-file-lt-NAME_REACH c = search steps depth 24
 
 pub returns-then-file-lt8 : goal.returns-then-file-lt8
 unfolding start_plan

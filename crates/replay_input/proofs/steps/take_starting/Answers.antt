@@ -1,6 +1,6 @@
--- The starts are stored, and what comes behind them waits or is the recording's beginning.
+-- The starts are stored, and what comes behind them is the recording's beginning where it does not wait.
 use Rattle.std.proofs.Common.{arith, rules}
-use Rattle.replay_input.proofs.Taking.{begun_used, taken_fit, starts_room, starts_wait, starts_begin}
+use Rattle.replay_input.proofs.Taking.{begun_used, taken_fit, starts_room, starts_begin}
 use Rattle.replay_input.proofs.steps.take_starting.Goals as goal
 
 pub returns : goal.returns
@@ -19,9 +19,6 @@ overflow_add-result c =
 
 pub overflow_mul-at : goal.overflow_mul-at
 overflow_mul-at c = omega (arith, (taken_fit _ c.args.stage.starts _ _ _ _ _ c.take_starts-k.ensures).0)
-
-pub returns-then-bytes-at-lt-START_BYTES : goal.returns-then-bytes-at-lt-START_BYTES
-returns-then-bytes-at-lt-START_BYTES c = rw c.still_starting.ensures (search (rules, starts_wait))
 
 pub overflow_add-starts : goal.overflow_add-starts
 overflow_add-starts c = omega (arith, (taken_fit _ c.args.stage.starts _ _ _ _ _ c.take_starts-k.ensures).1)
