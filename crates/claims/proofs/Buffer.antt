@@ -11,8 +11,6 @@ use Rattle.sections.specs.Fields.{link_count, part}
 use Rattle.lists.specs.Filled.{filled}
 use Rattle.trace.specs.Links.{chains}
 use Rattle.trace.proofs.Steps.{length-nexts}
-use Rattle.reader.specs.declared.verdict.Verdict.{Verdict}
-use Rattle.reader.specs.declared.verdict.Verdict.TheVariants.{Accepted}
 use Rattle.reader.specs.Verdict.{Acceptable, Reads}
 use Rattle.reader.specs.Checks.{nexts_in, link_at}
 use Rattle.reader.specs.Allowed.{Allowed}
@@ -22,9 +20,12 @@ use Rattle.reader.proofs.Free.{free_clear}
 use Rattle.reader.proofs.Rest.{links_pass}
 use Rattle.reader.proofs.Allowed.{opens}
 use Rattle.claims.specs.Claims.{NotAccepted, Linked}
+use Rattle.reader.specs.declared.verdict.Acceptance.{Acceptance}
+use Rattle.std.specs.Prelude.{Ok, Result}
+use Rattle.incremental.specs.declared.Stop.{Stop}
 
-pub not_accepted_filled : (x : Answer Acceptable) (m : ℕ) (v : Verdict) (after : List ℕ) → Reads x m v after → NotAccepted v → after ≡ filled m
-not_accepted_filled (decided (accept x)) m v after r n = absurd (n x.fields (same_values v (Accepted x.fields) r.verdict))
+pub not_accepted_filled : (x : Answer Acceptable) (m : ℕ) (v : Result Acceptance Stop) (after : List ℕ) → Reads x m v after → NotAccepted v → after ≡ filled m
+not_accepted_filled (decided (accept x)) m v after r n = absurd (n x.fields (same_values v (Ok x.fields) r.verdict))
 not_accepted_filled (decided (refuse f)) m v after r n = r.buffer
 not_accepted_filled (wants k) m v after r n = r.buffer
 

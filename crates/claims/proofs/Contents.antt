@@ -21,8 +21,6 @@ use Rattle.volumes.specs.Volumes.{entry_at, directories_at, directory_count, ref
 use Rattle.volumes.specs.SoundVolume.{SoundDirectory, directory_at}
 use Rattle.volumes.proofs.SoundVolume.{is_step}
 use Rattle.query.specs.declared.costs.FileCost.{FileCost}
-use Rattle.query.specs.declared.costs.CostAnswer.{CostAnswer}
-use Rattle.query.specs.declared.costs.CostAnswer.TheVariants.{Known}
 use Rattle.query.specs.Queries.{volume_facts}
 use Rattle.query.specs.Contents.{directory_pairs, directories_in, directories_asked, reference_pairs, references_in, references_asked}
 use Rattle.query.specs.Cost.{whole_entries, name_cost, directory_cost, names_cost, directories_cost, cost_asked}
@@ -32,6 +30,7 @@ use Rattle.reader.specs.Allowed.{Allowed}
 use Rattle.reader.proofs.Allowed.{demand_2}
 use Rattle.claims.specs.Contents.{stepped, PairIs, VolumeListed, Covers, NamesApart, InDirectory, DirectoriesApart, ContentsGiven, Contents}
 use Rattle.claims.proofs.EveryName.{opened, volumes_there, volume_is_shown}
+use Rattle.std.specs.Prelude.{Option, Some}
 
 -- ---- pair k of what is listed
 laid_there : (all before : List ℕ) (k j : ℕ) → 2 * k + 1 < length before → 2 * k + 1 < length all → j ≤ 2 * k + 1 → get_or (pairs_in all before) j 0 ≡ get_or all j 0
@@ -185,9 +184,9 @@ module _ (p : List ℕ) (o : Opening) (a : Allowed p o) where
           (w.0, record { below = w.1; covers = w.2 }))
           (fit i l)
 
-  cost-is : (r : CostAnswer) (c : FileCost) → r ≡ cost_asked p → r ≡ Known c → c ≡ record { names = names_cost o p; directories = directories_cost o p }
+  cost-is : (r : Option FileCost) (c : FileCost) → r ≡ cost_asked p → r ≡ Some c → c ≡ record { names = names_cost o p; directories = directories_cost o p }
   cost-is r c q e =
-      let k : cost_asked p ≡ Known (record { names = names_cost o p; directories = directories_cost o p }) = rw (opened p o a) in
+      let k : cost_asked p ≡ Some (record { names = names_cost o p; directories = directories_cost o p }) = rw (opened p o a) in
       cc
 
   contents-given : ContentsGiven p o

@@ -20,9 +20,6 @@ use Rattle.head.proofs.Rules.{part_length}
 use Rattle.head.specs.declared.checks.Opening.{Opening}
 use Rattle.volumes.specs.Volumes.{entry_at, volume_of, reference_of}
 use Rattle.query.specs.declared.Place.{Place}
-use Rattle.query.specs.declared.PlaceAnswer.TheVariants as place_answer
-use Rattle.query.specs.declared.VolumeAnswer.TheVariants as volume_answer
-use Rattle.query.specs.declared.ReferenceAnswer.TheVariants as reference_answer
 use Rattle.query.specs.Queries.{ShownAt, program_place, name_place, entry_place, volume_shown, volume_facts, volume_asked, reference_shown, reference_asked}
 use Rattle.query.specs.Private.{section_shown}
 use Rattle.query.proofs.Parts.{part_there_to}
@@ -32,6 +29,7 @@ use Rattle.query.specs.Shown.{EntryShown}
 use Rattle.reader.specs.Allowed.{Allowed}
 use Rattle.reader.proofs.Allowed.{opens, demand_2}
 use Rattle.claims.specs.EveryName.{Lies, program_at, AllShown, EveryName}
+use Rattle.std.specs.Prelude.{Some}
 
 -- a part that the file reaches to its end lies there whole
 lies : (file r : Bor (List ℕ)) (w : Place) → w.at + w.len ≤ length file.now → ShownAt file w r → Lies file w r
@@ -53,7 +51,7 @@ module _ (p : List ℕ) (o : Opening) (a : Allowed p o) where
   pub opened : run open_plan p ≡ decided (accept o)
   opened = open_complete p o facts
 
-  pub program_is : program_place p ≡ place_answer.Shown (program_at o)
+  pub program_is : program_place p ≡ Some (program_at o)
   program_is = rw started
 
   -- every entry lies in its section, and the section in the file
@@ -71,7 +69,7 @@ module _ (p : List ℕ) (o : Opening) (a : Allowed p o) where
       (omega (arith, metrics-there, (open_shapes p o facts).metrics_len)) in
       record { below = l; in_section = t.0; in_file = t.1; name = a.names i l }
 
-  pub entry_is : (i : ℕ) → i < o.head.metrics.count → entry_place p i ≡ place_answer.Shown (name_place o p i)
+  pub entry_is : (i : ℕ) → i < o.head.metrics.count → entry_place p i ≡ Some (name_place o p i)
   entry_is i l = rw (opened, (entry_shown_law o p i (open_sound p o facts)).1 (entry-is-shown i l))
 
   pub volumes_there : length (part o.head.volumes p) ≡ o.head.volumes.len
@@ -84,11 +82,11 @@ module _ (p : List ℕ) (o : Opening) (a : Allowed p o) where
       (section_shown_law o.head.volumes o.layout (part o.head.volumes p) i).1
       (record { room = a.entries; below = l; whole = omega (arith, volumes_there); sound = a.volumes i l })
 
-  volume_is : (i : ℕ) → i < o.head.volumes.count → volume_asked p i ≡ volume_answer.Shown (volume_facts o p i)
+  volume_is : (i : ℕ) → i < o.head.volumes.count → volume_asked p i ≡ Some (volume_facts o p i)
   volume_is i l = rw (opened, volume_is_shown i l)
 
   reference-is : (i k : ℕ) → i < o.head.volumes.count → k < (volume_facts o p i).references
-      → reference_asked p i k ≡ reference_answer.Shown (reference_of (part o.head.volumes p) (entry_at o.layout i) k)
+      → reference_asked p i k ≡ Some (reference_of (part o.head.volumes p) (entry_at o.layout i) k)
   unfolding reference_shown volume_facts
   reference-is i k l h = rw (opened, volume_is_shown i l, lt-ltb k (volume_of (part o.head.volumes p) (entry_at o.layout i)).references h)
 

@@ -10,11 +10,11 @@ use Rattle.sections.proofs.Cases.{links_low}
 use Rattle.incremental.specs.Decision.{accept}
 use Rattle.incremental.specs.Plan.{decided}
 use Rattle.reader.specs.declared.verdict.Acceptance.{Acceptance}
-use Rattle.reader.specs.declared.verdict.Verdict.TheVariants.{Accepted}
 use Rattle.reader.specs.Checks.{record_of, file_answer, ReadsFile}
 use Rattle.reader.proofs.Allowed.{demand_2}
 use Rattle.claims.proofs.Computed.{answered, shown}
 use Rattle.claims.specs.Examples.{zero_bytes, smallest, smallest_record, full, full_table, full_record, Example, SmallestFile, FullFile, Examples}
+use Rattle.std.specs.Prelude.{Ok}
 
 smallest_computed : SmallestFile
 unfolding answered
@@ -32,13 +32,13 @@ example : (p buffer : List ℕ) (a : Acceptance) (t : List ℕ) → file_answer 
     → Example p a
 unfolding record_of
 example p buffer a t e =
-    let r : ReadsFile p buffer (Accepted a) t = rw e (record { verdict = refl; buffer = refl }) in
-    let s = (demand_2 p buffer (Accepted a) t r).sound a refl in
+    let r : ReadsFile p buffer (Ok a) t = rw e (record { verdict = refl; buffer = refl }) in
+    let s = (demand_2 p buffer (Ok a) t r).sound a refl in
     let few = links_low s.0.layout s.0.head in
     let n : s.0.head.trace.count ≡ a.trace_count = ap (λ (b : Acceptance). b.trace_count) (sym s.3) in
     record {
       allowed = (s.0, s.1, sym s.3);
-      accepted = λ buffer v after l r. ((demand_2 p buffer v after r).complete s.0 s.1 (omega (arith, few))).0 ∙ ap Accepted (sym s.3);
+      accepted = λ buffer v after l r. ((demand_2 p buffer v after r).complete s.0 s.1 (omega (arith, few))).0 ∙ ap Ok (sym s.3);
     }
 
 pub examples : Examples

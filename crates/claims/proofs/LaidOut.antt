@@ -14,12 +14,10 @@ use Rattle.lists.proofs.Tests.{by_test, never}
 use Rattle.little_endian.specs.Number.{le}
 use Rattle.layout.specs.Head.{declared_size_at, program_name_at, entry_offset}
 use Rattle.layout.specs.Versions.{version_number, version_of, layout_of, size_limit, trace_entry, volume_entry}
-use Rattle.layout.specs.declared.KnownVersion.TheVariants.{Known}
 use Rattle.layout.specs.declared.Layout.{Layout}
 use Rattle.layout.specs.declared.Version.{Version}
 use Rattle.incremental.specs.Decision.{Decision, accept, refuse, refusal, check, ◌>>=◌, ◌>>◌}
 use Rattle.incremental.specs.Plan.{decided, run}
-use Rattle.incremental.specs.declared.Fault.{Fault}
 use Rattle.incremental.specs.declared.Refusal.{Refusal}
 use Rattle.incremental.proofs.Each.{Fair, fair_accept, fair_refuse, fair_check, fair_then}
 use Rattle.sections.specs.Fields.{places_fault, entries_fault}
@@ -30,7 +28,6 @@ use Rattle.names.specs.Names.{in_pairs, misfit_fault, unsound_fault}
 use Rattle.trace.specs.Links.{astray_fault, shared_fault, cyclic_fault, link_checks, chains}
 use Rattle.volumes.specs.Volumes.{volumes_from}
 use Rattle.volumes.proofs.Fair.{fair_volumes}
-use Rattle.query.specs.declared.PlaceAnswer.TheVariants.{Shown}
 use Rattle.query.specs.Queries.{program_place, entry_place}
 use Rattle.reader.specs.Verdict.{Acceptable}
 use Rattle.reader.specs.Checks.{opening, file_answer}
@@ -48,6 +45,8 @@ use Rattle.writer.proofs.Runs.{too_large, name_endless, laid_answer}
 use Rattle.writer.proofs.Answering.{below_30}
 use Rattle.claims.specs.Writer.{Occurs, EqualFields}
 use Rattle.claims.proofs.EveryName.{program_is, entry_is}
+use Rattle.incremental.specs.declared.Fault.{Fault}
+use Rattle.std.specs.Prelude.{Option, Some}
 
 -- ---- the numbers of checks 7 to 15
 abbrev Middle : Refusal → Type 0
@@ -57,7 +56,7 @@ fair_bind : {A B : Type 0} (c : Decision A) (g : A → Decision B) → Fair Midd
 fair_bind (accept a) g h k = k a
 fair_bind (refuse f) g h k = fair_refuse Middle f (h.refuses f refl)
 
-fair_line : {A : Type 0} (n : ℕ) (f : Fault) (later : Decision A) → (7 ≤ n) × (n ≤ 15) → Fair Middle later → Fair Middle (check n f >> later)
+fair_line : {A : Type 0} (n : ℕ) (f : Option Fault) (later : Decision A) → (7 ≤ n) × (n ≤ 15) → Fair Middle later → Fair Middle (check n f >> later)
 fair_line n f later h k = fair_check Middle n f later (λ i at e. h) k
 
 fair_links : (at : ℕ → ℕ) (s : List ℕ) → Fair Middle (link_checks at s)
@@ -79,7 +78,7 @@ fair_sections l d m =
     (fair_volumes Middle _ l _ _ 0 (λ k _ _. omega arith)) (fair_accept Middle n)))))
 
 -- ---- a laid-out file, by its version
-module _ (v : Version) (w : Writable (layout_of v)) (known : version_of (version_number v) ≡ Known v) (d : Description) (r : Numbers d) (m : ℕ) where
+module _ (v : Version) (w : Writable (layout_of v)) (known : version_of (version_number v) ≡ Some v) (d : Description) (r : Numbers d) (m : ℕ) where
   abbrev pub l : Layout
   l = layout_of v
 
@@ -156,11 +155,11 @@ module _ (v : Version) (w : Writable (layout_of v)) (known : version_of (version
         ∙ get_or-take n d.name i 0 (omega (arith, whole-name))
 
     module _ (a : Allowed (laid_out v d) o) where
-      pub name_shown_lem : program_place (laid_out v d) ≡ Shown (record { at = 16; len = 2 * length (before_zero d.name) })
-      name_shown_lem = program_is (laid_out v d) o a ∙ ap (λ (n : ℕ). Shown (record { at = 16; len = 2 * n })) whole-name
+      pub name_shown_lem : program_place (laid_out v d) ≡ Some (record { at = 16; len = 2 * length (before_zero d.name) })
+      name_shown_lem = program_is (laid_out v d) o a ∙ ap (λ (n : ℕ). Some (record { at = 16; len = 2 * n })) whole-name
 
       pub entry_written : (i : ℕ) → i < pairs d.metrics
-          → entry_place (laid_out v d) i ≡ Shown (record { at = strings_at l d + first_of d.metrics i; len = 2 * second_of d.metrics i })
+          → entry_place (laid_out v d) i ≡ Some (record { at = strings_at l d + first_of d.metrics i; len = 2 * second_of d.metrics i })
       entry_written i h =
           entry_is (laid_out v d) o a i h
-          ∙ (λ j. Shown (record { at = strings_at l d + facts.name_at_lem i h j; len = 2 * facts.name_units_lem i h j }))
+          ∙ (λ j. Some (record { at = strings_at l d + facts.name_at_lem i h j; len = 2 * facts.name_units_lem i h j }))

@@ -19,13 +19,14 @@ use Rattle.head.specs.Checks.{open_plan}
 use Rattle.head.specs.declared.checks.Opening.{Opening}
 use Rattle.query.specs.Queries.{entry_shown}
 use Rattle.query.proofs.Entries.{both}
-use Rattle.path_search.specs.declared.PathAnswer.{PathAnswer}
-use Rattle.path_search.specs.declared.PathAnswer.TheVariants.{Entry, NoPath}
 use Rattle.path_search.specs.Search.{hash_of, entry_numbers, matches_by, least_pair, all_pairs, path_found, path_pairs}
 use Rattle.path_search.specs.Private.{start_of}
 use Rattle.path_search.proofs.Least.{least_is, least_not}
 use Rattle.path_search.proofs.Places.{length_pairs, pair_there, pair_at}
 use Rattle.claims.specs.Numbers.{PairAt, Numbers}
+use Rattle.std.specs.Prelude.{None, Option, Some}
+use Rattle.path_search.specs.declared.PathEntry.{PathEntry}
+use Rattle.path_search.specs.Search.{path_entry}
 
 -- ---- over any test of a number and an entry
 none_counted : (p : ℕ → Bool) (n : ℕ) → ((k : ℕ) → k < n → p k ≡ false) → count p n ≡ 0
@@ -48,7 +49,7 @@ module _ (test : ℕ → ℕ → Bool) (m : ℕ) where
       let w = pair_at test m 9 r (omega (arith, length_pairs test m 9)) in
       (w.0, w.1, record { inside = l; entry = w.2.entry_at; number = w.2.number_at }, w.3.number, w.3.entry, w.3.passes)
 
-  first-there : (i n : ℕ) → least_pair test m ≡ Entry i n → PairAt (all_pairs test m) 0 i n
+  first-there : (i n : ℕ) → least_pair test m ≡ Some (path_entry i n) → PairAt (all_pairs test m) 0 i n
   first-there i n e =
       let q = least_is test m i n e in
       let a : start_of test m n ≡ 0 = none_summed _ n (λ k l. none_counted (test k) m (λ j h. q.least k j l h)) in
@@ -56,18 +57,18 @@ module _ (test : ℕ → ℕ → Bool) (m : ℕ) where
       let z : start_of test m n + count (test n) i ≡ 0 = omega arith in
       rw z at (there i n q.number q.below q.matched)
 
-  none-there : least_pair test m ≡ NoPath → all_pairs test m ≡ []
+  none-there : least_pair test m ≡ None → all_pairs test m ≡ []
   none-there e =
       let q = least_not test m e in
       let a : start_of test m 9 ≡ 0 = none_summed _ 9 (λ n l. none_counted (test n) m (λ i h. q n i l h)) in
       no_length (all_pairs test m) (omega (arith, length_pairs test m 9))
 
-  there-none : all_pairs test m ≡ [] → least_pair test m ≡ NoPath
+  there-none : all_pairs test m ≡ [] → least_pair test m ≡ None
   there-none e = go (least_pair test m) refl
     where
-      go : (x : PathAnswer) → least_pair test m ≡ x → least_pair test m ≡ NoPath
-      go (Entry i n) q = absurd (omega (arith, (first-there i n q).inside, ap length e))
-      go NoPath q = q
+      go : (x : Option PathEntry) → least_pair test m ≡ x → least_pair test m ≡ None
+      go (Some (path_entry i n)) q = absurd (omega (arith, (first-there i n q).inside, ap length e))
+      go None q = q
 
 -- ---- on a file
 difference : (h k n stored : ℕ) → k < 9 → n < 9 → (h + k) % 2 ^ 32 ≡ stored → (h + n) % 2 ^ 32 ≡ stored → k ≡ n
@@ -80,7 +81,7 @@ one_number o p i k n a b e f =
     difference (hash_of o.version (entry_numbers o p i)) k n (stored_hash p) a b (eqb-true _ _ g) (eqb-true _ _ h)
 
 -- checks 1 to 6 give an opening, or nothing is found and nothing listed
-by_opening : {A : Type 0} (p : List ℕ) → ((o : Opening) → run open_plan p ≡ decided (accept o) → A) → (path_found p ≡ NoPath → path_pairs p ≡ [] → A) → A
+by_opening : {A : Type 0} (p : List ℕ) → ((o : Opening) → run open_plan p ≡ decided (accept o) → A) → (path_found p ≡ None → path_pairs p ≡ [] → A) → A
 by_opening {A} p y n = go (run open_plan p) refl
   where
     go : (x : Answer Opening) → run open_plan p ≡ x → A
@@ -88,16 +89,16 @@ by_opening {A} p y n = go (run open_plan p) refl
     go (decided (refuse r)) e = n (rw e) (rw e)
     go (wants k) e = n (rw e) (rw e)
 
-first_pair : (p : List ℕ) (i n : ℕ) → path_found p ≡ Entry i n → PairAt (path_pairs p) 0 i n
+first_pair : (p : List ℕ) (i n : ℕ) → path_found p ≡ Some (path_entry i n) → PairAt (path_pairs p) 0 i n
 first_pair p i n e =
     by_opening p (λ o a. rw a (first-there (matches_by o p) o.head.metrics.count i n (rw a at e))) (λ f l. never (cc))
 
-no_pair : (p : List ℕ) → (path_found p ≡ NoPath) ↔ (path_pairs p ≡ [])
+no_pair : (p : List ℕ) → (path_found p ≡ None) ↔ (path_pairs p ≡ [])
 no_pair p =
     by_opening p (λ o a. rw a (none-there (matches_by o p) o.head.metrics.count, there-none (matches_by o p) o.head.metrics.count))
     (λ f l. (λ _. l, λ _. f))
 
-pub path_not_open : (p : List ℕ) → ((o : Opening) → run open_plan p ≡ decided (accept o) → ⊥) → path_found p ≡ NoPath
+pub path_not_open : (p : List ℕ) → ((o : Opening) → run open_plan p ≡ decided (accept o) → ⊥) → path_found p ≡ None
 path_not_open p n = by_opening p (λ o e. absurd (n o e)) (λ f l. f)
 
 listed : (o : Opening) (p : List ℕ) (i n : ℕ) → run open_plan p ≡ decided (accept o) → n < 9 → i < o.head.metrics.count

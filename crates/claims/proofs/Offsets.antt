@@ -2,7 +2,6 @@
 use mathlib.Core.Path.{◌≡◌, refl, sym, ap, ◌∙◌}
 use mathlib.Core.Bool.{Bool, not, ◌||◌}
 use mathlib.Core.List.{List}
-use mathlib.Core.Option.{some}
 use mathlib.Core.Logic.{◌⊎◌}
 use Prim.Native.Nat.{ℕ, ◌+◌, ◌*◌, ◌≤◌, ◌<◌}
 use native.Mathlib.Omega.{arith}
@@ -18,8 +17,6 @@ use Rattle.layout.specs.Sound.{SoundLayout}
 use Rattle.layout.proofs.Laws.{layout_sound, form_required_lem}
 use Rattle.layout.specs.declared.Layout.{Layout}
 use Rattle.incremental.specs.declared.Refusal.{Refusal}
-use Rattle.incremental.specs.declared.Fault.{Fault}
-use Rattle.incremental.specs.declared.Fault.TheVariants.{At}
 use Rattle.incremental.specs.Decision.{accept, refuse, refusal, fault_at, fault_of}
 use Rattle.incremental.specs.Plan.{Plan, Answer, decided, wants, run, and_then, reach, check, done}
 use Rattle.incremental.proofs.Each.{Each, each_refuse, each_accept, each_done, each_reach, each_check, each_given, each_found, each_decide, each_then}
@@ -35,8 +32,6 @@ use Rattle.names.specs.Names.{name_field_at, fits, misfit_fault, unsound_fault}
 use Rattle.trace.specs.Links.{astray, shared, cyclic}
 use Rattle.trace.proofs.Steps.{length-nexts}
 use Rattle.volumes.proofs.Fair.{fair_volumes}
-use Rattle.reader.specs.declared.verdict.Verdict.{Verdict}
-use Rattle.reader.specs.declared.verdict.Verdict.TheVariants.{Refused}
 use Rattle.reader.specs.Verdict.{Acceptable, Reads, values_of}
 use Rattle.reader.specs.Checks.{nexts_in, trace_required, volumes_required, prefix_answer, whole, size_of}
 use Rattle.reader.specs.Checks.{counts_plan, fits_plan, texts_plan, trace_plan, volumes_plan, rest_plan, read_plan}
@@ -46,6 +41,12 @@ use Rattle.reader.proofs.Values.{refused_answer}
 use Rattle.reader.proofs.Taken.{head-take}
 use Rattle.claims.specs.Offsets.{offset_of, constants, or_else, layout_in, offset_in, Offsets}
 use Rattle.claims.proofs.Rows.{at_index, found_index, field_low, entry_inside, links_there, form_told}
+use Rattle.reader.specs.declared.verdict.Acceptance.{Acceptance}
+use Rattle.std.specs.Prelude.{Err, Option, Result, Some}
+use Rattle.incremental.specs.declared.Fault.{Fault}
+use Rattle.incremental.specs.declared.Stop.TheVariants.{Refused}
+use Rattle.incremental.specs.declared.Stop.{Stop}
+use Rattle.incremental.specs.Decision.{fault}
 
 abbrev Any : {A : Type 0} → A → Type 0
 Any a = Unit
@@ -63,7 +64,7 @@ module _ (p : List ℕ) (m : ℕ) where
       → Each Any Placed (run (and_then (reach k) f) p)
   wait k f h = each_reach Any Placed k f p h
 
-  abbrev line : {B : Type 0} (n : ℕ) (f : Fault) (g : Unit → Plan B) → ((i at : ℕ) → f ≡ At i at → Placed (refusal n i at))
+  abbrev line : {B : Type 0} (n : ℕ) (f : Option Fault) (g : Unit → Plan B) → ((i at : ℕ) → f ≡ Some (fault i at) → Placed (refusal n i at))
       → Each Any Placed (run (g tt) p) → Each Any Placed (run (and_then (check n f) g) p)
   line n f g h k = each_check Any Placed n f g p h (λ _. k)
 
@@ -81,21 +82,21 @@ module _ (p : List ℕ) (m : ℕ) where
   placed n i x s e h = (e, h, λ z. absurd (s z))
 
   -- ---- rows whose offset is the same in every file
-  fixed : (n x : ℕ) (b : Bool) → (n ≡ 7 → ⊥) → x ≡ offset_in p n 0 → x + 4 ≤ length p → (i at : ℕ) → fault_at 0 x b ≡ At i at → Placed (refusal n i at)
+  fixed : (n x : ℕ) (b : Bool) → (n ≡ 7 → ⊥) → x ≡ offset_in p n 0 → x + 4 ≤ length p → (i at : ℕ) → fault_at 0 x b ≡ Some (fault i at) → Placed (refusal n i at)
   fixed n x b s e h i at q =
       let a = at_index 0 x b i at q in
       rw (a.0, a.1) (placed n 0 x s e h)
 
-  signature-row : (b : List ℕ) → 8 ≤ length p → (i at : ℕ) → signature_fault b ≡ At i at → Placed (refusal 2 i at)
+  signature-row : (b : List ℕ) → 8 ≤ length p → (i at : ℕ) → signature_fault b ≡ Some (fault i at) → Placed (refusal 2 i at)
   unfolding signature_fault
   signature-row b k = fixed 2 4 (not (eqb (le 4 b signature_at) 0x41434353)) (omega arith) refl (omega arith)
 
-  size-row : (l : Layout) (b : List ℕ) → 16 ≤ length p → (i at : ℕ) → size_fault l b ≡ At i at → Placed (refusal 3 i at)
+  size-row : (l : Layout) (b : List ℕ) → 16 ≤ length p → (i at : ℕ) → size_fault l b ≡ Some (fault i at) → Placed (refusal 3 i at)
   unfolding size_fault
   size-row l b k = fixed 3 12 (ltb (declared_size b) (head_end l) || ltb size_limit (declared_size b)) (omega arith) refl (omega arith)
 
   section-row : (n : ℕ) (test : ℕ → Bool) → (n ≡ 7 → ⊥) → ((i : ℕ) → offset_field_at i ≡ offset_in p n i) → 112 ≤ length p → (i at : ℕ)
-      → fault_of offset_field_at (first_from test 4 1) ≡ At i at → Placed (refusal n i at)
+      → fault_of offset_field_at (first_from test 4 1) ≡ Some (fault i at) → Placed (refusal n i at)
   section-row n test s e k i at q =
       let a = (found_index offset_field_at test 4 1 i at q).0 in
       placed n i at s (a ∙ e i) (omega (arith, a, field_low i))
@@ -121,7 +122,7 @@ module _ (p : List ℕ) (m : ℕ) where
       let required : (form_required s.layout ≡ 0) ⊎ (form_required s.layout ≡ 88) = rw f.laid (form_required_lem s.version) in
       each_reach P Placed _ _ p λ told.
       each_found P Placed 21 _ _ _ p (λ e. placed 21 0 _ (omega arith) refl (omega (arith, form_told s.layout p _ required told e))) λ l e.
-      let q : form_in s.layout p ≡ some l = sym (form_take s.layout p required) ∙ e in
+      let q : form_in s.layout p ≡ Some l = sym (form_take s.layout p required) ∙ e in
       each_done P Placed _ p (form_facts s.layout l p q (rw f.laid (layout_sound s.version)) f.least).0
 
   sections-placed : (s : Start) → SoundLayout s.layout → Each Any Placed (run (section_plan s) p)
@@ -162,13 +163,13 @@ module _ (p : List ℕ) (m : ℕ) where
     row : (n i x : ℕ) → (n ≡ 7 → ⊥) → x ≡ offset_of l h n i → x + 4 ≤ length p → Placed (refusal n i x)
     row n i x s e = placed n i x s (e ∙ ap (λ (g : Head). offset_of l g n i) (sym same) ∙ ap (λ (k : Layout). offset_of k (head_of k p) n i) (sym laid))
 
-    places_row : (i at : ℕ) → places_fault m (link_count l h) ≡ At i at → Placed (refusal 7 i at)
+    places_row : (i at : ℕ) → places_fault m (link_count l h) ≡ Some (fault i at) → Placed (refusal 7 i at)
     unfolding places_fault
     places_row i at q =
         let a = at_index 0 96 (ltb m (link_count l h)) i at q in
         (a.1, omega (arith, a.1, sound.fixed, f.whole), λ _. (o, open_complete p o f, ltb-true _ _ a.2))
 
-    entries-row : (n entry size : ℕ) (i at : ℕ) → entries_fault n entry size ≡ At i at → Placed (refusal 8 i at)
+    entries-row : (n entry size : ℕ) (i at : ℕ) → entries_fault n entry size ≡ Some (fault i at) → Placed (refusal 8 i at)
     unfolding entries_fault
     entries-row n entry size = fixed 8 112 (ltb size (n * entry)) (omega arith) refl (omega (arith, sound.fixed, f.whole))
 
@@ -177,7 +178,7 @@ module _ (p : List ℕ) (m : ℕ) where
     counts-placed = wait _ _ λ _. line 7 _ _ places_row (line 8 _ _ (entries-row _ _ _) (ends tt))
 
     name-row : (n : ℕ) (test : ℕ → Bool) → (n ≡ 7 → ⊥) → ((i : ℕ) → name_field_at l h.metrics.at i ≡ offset_of l h n i) → h.metrics.end ≤ length p
-        → (i at : ℕ) → fault_of (name_field_at l h.metrics.at) (first_from test h.metrics.count 0) ≡ At i at → Placed (refusal n i at)
+        → (i at : ℕ) → fault_of (name_field_at l h.metrics.at) (first_from test h.metrics.count 0) ≡ Some (fault i at) → Placed (refusal n i at)
     name-row n test s e k i at q =
         let a = found_index (name_field_at l h.metrics.at) test h.metrics.count 0 i at q in
         let c : entry_offset h.metrics.at (metrics_entry l) i + (name_offset_at l + 4) ≤ h.metrics.end =
@@ -198,7 +199,7 @@ module _ (p : List ℕ) (m : ℕ) where
     -- an entry that has a next index is there, and so is the trace section
     link_row : (n count : ℕ) (test : ℕ → Bool) → (n ≡ 7 → ⊥) → count ≡ link_count l h
         → ((i : ℕ) → entry_offset h.trace.at (trace_entry l) i ≡ offset_of l h n i) → trace_required l h ≤ length p → (i at : ℕ)
-        → fault_of (entry_offset h.trace.at (trace_entry l)) (first_from test count 0) ≡ At i at → Placed (refusal n i at)
+        → fault_of (entry_offset h.trace.at (trace_entry l)) (first_from test count 0) ≡ Some (fault i at) → Placed (refusal n i at)
     link_row n count test x s e k i at q =
         let a = found_index (entry_offset h.trace.at (trace_entry l)) test count 0 i at q in
         let r = links_there l h i (length p) (omega (arith, a.1)) k in
@@ -257,7 +258,7 @@ module _ (p : List ℕ) (m : ℕ) where
   each-whole n (decided (refuse r)) k = each_refuse Any Right r (k.refuses r refl).0
   each-whole n (wants j) k = each_refuse Any Right _ refl
 
-refused_by : (x : Answer Acceptable) (m : ℕ) (v : Verdict) (after : List ℕ) (r : Refusal) → Reads x m v after → v ≡ Refused r → x ≡ decided (refuse r)
+refused_by : (x : Answer Acceptable) (m : ℕ) (v : Result Acceptance Stop) (after : List ℕ) (r : Refusal) → Reads x m v after → v ≡ Err (Err (Err (Err (Err (Err (Err (Err (Err (Err (Err (Err (Err (Err (Err (Err (Err (Err (Err (Err (Err (Err (Err (Err (Err (Err (Err (Err (Err (Err (Err (Err (Err (Err (Err (Err (Err (Err (Err (Err (Err (Err (Err (Err (Err (Err (Err (Err (Err (Err (Err (Err (Err (Err (Err (Err (Err (Err (Err (Err (Err (Err (Err (Err (Err (Err (Err (Err (Err (Err (Err (Err (Err (Err (Err (Err (Err (Err (Err (Err (Err (Err (Err (Err (Err (Err (Err (Err (Err (Err (Err (Err (Err (Err (Err (Err (Err (Err (Err (Err (Err (Err (Err (Err (Err (Err (Err (Err (Err (Err (Err (Err (Err (Err (Err (Err (Err (Err (Err (Err (Err (Err (Err (Err (Err (Err (Err (Err (Err (Err (Err (Err (Err (Err (Err (Err (Err (Err (Err (Err (Err (Err (Err (Err (Err (Err (Err (Err (Err (Err (Err (Err (Err (Err (Err (Err (Err (Err (Err (Err (Err (Err (Err (Err (Err (Err (Err (Err (Err (Err (Err (Err (Err (Err (Err (Err (Err (Err (Err (Err (Err (Err (Err (Err (Err (Err (Err (Err (Err (Err (Err (Err (Err (Err (Err (Err (Err (Err (Err (Err (Refused r)))))))))))))))))))))))))))))))))))))))))))))))))))))))))))))))))))))))))))))))))))))))))))))))))))))))))))))))))))))))))))))))))))))))))))))))))))))))))))))))))))))))))))))))))))))))))))))))))))))))) → x ≡ decided (refuse r)
 refused_by x m v after r h q = refused_answer x r (ap values_of (sym q) ∙ h.verdict)
 
 pub offsets : Offsets

@@ -15,14 +15,14 @@ use Rattle.head.specs.Checks.{open_plan}
 use Rattle.head.proofs.Facts.{open_facts}
 use Rattle.head.specs.declared.checks.Opening.{Opening}
 use Rattle.query.specs.Queries.{places_needed}
-use Rattle.query.specs.declared.PlacesAnswer.TheVariants as places_answer
-use Rattle.reader.specs.declared.verdict.Verdict.TheVariants.{Refused}
 use Rattle.reader.specs.Verdict.{values_of, answer_values}
 use Rattle.reader.proofs.Values.{refused_answer, same_values}
 use Rattle.reader.specs.Checks.{prefix_answer, counts_plan, rest_plan, read_plan}
 use Rattle.claims.specs.Places.{PlacesSay}
 use Rattle.lists.proofs.Tests.{never}
 use Rattle.claims.proofs.Offsets.{Few, each_placed}
+use Rattle.std.specs.Prelude.{Err, None, Some}
+use Rattle.incremental.specs.declared.Stop.TheVariants.{Refused}
 
 -- check 7 refuses where there are fewer places than entries with a next index
 room_short : (m : ℕ) (o : Opening) (p : List ℕ) → head_end o.layout ≤ length p → m < link_count o.layout o.head
@@ -45,20 +45,20 @@ places_say p buffer n v after q r =
     m : ℕ
     m = length buffer
 
-    few : (i at : ℕ) → v ≡ Refused (refusal 7 i at) → Few p m
+    few : (i at : ℕ) → v ≡ Err (Err (Err (Err (Err (Err (Err (Err (Err (Err (Err (Err (Err (Err (Err (Err (Err (Err (Err (Err (Err (Err (Err (Err (Err (Err (Err (Err (Err (Err (Err (Err (Err (Err (Err (Err (Err (Err (Err (Err (Err (Err (Err (Err (Err (Err (Err (Err (Err (Err (Err (Err (Err (Err (Err (Err (Err (Err (Err (Err (Err (Err (Err (Err (Err (Err (Err (Err (Err (Err (Err (Err (Err (Err (Err (Err (Err (Err (Err (Err (Err (Err (Err (Err (Err (Err (Err (Err (Err (Err (Err (Err (Err (Err (Err (Err (Err (Err (Err (Err (Err (Err (Err (Err (Err (Err (Err (Err (Err (Err (Err (Err (Err (Err (Err (Err (Err (Err (Err (Err (Err (Err (Err (Err (Err (Err (Err (Err (Err (Err (Err (Err (Err (Err (Err (Err (Err (Err (Err (Err (Err (Err (Err (Err (Err (Err (Err (Err (Err (Err (Err (Err (Err (Err (Err (Err (Err (Err (Err (Err (Err (Err (Err (Err (Err (Err (Err (Err (Err (Err (Err (Err (Err (Err (Err (Err (Err (Err (Err (Err (Err (Err (Err (Err (Err (Err (Err (Err (Err (Err (Err (Err (Err (Err (Err (Err (Err (Err (Err (Err (Refused (refusal 7 i at))))))))))))))))))))))))))))))))))))))))))))))))))))))))))))))))))))))))))))))))))))))))))))))))))))))))))))))))))))))))))))))))))))))))))))))))))))))))))))))))))))))))))))))))))))))))))))))))))))))))) → Few p m
     few i at z = ((each_placed p m).refuses _ (refused_answer (prefix_answer p m) (refusal 7 i at) (ap values_of (sym z) ∙ r.verdict))).2 refl
 
-    needed : {o : Opening} → run open_plan p ≡ decided (accept o) → n ≡ places_answer.Needed (link_count o.layout o.head)
+    needed : {o : Opening} → run open_plan p ≡ decided (accept o) → n ≡ Some (link_count o.layout o.head)
     needed e = q.answer ∙ rw e
 
-    same : {o : Opening} {k : ℕ} → n ≡ places_answer.Needed k → run open_plan p ≡ decided (accept o) → link_count o.layout o.head ≡ k
+    same : {o : Opening} {k : ℕ} → n ≡ Some k → run open_plan p ≡ decided (accept o) → link_count o.layout o.head ≡ k
     same a e = let s = needed e in cc
 
-    go : (x : Answer Opening) → run open_plan p ≡ x → {k : ℕ} → n ≡ places_answer.Needed k → m < k → v ≡ Refused (refusal 7 0 trace_count_at)
+    go : (x : Answer Opening) → run open_plan p ≡ x → {k : ℕ} → n ≡ Some k → m < k → v ≡ Err (Err (Err (Err (Err (Err (Err (Err (Err (Err (Err (Err (Err (Err (Err (Err (Err (Err (Err (Err (Err (Err (Err (Err (Err (Err (Err (Err (Err (Err (Err (Err (Err (Err (Err (Err (Err (Err (Err (Err (Err (Err (Err (Err (Err (Err (Err (Err (Err (Err (Err (Err (Err (Err (Err (Err (Err (Err (Err (Err (Err (Err (Err (Err (Err (Err (Err (Err (Err (Err (Err (Err (Err (Err (Err (Err (Err (Err (Err (Err (Err (Err (Err (Err (Err (Err (Err (Err (Err (Err (Err (Err (Err (Err (Err (Err (Err (Err (Err (Err (Err (Err (Err (Err (Err (Err (Err (Err (Err (Err (Err (Err (Err (Err (Err (Err (Err (Err (Err (Err (Err (Err (Err (Err (Err (Err (Err (Err (Err (Err (Err (Err (Err (Err (Err (Err (Err (Err (Err (Err (Err (Err (Err (Err (Err (Err (Err (Err (Err (Err (Err (Err (Err (Err (Err (Err (Err (Err (Err (Err (Err (Err (Err (Err (Err (Err (Err (Err (Err (Err (Err (Err (Err (Err (Err (Err (Err (Err (Err (Err (Err (Err (Err (Err (Err (Err (Err (Err (Err (Err (Err (Err (Err (Err (Err (Err (Err (Err (Err (Refused (refusal 7 0 trace_count_at))))))))))))))))))))))))))))))))))))))))))))))))))))))))))))))))))))))))))))))))))))))))))))))))))))))))))))))))))))))))))))))))))))))))))))))))))))))))))))))))))))))))))))))))))))))))))))))))))))))))
     go (decided (accept o)) e a l =
         let s = same a e in
         let rest : prefix_answer p m ≡ run (rest_plan m o) p = run_then open_plan (rest_plan m) p ∙ rw e in
-        same_values v (Refused (refusal 7 0 trace_count_at))
+        same_values v (Err (Err (Err (Err (Err (Err (Err (Err (Err (Err (Err (Err (Err (Err (Err (Err (Err (Err (Err (Err (Err (Err (Err (Err (Err (Err (Err (Err (Err (Err (Err (Err (Err (Err (Err (Err (Err (Err (Err (Err (Err (Err (Err (Err (Err (Err (Err (Err (Err (Err (Err (Err (Err (Err (Err (Err (Err (Err (Err (Err (Err (Err (Err (Err (Err (Err (Err (Err (Err (Err (Err (Err (Err (Err (Err (Err (Err (Err (Err (Err (Err (Err (Err (Err (Err (Err (Err (Err (Err (Err (Err (Err (Err (Err (Err (Err (Err (Err (Err (Err (Err (Err (Err (Err (Err (Err (Err (Err (Err (Err (Err (Err (Err (Err (Err (Err (Err (Err (Err (Err (Err (Err (Err (Err (Err (Err (Err (Err (Err (Err (Err (Err (Err (Err (Err (Err (Err (Err (Err (Err (Err (Err (Err (Err (Err (Err (Err (Err (Err (Err (Err (Err (Err (Err (Err (Err (Err (Err (Err (Err (Err (Err (Err (Err (Err (Err (Err (Err (Err (Err (Err (Err (Err (Err (Err (Err (Err (Err (Err (Err (Err (Err (Err (Err (Err (Err (Err (Err (Err (Err (Err (Err (Err (Err (Err (Err (Err (Err (Err (Err (Refused (refusal 7 0 trace_count_at))))))))))))))))))))))))))))))))))))))))))))))))))))))))))))))))))))))))))))))))))))))))))))))))))))))))))))))))))))))))))))))))))))))))))))))))))))))))))))))))))))))))))))))))))))))))))))))))))))))))))
         (r.verdict ∙ ap answer_values (rest ∙ room_short m o p ((open_facts p).holds o e).whole (omega arith)))
-    go (decided (refuse f)) e a l = let s : places_needed p ≡ places_answer.Unknown = rw e in never (cc q.answer)
-    go (wants j) e a l = let s : places_needed p ≡ places_answer.Unknown = rw e in never (cc q.answer)
+    go (decided (refuse f)) e a l = let s : places_needed p ≡ None = rw e in never (cc q.answer)
+    go (wants j) e a l = let s : places_needed p ≡ None = rw e in never (cc q.answer)

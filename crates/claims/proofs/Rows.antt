@@ -3,7 +3,6 @@ use mathlib.Core.Path.{◌≡◌, refl}
 use mathlib.Core.Bool.{Bool, true, false}
 use mathlib.Core.List.{List}
 use mathlib.Core.Logic.{◌⊎◌, inl, inr}
-use mathlib.Core.Option.{some, none}
 use Prim.Native.Nat.{ℕ, ◌+◌, ◌*◌, ◌≤◌, ◌<◌}
 use native.Mathlib.Nat.{mul-le-mul_right}
 use native.Mathlib.Omega.{arith}
@@ -14,30 +13,29 @@ use Rattle.lists.specs.Count.{pick}
 use Rattle.lists.specs.First.{first_from}
 use Rattle.lists.proofs.Tests.{by_test, never}
 use Rattle.lists.proofs.First.{first_at}
-use Rattle.lists.specs.declared.Found.{Found}
-use Rattle.lists.specs.declared.Found.TheVariants as found
 use Rattle.layout.specs.Head.{entry_offset}
 use Rattle.layout.specs.Versions.{has_next, form_required}
 use Rattle.layout.specs.declared.Layout.{Layout}
-use Rattle.incremental.specs.declared.Fault.TheVariants.{At}
 use Rattle.incremental.specs.Decision.{fault_at, fault_of}
 use Rattle.sections.specs.declared.Section.{Section}
 use Rattle.sections.specs.declared.Head.{Head}
 use Rattle.sections.specs.Fields.{form_in, link_count, offset_field_at}
 use Rattle.query.proofs.Parts.{section_end}
 use Rattle.reader.specs.Checks.{trace_required}
+use Rattle.std.specs.Prelude.{None, Option, Some}
+use Rattle.incremental.specs.Decision.{fault}
 
 -- ---- what a fault says of its index and offset
-pub at_index : (i at : ℕ) (b : Bool) (j x : ℕ) → fault_at i at b ≡ At j x → (j ≡ i) × (x ≡ at) × (b ≡ true)
+pub at_index : (i at : ℕ) (b : Bool) (j x : ℕ) → fault_at i at b ≡ Some (fault j x) → (j ≡ i) × (x ≡ at) × (b ≡ true)
 at_index i at true j x e = (cc, cc, refl)
 at_index i at false j x e = never cc
 
-pub found_index : (at : ℕ → ℕ) (test : ℕ → Bool) (n k j x : ℕ) → fault_of at (first_from test n k) ≡ At j x → (x ≡ at j) × (j < k + n)
+pub found_index : (at : ℕ → ℕ) (test : ℕ → Bool) (n k j x : ℕ) → fault_of at (first_from test n k) ≡ Some (fault j x) → (x ≡ at j) × (j < k + n)
 found_index at test n k j x e = go (first_from test n k) refl e
   where
-    go : (f : Found) → first_from test n k ≡ f → fault_of at f ≡ At j x → (x ≡ at j) × (j < k + n)
-    go (found.At i) q h = let a : i ≡ j = cc in (cc, omega (arith, (first_at test n k i q).1))
-    go found.Nothing q h = never cc
+    go : (f : Option ℕ) → first_from test n k ≡ f → fault_of at f ≡ Some (fault j x) → (x ≡ at j) × (j < k + n)
+    go (Some i) q h = let a : i ≡ j = cc in (cc, omega (arith, (first_at test n k i q).1))
+    go None q h = never cc
 
 pub field_low : (n : ℕ) → offset_field_at n ≤ 108
 field_low n =
@@ -58,9 +56,9 @@ unfolding link_count
 links_there l h i n a c = by_test (has_next l) (λ e. (rw e at a, rw e at c)) (λ e. absurd (omega (arith, rw e at a)))
 
 -- 21 is refused only where the form has to be told, and then the 88 bytes are there
-pub form_told : (l : Layout) (p b : List ℕ) → (form_required l ≡ 0) ⊎ (form_required l ≡ 88) → form_required l ≤ length p → form_in l b ≡ none → 88 ≤ length p
+pub form_told : (l : Layout) (p b : List ℕ) → (form_required l ≡ 0) ⊎ (form_required l ≡ 88) → form_required l ≤ length p → form_in l b ≡ None → 88 ≤ length p
 unfolding form_in
 form_told l p b (inl z) h e =
-    let s : form_in l b ≡ some l = rw (eq-eqb _ _ z) in
+    let s : form_in l b ≡ Some l = rw (eq-eqb _ _ z) in
     never (cc)
 form_told l p b (inr z) h e = omega arith

@@ -1,7 +1,6 @@
 -- Every promise settles its answer: what is equal to one thing is equal, and each map from the cases of an enum to numbers is one-to-one.
 use mathlib.Core.Path.{◌≡◌, refl, sym, ap, ◌∙◌}
 use mathlib.Core.List.{List}
-use mathlib.Core.Option.{Option, some, none}
 use Prim.Native.Nat.{ℕ}
 use native.Mathlib.Omega.{arith}
 use lib.Dec.{eqb}
@@ -13,12 +12,8 @@ use Rattle.lists.specs.Part.{IsPart}
 use Rattle.text.specs.Put.{Put}
 use Rattle.layout.specs.Versions.{form_said}
 use Rattle.layout.specs.declared.Layout.{Layout}
-use Rattle.layout.specs.declared.KnownForm.{KnownForm}
-use Rattle.layout.specs.declared.KnownForm.TheVariants as form
 use Rattle.incremental.specs.Decision.{Decision, accept, refuse, refusal, checked_of}
 use Rattle.incremental.specs.Plan.{Answer, decided, wants, run}
-use Rattle.incremental.specs.declared.Checked.{Checked}
-use Rattle.incremental.specs.declared.Checked.TheVariants as checked
 use Rattle.catalogue.specs.Line.{LineAnswer, read_answer, written_number}
 use Rattle.catalogue.specs.declared.ReadLine.{ReadLine}
 use Rattle.catalogue.specs.declared.ReadLine.TheVariants as read_line
@@ -26,86 +21,82 @@ use Rattle.catalogue.specs.declared.WrittenLine.{WrittenLine}
 use Rattle.catalogue.specs.declared.WrittenLine.TheVariants as written_line
 use Rattle.head.specs.Checks.{start_of, open_of, open_plan}
 use Rattle.head.specs.declared.checks.Start.{Start}
-use Rattle.head.specs.declared.checks.StartAnswer.{StartAnswer}
-use Rattle.head.specs.declared.checks.StartAnswer.TheVariants as start_answer
-use Rattle.head.specs.declared.checks.OpenAnswer.{OpenAnswer}
-use Rattle.head.specs.declared.checks.OpenAnswer.TheVariants as open_answer
 use Rattle.head.specs.declared.checks.Opening.{Opening}
 use Rattle.trace.specs.Links.{links_of}
-use Rattle.trace.specs.declared.Links.{Links}
-use Rattle.trace.specs.declared.Links.TheVariants as links
 use Rattle.reader.specs.declared.verdict.Acceptance.{Acceptance}
-use Rattle.reader.specs.declared.verdict.FileVerdict.{FileVerdict}
-use Rattle.reader.specs.declared.verdict.FileVerdict.TheVariants as file
 use Rattle.reader.specs.Verdict.{Acceptable, Reads, verdict_in}
 use Rattle.reader.specs.Checks.{ReadsOpened}
 use Rattle.reader.proofs.Values.{same_values}
 use Rattle.lists.specs.Pairs.{PairsListed}
 use Rattle.walk.specs.Walk.{Values, values_of}
-use Rattle.walk.specs.declared.WalkAnswer.{WalkAnswer}
-use Rattle.walk.specs.declared.WalkAnswer.TheVariants as walk_answer
 use Rattle.readings.specs.Replay.{said_of}
 use Rattle.readings.specs.declared.ReplayAnswer.{ReplayAnswer}
 use Rattle.readings.specs.declared.ReplayAnswer.TheVariants as replay_answer
 use Rattle.hivesaddle.specs.Output.{Answered, ReadOut}
 use Rattle.claims.specs.Settled.{Settles₁, Settles₂, SettlesPart, Settled}
+use Rattle.std.specs.Prelude.{Err, None, Ok, Option, Result, Some}
+use Rattle.incremental.specs.declared.Refusal.{Refusal}
+use Rattle.incremental.specs.declared.Stop.TheVariants.{Refused, Wanted}
+use Rattle.incremental.specs.declared.Stop.{Stop}
+use Rattle.walk.specs.declared.Walked.{Walked}
+use Rattle.walk.specs.Walk.{steps_walked}
 
 -- ---- maps from cases to what they say, each one-to-one: the case can be told from it
 
 told : {A B : Type 0} (said : A → B) (back : B → A) → ((a : A) → back (said a) ≡ a) → (a b : A) → said a ≡ said b → a ≡ b
 told said back same a b e = sym (same a) ∙ ap back e ∙ same b
 
-abbrev form_back : Option Layout → KnownForm
-form_back (some l) = form.Known l
-form_back none = form.Unknown
+abbrev form_back : Option Layout → Option Layout
+form_back (Some l) = Some l
+form_back None = None
 
-known_form : (f : KnownForm) → form_back (form_said f) ≡ f
-known_form (form.Known l) = refl
-known_form form.Unknown = refl
+known_form : (f : Option Layout) → form_back (form_said f) ≡ f
+known_form (Some l) = refl
+known_form None = refl
 
-abbrev start_back : Answer Start → StartAnswer
-start_back (decided (accept x)) = start_answer.Started x
-start_back (decided (refuse x)) = start_answer.Refused x
-start_back (wants k) = start_answer.Wanted k
+abbrev start_back : Answer Start → Result Start Stop
+start_back (decided (accept x)) = Ok x
+start_back (decided (refuse x)) = Err (Refused x)
+start_back (wants k) = Err (Wanted k)
 
-start : (r : StartAnswer) → start_back (start_of r) ≡ r
-start (start_answer.Started x) = refl
-start (start_answer.Refused x) = refl
-start (start_answer.Wanted x) = refl
+start : (r : Result Start Stop) → start_back (start_of r) ≡ r
+start (Ok x) = refl
+start (Err (Refused x)) = refl
+start (Err (Wanted x)) = refl
 
-abbrev open_back : Answer Opening → OpenAnswer
-open_back (decided (accept x)) = open_answer.Opened x
-open_back (decided (refuse x)) = open_answer.Refused x
-open_back (wants k) = open_answer.Wanted k
+abbrev open_back : Answer Opening → Result Opening Stop
+open_back (decided (accept x)) = Ok x
+open_back (decided (refuse x)) = Err (Refused x)
+open_back (wants k) = Err (Wanted k)
 
-opening : (r : OpenAnswer) → open_back (open_of r) ≡ r
-opening (open_answer.Opened x) = refl
-opening (open_answer.Refused x) = refl
-opening (open_answer.Wanted x) = refl
+opening : (r : Result Opening Stop) → open_back (open_of r) ≡ r
+opening (Ok x) = refl
+opening (Err (Refused x)) = refl
+opening (Err (Wanted x)) = refl
 
-abbrev check_back : Decision Unit → Checked
-check_back (accept x) = checked.Passed
-check_back (refuse x) = checked.Refused x
+abbrev check_back : Decision Unit → Result Unit Refusal
+check_back (accept x) = Ok tt
+check_back (refuse x) = Err x
 
-check : (r : Checked) → check_back (checked_of r) ≡ r
-check checked.Passed = refl
-check (checked.Refused x) = refl
+check : (r : Result Unit Refusal) → check_back (checked_of r) ≡ r
+check (Ok tt) = refl
+check (Err x) = refl
 
-abbrev link_back : Decision ℕ → Links
-link_back (accept x) = links.Chains x
-link_back (refuse x) = links.Refused x
+abbrev link_back : Decision ℕ → Result ℕ Refusal
+link_back (accept x) = Ok x
+link_back (refuse x) = Err x
 
-link : (r : Links) → link_back (links_of r) ≡ r
-link (links.Chains x) = refl
-link (links.Refused x) = refl
+link : (r : Result ℕ Refusal) → link_back (links_of r) ≡ r
+link (Ok x) = refl
+link (Err x) = refl
 
-abbrev walk_back : Values → WalkAnswer
+abbrev walk_back : Values → Result Walked Refusal
 walk_back v =
-    pick (eqb v.kind 0) (walk_answer.Walked v.steps v.total) (walk_answer.Refused (refusal v.number v.index v.offset))
+    pick (eqb v.kind 0) (Ok (steps_walked v.steps v.total)) (Err (refusal v.number v.index v.offset))
 
-walk : (r : WalkAnswer) → walk_back (values_of r) ≡ r
-walk (walk_answer.Walked n t) = refl
-walk (walk_answer.Refused x) = refl
+walk : (r : Result Walked Refusal) → walk_back (values_of r) ≡ r
+walk (Ok (steps_walked n t)) = refl
+walk (Err x) = refl
 
 abbrev replay_back : Said → ReplayAnswer
 replay_back v = pick (eqb v.number 0) replay_answer.Replayed (replay_answer.Refused (get_or v.values 0 0))
@@ -157,17 +148,17 @@ opened p buffer r s a b x y =
     let h = reads _ _ (verdict_in r) (verdict_in s) a b x.reads y.reads in
     (go r s h.0 x.opens y.opens, h.1)
   where
-    go : (r s : FileVerdict) → verdict_in r ≡ verdict_in s
-        → ((a : Acceptance) (o : Opening) → r ≡ file.Accepted a o → run open_plan p ≡ decided (accept o))
-        → ((a : Acceptance) (o : Opening) → s ≡ file.Accepted a o → run open_plan p ≡ decided (accept o))
+    go : (r s : Result (Acceptance × Opening) Refusal) → verdict_in r ≡ verdict_in s
+        → ((a : Acceptance) (o : Opening) → r ≡ Ok (a, o) → run open_plan p ≡ decided (accept o))
+        → ((a : Acceptance) (o : Opening) → s ≡ Ok (a, o) → run open_plan p ≡ decided (accept o))
         → r ≡ s
-    go (file.Accepted a o) (file.Accepted b n) e f g =
+    go (Ok (a, o)) (Ok (b, n)) e f g =
         let u : run open_plan p ≡ decided (accept o) = f a o refl in
         let v : run open_plan p ≡ decided (accept n) = g b n refl in
         cc
-    go (file.Accepted a o) (file.Refused y) e f g = cc
-    go (file.Refused x) (file.Accepted b n) e f g = cc
-    go (file.Refused x) (file.Refused y) e f g = cc
+    go (Ok (a, o)) (Err y) e f g = cc
+    go (Err x) (Ok (b, n)) e f g = cc
+    go (Err x) (Err y) e f g = cc
 
 pub settled : Settled
 settled =

@@ -28,17 +28,19 @@ use Rattle.reader.specs.Checks.{nexts_in, link_at, record_of, prefix_answer, fil
 use Rattle.reader.proofs.Taken.{links_few}
 use Rattle.reader.proofs.Free.{free_clear}
 use Rattle.reader.proofs.Rest.{read_facts, whole_accepted, links_pass}
-use Rattle.walk.specs.declared.WalkAnswer.{WalkAnswer}
-use Rattle.walk.specs.declared.WalkAnswer.TheVariants.{Walked, Refused}
 use Rattle.walk.specs.Walk.{walk, flat_map, along, blocks, nexts_of, blocks_of, blocks_in}
 use Rattle.walk.specs.Walk.{Visited, walked, Values, walked_values, values_of, decision_values, order_after}
 use Rattle.walk.specs.EveryEntry.{EveryEntry, times}
 use Rattle.walk.proofs.EveryEntry.{every_entry}
 use Rattle.claims.specs.Walks.{WalksSay}
 use Rattle.claims.proofs.WithoutNext.{no_nexts}
+use Rattle.std.specs.Prelude.{Err, Ok, Result}
+use Rattle.incremental.specs.declared.Refusal.{Refusal}
+use Rattle.walk.specs.declared.Walked.{Walked}
+use Rattle.walk.specs.Walk.{steps_walked}
 
 -- a walk is an acceptance
-accepted_walk : (d : Decision Visited) (n t : ℕ) → values_of (Walked n t) ≡ decision_values d
+accepted_walk : (d : Decision Visited) (n t : ℕ) → values_of (Ok (steps_walked n t)) ≡ decision_values d
     → (v : Visited) × (d ≡ accept v) × (n ≡ length v.order) × (t ≡ v.total)
 accepted_walk (accept v) n t e = (v, refl, ap (λ (w : Values). w.steps) e, ap (λ (w : Values). w.total) e)
 accepted_walk (refuse r) n t e = never (ap (λ (w : Values). w.kind) e)
@@ -86,9 +88,9 @@ accepted_walked p m n x e q =
     rw (e, room)
 
 -- an answer is known by its values
-same_answer : (r : WalkAnswer) (n t : ℕ) → values_of r ≡ walked_values n t → r ≡ Walked n t
-same_answer (Walked a b) n t e = λ i. Walked (ap (λ (w : Values). w.steps) e i) (ap (λ (w : Values). w.total) e i)
-same_answer (Refused f) n t e = never (ap (λ (w : Values). w.kind) (sym e))
+same_answer : (r : Result Walked Refusal) (n t : ℕ) → values_of r ≡ walked_values n t → r ≡ Ok (steps_walked n t)
+same_answer (Ok (steps_walked a b)) n t e = λ i. Ok (steps_walked (ap (λ (w : Values). w.steps) e i) (ap (λ (w : Values). w.total) e i))
+same_answer (Err f) n t e = never (ap (λ (w : Values). w.kind) (sym e))
 
 nothing : walk [] ≡ []
 unfolding those flat_map

@@ -21,8 +21,6 @@ use Rattle.little_endian.proofs.Number.{le-take}
 use Rattle.layout.specs.Versions.{head_end, has_next}
 use Rattle.incremental.specs.Decision.{Decision, accept, refuse}
 use Rattle.incremental.specs.Plan.{Plan, decide, Answer, decided, wants, run, and_then, reach, check, done}
-use Rattle.incremental.specs.declared.Fault.{Fault}
-use Rattle.incremental.specs.declared.Fault.TheVariants.{At, Nowhere}
 use Rattle.incremental.proofs.Plan.{onward, run_then, reach_here, reach_short, check_passed}
 use Rattle.sections.specs.Fields.{signature_fault, form_in, link_count, part, places_fault}
 use Rattle.sections.proofs.Cases.{places_enough}
@@ -43,6 +41,9 @@ use Rattle.reader.proofs.Taken.{misfit_take, unsound_take, volumes_take}
 use Rattle.reader.proofs.Rest.{read_rest}
 use Rattle.reader.proofs.Values.{same_values}
 use Rattle.claims.specs.WithoutNext.{SameOutside, WithoutNext}
+use Rattle.incremental.specs.declared.Fault.{Fault}
+use Rattle.std.specs.Prelude.{None, Option, Some}
+use Rattle.incremental.specs.Decision.{fault}
 
 -- ---- no next index
 no_links : (o : Opening) → has_next o.layout ≡ false → link_count o.layout o.head ≡ 0
@@ -179,11 +180,11 @@ module _ (p q : List ℕ) (o : Opening) (f : OpenFacts p o) (h : SameOutside o.h
       (λ l. let m : k ≤ length p = leb-true _ _ l in reach_here k t p m ∙ e ∙ sym (reach_here k t q (rw (← h.long) m)))
       (λ l. let m : length p < k = leb-false _ _ l in reach_short k t p m ∙ sym (reach_short k t q (rw (← h.long) m)))
 
-  check-same : (n : ℕ) (a b : Fault) → a ≡ b
+  check-same : (n : ℕ) (a b : Option Fault) → a ≡ b
       → ◌≡◌ {A = Answer Unit} (run (and_then (check n a) (λ _. done tt)) p) (run (and_then (check n b) (λ _. done tt)) q)
   unfolding check and_then run
-  check-same n (At i at) b e = rw (← e)
-  check-same n Nowhere b e = rw (← e)
+  check-same n (Some (fault i at)) b e = rw (← e)
+  check-same n None b e = rw (← e)
 
   decide-same : (a b : Decision Unit) → a ≡ b
       → ◌≡◌ {A = Answer Unit} (run (and_then (decide a) (λ _. done tt)) p) (run (and_then (decide b) (λ _. done tt)) q)
@@ -239,7 +240,7 @@ module _ (p q : List ℕ) (o : Opening) (f : OpenFacts p o) (h : SameOutside o.h
     counts_same : (m n : ℕ) → run (counts_plan m o) p ≡ run (counts_plan n o) q
     unfolding counts_plan
     counts_same m n =
-        let room : (k : ℕ) → places_fault k (link_count o.layout o.head) ≡ Nowhere = λ k. sym (places_enough k _ (rw (no_links o none) (omega arith))) in
+        let room : (k : ℕ) → places_fault k (link_count o.layout o.head) ≡ None = λ k. sym (places_enough k _ (rw (no_links o none) (omega arith))) in
         reach_here (head_end o.layout) _ p f.whole
         ∙ check_passed 7 _ _ p (room m)
         ∙ check-same 8 _ _ refl

@@ -3,7 +3,6 @@ use mathlib.Core.Path.{◌≡◌, refl, sym, ap, ◌∙◌}
 use mathlib.Core.Bool.{Bool, true, false}
 use mathlib.Core.List.{List, ◌++◌}
 use mathlib.Core.Logic.{◌⊎◌, inl, inr, ⊎_elim}
-use mathlib.Core.Option.{Option, some, none}
 use Prim.Native.Nat.{ℕ}
 use native.Mathlib.Omega.{arith}
 use borrow.Author.Tests.{lt-ltb, le-ltb, ltb-false, eqb-true}
@@ -18,8 +17,6 @@ use Rattle.incremental.specs.Decision.{Decision, accept, refuse, refusal}
 use Rattle.incremental.specs.Plan.{Answer, decided, wants}
 use Rattle.incremental.specs.declared.Refusal.{Refusal}
 use Rattle.reader.specs.declared.verdict.Acceptance.{Acceptance}
-use Rattle.reader.specs.declared.verdict.Verdict.{Verdict}
-use Rattle.reader.specs.declared.verdict.Verdict.TheVariants.{Accepted, Refused, Wanted}
 use Rattle.reader.specs.Verdict.{Acceptable, values_of, answer_values, buffer_after}
 use Rattle.reader.specs.Checks.{prefix_answer, sized, size_of, whole, file_answer, ReadsFile}
 use Rattle.reader.specs.Allowed.{Allowed}
@@ -32,14 +29,17 @@ use Rattle.writer.proofs.Laid.{next_written, blocks_written}
 use Rattle.writer.proofs.Answering.{is_other, written_known}
 use Rattle.claims.specs.Writer.{AsksFor, Occurs, FileWritten, WriterSays, WritersSay}
 use Rattle.claims.proofs.LaidOut.{o, accepted_fits, record_given, refused_number, opening_is, unit_written, name_shown_lem, entry_written}
+use Rattle.std.specs.Prelude.{Err, None, Ok, Option, Result, Some}
+use Rattle.incremental.specs.declared.Stop.TheVariants.{Refused, Wanted}
+use Rattle.incremental.specs.declared.Stop.{Stop}
 
 -- ---- the versions
-asked-writable : (n : ℕ) (v : Version) → AsksFor n v → writable n ≡ some v
+asked-writable : (n : ℕ) (v : Version) → AsksFor n v → writable n ≡ Some v
 unfolding writable
 asked-writable n v (inl (e, f)) = rw (e, f)
 asked-writable n v (inr (e, f)) = rw (e, f)
 
-writable-asked : (n : ℕ) (v : Version) → writable n ≡ some v → AsksFor n v
+writable-asked : (n : ℕ) (v : Version) → writable n ≡ Some v → AsksFor n v
 unfolding writable
 writable-asked n v e =
     by_test (eqb n 17) (λ p. inl (eqb-true n 17 p, cc)) λ p.
@@ -69,7 +69,7 @@ room_wants short n (wants j) k e = decided_wants short (refuse (refusal 16 0 dec
 
 -- ---- the place after an acceptance
 module _ (file buffer output : List ℕ) (a : Acceptance) (buffer' output' : List ℕ)
-    (h : Lays (placed_answer file (length buffer) (length output)) file buffer output (Accepted a) buffer' output') where
+    (h : Lays (placed_answer file (length buffer) (length output)) file buffer output (Ok a) buffer' output') where
   found : (x : Acceptable) × (placed_answer file (length buffer) (length output) ≡ decided (accept x)) × (a ≡ x.fields)
   found = accepted_answer _ a h.reads.verdict
 
@@ -96,11 +96,11 @@ module _ (file buffer output : List ℕ) (a : Acceptance) (buffer' output' : Lis
       ∙ length-append file (drop (length file) output)
       ∙ omega (arith, length-drop (length file) output, ltb-false (length output) (length file) reader.0)
 
-  laid-reads : ReadsFile file buffer (Accepted a) buffer'
+  laid-reads : ReadsFile file buffer (Ok a) buffer'
   laid-reads = let e = found.1 ∙ sym reader.1 in rw (← e) h.reads
 
 -- ---- the statements
-module _ (version : ℕ) (d : Description) (buffer output : List ℕ) (r : Verdict) (buffer' output' : List ℕ) (n : Numbers d)
+module _ (version : ℕ) (d : Description) (buffer output : List ℕ) (r : Result Acceptance Stop) (buffer' output' : List ℕ) (n : Numbers d)
     (h : Writes version d buffer output r buffer' output') where
   abbrev answer : Answer Acceptable
   answer = write_answer version d (length buffer) (length output)
@@ -112,7 +112,7 @@ module _ (version : ℕ) (d : Description) (buffer output : List ℕ) (r : Verdi
   answer-is : (v : Version) → AsksFor version v → answer ≡ placed_answer (laid_out v d) (length buffer) (length output)
   answer-is v q = rw (asked-writable version v q)
 
-  answer-other : writable version ≡ none → answer ≡ decided (refuse (refusal 1 0 version_at))
+  answer-other : writable version ≡ None → answer ≡ decided (refuse (refusal 1 0 version_at))
   answer-other q = rw q
 
   -- the number asks for a version, or it gets 1
@@ -120,13 +120,13 @@ module _ (version : ℕ) (d : Description) (buffer output : List ℕ) (r : Verdi
   by-asked {A} y n = go (writable version) refl
     where
       go : (w : Option Version) → writable version ≡ w → A
-      go (some v) q = y v (writable-asked version v q)
-      go none q = n (answer-other q)
+      go (Some v) q = y v (writable-asked version v q)
+      go None q = n (answer-other q)
 
-  refused_by : (f : Refusal) → answer ≡ decided (refuse f) → r ≡ Refused f
-  refused_by f e = same_values r (Refused f) (h.reads.verdict ∙ ap answer_values e)
+  refused_by : (f : Refusal) → answer ≡ decided (refuse f) → r ≡ Err (Err (Err (Err (Err (Err (Err (Err (Err (Err (Err (Err (Err (Err (Err (Err (Err (Err (Err (Err (Err (Err (Err (Err (Err (Err (Err (Err (Err (Err (Err (Err (Err (Err (Err (Err (Err (Err (Err (Err (Err (Err (Err (Err (Err (Err (Err (Err (Err (Err (Err (Err (Err (Err (Err (Err (Err (Err (Err (Err (Err (Err (Err (Err (Err (Err (Err (Err (Err (Err (Err (Err (Err (Err (Err (Err (Err (Err (Err (Err (Err (Err (Err (Err (Err (Err (Err (Err (Err (Err (Err (Err (Err (Err (Err (Err (Err (Err (Err (Err (Err (Err (Err (Err (Err (Err (Err (Err (Err (Err (Err (Err (Err (Err (Err (Err (Err (Err (Err (Err (Err (Err (Err (Err (Err (Err (Err (Err (Err (Err (Err (Err (Err (Err (Err (Err (Err (Err (Err (Err (Err (Err (Err (Err (Err (Err (Err (Err (Err (Err (Err (Err (Err (Err (Err (Err (Err (Err (Err (Err (Err (Err (Err (Err (Err (Err (Err (Err (Err (Err (Err (Err (Err (Err (Err (Err (Err (Err (Err (Err (Err (Err (Err (Err (Err (Err (Err (Err (Err (Err (Err (Err (Err (Err (Err (Err (Err (Err (Err (Err (Refused f))))))))))))))))))))))))))))))))))))))))))))))))))))))))))))))))))))))))))))))))))))))))))))))))))))))))))))))))))))))))))))))))))))))))))))))))))))))))))))))))))))))))))))))))))))))))))))))))))))))))
+  refused_by f e = same_values r (Err (Err (Err (Err (Err (Err (Err (Err (Err (Err (Err (Err (Err (Err (Err (Err (Err (Err (Err (Err (Err (Err (Err (Err (Err (Err (Err (Err (Err (Err (Err (Err (Err (Err (Err (Err (Err (Err (Err (Err (Err (Err (Err (Err (Err (Err (Err (Err (Err (Err (Err (Err (Err (Err (Err (Err (Err (Err (Err (Err (Err (Err (Err (Err (Err (Err (Err (Err (Err (Err (Err (Err (Err (Err (Err (Err (Err (Err (Err (Err (Err (Err (Err (Err (Err (Err (Err (Err (Err (Err (Err (Err (Err (Err (Err (Err (Err (Err (Err (Err (Err (Err (Err (Err (Err (Err (Err (Err (Err (Err (Err (Err (Err (Err (Err (Err (Err (Err (Err (Err (Err (Err (Err (Err (Err (Err (Err (Err (Err (Err (Err (Err (Err (Err (Err (Err (Err (Err (Err (Err (Err (Err (Err (Err (Err (Err (Err (Err (Err (Err (Err (Err (Err (Err (Err (Err (Err (Err (Err (Err (Err (Err (Err (Err (Err (Err (Err (Err (Err (Err (Err (Err (Err (Err (Err (Err (Err (Err (Err (Err (Err (Err (Err (Err (Err (Err (Err (Err (Err (Err (Err (Err (Err (Err (Err (Err (Err (Err (Err (Err (Refused f))))))))))))))))))))))))))))))))))))))))))))))))))))))))))))))))))))))))))))))))))))))))))))))))))))))))))))))))))))))))))))))))))))))))))))))))))))))))))))))))))))))))))))))))))))))))))))))))))))))))) (h.reads.verdict ∙ ap answer_values e)
 
-  file-written : (v : Version) (q : AsksFor version v) (a : Acceptance) → r ≡ Accepted a → FileWritten v d buffer output a buffer' output'
+  file-written : (v : Version) (q : AsksFor version v) (a : Acceptance) → r ≡ Ok a → FileWritten v d buffer output a buffer' output'
   file-written v q a e =
       let s = rw e at (by-version v q) in
       let p = laid_out v d in
@@ -135,7 +135,7 @@ module _ (version : ℕ) (d : Description) (buffer output : List ℕ) (r : Verdi
       let fits = accepted_fits v k.0 k.1 d n (length buffer) x.0 (reader p buffer output a buffer' output' s).1 in
       let given = record_given v k.0 k.1 d n (length buffer) x.0 (reader p buffer output a buffer' output' s).1 in
       let reads = laid-reads p buffer output a buffer' output' s in
-      let t = (demand_2 p buffer (Accepted a) buffer' reads).sound a refl in
+      let t = (demand_2 p buffer (Ok a) buffer' reads).sound a refl in
       let allowed : Allowed p (o v k.0 k.1 d n (length buffer) fits) = rw (opening_is v k.0 k.1 d n (length buffer) fits t.0 t.1) at t.1 in
       record {
         size = laid_size p buffer output a buffer' output' s;
@@ -151,16 +151,16 @@ module _ (version : ℕ) (d : Description) (buffer output : List ℕ) (r : Verdi
         blocks_written = blocks_written v (layout_of v) d k.0 n fits.0;
       }
 
-  written : (a : Acceptance) → r ≡ Accepted a → (v : Version) × AsksFor version v × FileWritten v d buffer output a buffer' output'
+  written : (a : Acceptance) → r ≡ Ok a → (v : Version) × AsksFor version v × FileWritten v d buffer output a buffer' output'
   written a e =
       by-asked (λ v k. (v, k, file-written v k a e)) λ y.
       let x = accepted_answer answer a (ap values_of (sym e) ∙ h.reads.verdict) in
       never (cc x.1)
 
-  refused : (f : Refusal) → r ≡ Refused f → answer ≡ decided (refuse f)
+  refused : (f : Refusal) → r ≡ Err (Err (Err (Err (Err (Err (Err (Err (Err (Err (Err (Err (Err (Err (Err (Err (Err (Err (Err (Err (Err (Err (Err (Err (Err (Err (Err (Err (Err (Err (Err (Err (Err (Err (Err (Err (Err (Err (Err (Err (Err (Err (Err (Err (Err (Err (Err (Err (Err (Err (Err (Err (Err (Err (Err (Err (Err (Err (Err (Err (Err (Err (Err (Err (Err (Err (Err (Err (Err (Err (Err (Err (Err (Err (Err (Err (Err (Err (Err (Err (Err (Err (Err (Err (Err (Err (Err (Err (Err (Err (Err (Err (Err (Err (Err (Err (Err (Err (Err (Err (Err (Err (Err (Err (Err (Err (Err (Err (Err (Err (Err (Err (Err (Err (Err (Err (Err (Err (Err (Err (Err (Err (Err (Err (Err (Err (Err (Err (Err (Err (Err (Err (Err (Err (Err (Err (Err (Err (Err (Err (Err (Err (Err (Err (Err (Err (Err (Err (Err (Err (Err (Err (Err (Err (Err (Err (Err (Err (Err (Err (Err (Err (Err (Err (Err (Err (Err (Err (Err (Err (Err (Err (Err (Err (Err (Err (Err (Err (Err (Err (Err (Err (Err (Err (Err (Err (Err (Err (Err (Err (Err (Err (Err (Err (Err (Err (Err (Err (Err (Err (Refused f)))))))))))))))))))))))))))))))))))))))))))))))))))))))))))))))))))))))))))))))))))))))))))))))))))))))))))))))))))))))))))))))))))))))))))))))))))))))))))))))))))))))))))))))))))))))))))))))))))))))) → answer ≡ decided (refuse f)
   refused f e = refused_answer answer f (ap values_of (sym e) ∙ h.reads.verdict)
 
-  occurs : (f : Refusal) → r ≡ Refused f → Occurs f.number
+  occurs : (f : Refusal) → r ≡ Err (Err (Err (Err (Err (Err (Err (Err (Err (Err (Err (Err (Err (Err (Err (Err (Err (Err (Err (Err (Err (Err (Err (Err (Err (Err (Err (Err (Err (Err (Err (Err (Err (Err (Err (Err (Err (Err (Err (Err (Err (Err (Err (Err (Err (Err (Err (Err (Err (Err (Err (Err (Err (Err (Err (Err (Err (Err (Err (Err (Err (Err (Err (Err (Err (Err (Err (Err (Err (Err (Err (Err (Err (Err (Err (Err (Err (Err (Err (Err (Err (Err (Err (Err (Err (Err (Err (Err (Err (Err (Err (Err (Err (Err (Err (Err (Err (Err (Err (Err (Err (Err (Err (Err (Err (Err (Err (Err (Err (Err (Err (Err (Err (Err (Err (Err (Err (Err (Err (Err (Err (Err (Err (Err (Err (Err (Err (Err (Err (Err (Err (Err (Err (Err (Err (Err (Err (Err (Err (Err (Err (Err (Err (Err (Err (Err (Err (Err (Err (Err (Err (Err (Err (Err (Err (Err (Err (Err (Err (Err (Err (Err (Err (Err (Err (Err (Err (Err (Err (Err (Err (Err (Err (Err (Err (Err (Err (Err (Err (Err (Err (Err (Err (Err (Err (Err (Err (Err (Err (Err (Err (Err (Err (Err (Err (Err (Err (Err (Err (Err (Refused f)))))))))))))))))))))))))))))))))))))))))))))))))))))))))))))))))))))))))))))))))))))))))))))))))))))))))))))))))))))))))))))))))))))))))))))))))))))))))))))))))))))))))))))))))))))))))))))))))))))))) → Occurs f.number
   occurs f e =
       by-asked
       (λ v k.
@@ -168,7 +168,7 @@ module _ (version : ℕ) (d : Description) (buffer output : List ℕ) (r : Verdi
       ⊎_elim (λ q. inr (inr (inr (inr q)))) (refused_number v w.0 w.1 d n (length buffer) f) (room_refused _ _ f (sym (answer-is v k) ∙ refused f e)))
       (λ y. let x = refused f e in inl (cc))
 
-  no_request : (k : ℕ) → r ≡ Wanted k → ⊥
+  no_request : (k : ℕ) → r ≡ Err (Err (Err (Err (Err (Err (Err (Err (Err (Err (Err (Err (Err (Err (Err (Err (Err (Err (Err (Err (Err (Err (Err (Err (Err (Err (Err (Err (Err (Err (Err (Err (Err (Err (Err (Err (Err (Err (Err (Err (Err (Err (Err (Err (Err (Err (Err (Err (Err (Err (Err (Err (Err (Err (Err (Err (Err (Err (Err (Err (Err (Err (Err (Err (Err (Err (Err (Err (Err (Err (Err (Err (Err (Err (Err (Err (Err (Err (Err (Err (Err (Err (Err (Err (Err (Err (Err (Err (Err (Err (Err (Err (Err (Err (Err (Err (Err (Err (Err (Err (Err (Err (Err (Err (Err (Err (Err (Err (Err (Err (Err (Err (Err (Err (Err (Err (Err (Err (Err (Err (Err (Err (Err (Err (Err (Err (Err (Err (Err (Err (Err (Err (Err (Err (Err (Err (Err (Err (Err (Err (Err (Err (Err (Err (Err (Err (Err (Err (Err (Err (Err (Err (Err (Err (Err (Err (Err (Err (Err (Err (Err (Err (Err (Err (Err (Err (Err (Err (Err (Err (Err (Err (Err (Err (Err (Err (Err (Err (Err (Err (Err (Err (Err (Err (Err (Err (Err (Err (Err (Err (Err (Err (Err (Err (Err (Err (Err (Err (Err (Err (Wanted k)))))))))))))))))))))))))))))))))))))))))))))))))))))))))))))))))))))))))))))))))))))))))))))))))))))))))))))))))))))))))))))))))))))))))))))))))))))))))))))))))))))))))))))))))))))))))))))))))))))))) → ⊥
   no_request k e =
       let x : answer ≡ wants k = wanted_answer answer k (ap values_of (sym e) ∙ h.reads.verdict) in
       by-asked
@@ -185,7 +185,7 @@ module _ (version : ℕ) (d : Description) (buffer output : List ℕ) (r : Verdi
             let p = laid_out v d in
             let s : roomed (ltb (length output) (length p)) (file_answer p (length buffer)) ≡ decided (accept x) =
             rw (le-ltb (length output) (length p) room) (ap (roomed false) e) in
-            same_values r (Accepted x.fields) (h.reads.verdict ∙ ap answer_values (answer-is v q ∙ s));
+            same_values r (Ok x.fields) (h.reads.verdict ∙ ap answer_values (answer-is v q ∙ s));
         refused_alike = λ v q f e.
             refused_by f (answer-is v q ∙ ap (roomed (ltb (length output) (length (laid_out v d)))) e);
         short = λ v q x e room.

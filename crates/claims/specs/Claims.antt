@@ -13,8 +13,6 @@ use Rattle.trace.specs.Links.{end, namers, cyclic, Cyclic, chains, predecessors,
 use Rattle.trace.specs.OneChain.{OneChain}
 use Rattle.trace.specs.WorkingBuffer.{WorkingBuffer}
 use Rattle.reader.specs.declared.verdict.Acceptance.{Acceptance}
-use Rattle.reader.specs.declared.verdict.Verdict.{Verdict}
-use Rattle.reader.specs.declared.verdict.Verdict.TheVariants.{Accepted}
 use Rattle.reader.specs.Checks.{nexts_in, prefix_answer, ReadsPrefix, ReadsFile}
 use Rattle.reader.specs.Allowed.{Allowed, AcceptedExactly}
 use Rattle.reader.specs.Early.{EarlyStands}
@@ -26,7 +24,6 @@ use Rattle.readings.specs.Feeding.{Pieces}
 use Rattle.replay_input.specs.Program.{Program}
 use Rattle.query.specs.Queries.{entry_shown, volume_shown, volume_facts}
 use Rattle.query.specs.Shown.{EntryShown, NamePlaced, VolumeShown}
-use Rattle.path_search.specs.declared.PathAnswer.TheVariants.{Entry, NoPath}
 use Rattle.path_search.specs.Search.{matches_by, least_pair, path_found, PathFound}
 use Rattle.path_search.specs.From.{path_of, takes_part, path_found_from}
 use Rattle.text.specs.Decimal.{decimal, IsDecimal}
@@ -48,10 +45,13 @@ use Rattle.claims.specs.EmptyPrograms.{EmptyPrograms}
 use Rattle.claims.specs.Examples.{Examples}
 use Rattle.claims.specs.Points.{Points}
 use Rattle.claims.specs.Settled.{Settled}
+use Rattle.std.specs.Prelude.{None, Ok, Result, Some}
+use Rattle.incremental.specs.declared.Stop.{Stop}
+use Rattle.path_search.specs.Search.{path_entry}
 
 -- a refusal or a request
-abbrev pub NotAccepted : Verdict → Type 0
-NotAccepted v = (a : Acceptance) → v ≡ Accepted a → ⊥
+abbrev pub NotAccepted : Result Acceptance Stop → Type 0
+NotAccepted v = (a : Acceptance) → v ≡ Ok a → ⊥
 
 -- checks 1 to 6 pass on the bytes `p`; the version, its constants, the name's length and the sections are those of `o`
 abbrev pub Opens : List ℕ → Opening → Type 0
@@ -67,14 +67,14 @@ pub record Linked (s : List ℕ) : Type 0 where
 pub record Claims : Type 1 where
   -- ---- the demands of document 00
   -- Demand 1: whatever isn't an acceptance leaves the working buffer filled with 4,294,967,295.
-  pub filled_prefix : (p buffer : List ℕ) (v : Verdict) (after : List ℕ) → ReadsPrefix p buffer v after → NotAccepted v → after ≡ filled (length buffer)
-  pub filled_file : (p buffer : List ℕ) (v : Verdict) (after : List ℕ) → ReadsFile p buffer v after → NotAccepted v → after ≡ filled (length buffer)
+  pub filled_prefix : (p buffer : List ℕ) (v : Result Acceptance Stop) (after : List ℕ) → ReadsPrefix p buffer v after → NotAccepted v → after ≡ filled (length buffer)
+  pub filled_file : (p buffer : List ℕ) (v : Result Acceptance Stop) (after : List ℕ) → ReadsFile p buffer v after → NotAccepted v → after ≡ filled (length buffer)
   -- Demand 2: with a working place for each trace entry that has a next index, a file is accepted exactly when the layout allows it, and every field is
   -- the one that the layout gives.
-  pub demand_2 : (p buffer : List ℕ) (v : Verdict) (after : List ℕ) → ReadsFile p buffer v after → AcceptedExactly p buffer v after
+  pub demand_2 : (p buffer : List ℕ) (v : Result Acceptance Stop) (after : List ℕ) → ReadsFile p buffer v after → AcceptedExactly p buffer v after
   -- Demand 3: take any bytes, any two prefixes of them, the second at least as long as the first, and two working buffers of equal
   -- length, whatever they hold. What the prefix reader accepts or refuses early stands.
-  pub demand_3 : (xs : List ℕ) (i j : ℕ) (buffer buffer' : List ℕ) (v w : Verdict) (after after' : List ℕ)
+  pub demand_3 : (xs : List ℕ) (i j : ℕ) (buffer buffer' : List ℕ) (v w : Result Acceptance Stop) (after after' : List ℕ)
       → i ≤ j
       → length buffer ≡ length buffer'
       → ReadsPrefix (take i xs) buffer v after
@@ -159,10 +159,10 @@ pub record Claims : Type 1 where
   -- ---- the path search and the queries, in words
   -- "Path search", with request 105: the least number for which any metrics entry that can be shown matches, and then the first such
   -- entry, or none; and none on bytes that don't pass checks 1 to 6.
-  pub path_found_lem : (o : Opening) (p : List ℕ) (i n : ℕ) → Opens p o → (path_found p ≡ Entry i n) ↔ PathFound o p i n
-  pub path_not_found : (o : Opening) (p : List ℕ) → Opens p o → path_found p ≡ NoPath
+  pub path_found_lem : (o : Opening) (p : List ℕ) (i n : ℕ) → Opens p o → (path_found p ≡ Some (path_entry i n)) ↔ PathFound o p i n
+  pub path_not_found : (o : Opening) (p : List ℕ) → Opens p o → path_found p ≡ None
       → (n i : ℕ) → n < 9 → i < o.head.metrics.count → matches_by o p n i ≡ false
-  pub path_not_open : (p : List ℕ) → ((o : Opening) → Opens p o → ⊥) → path_found p ≡ NoPath
+  pub path_not_open : (p : List ℕ) → ((o : Opening) → Opens p o → ⊥) → path_found p ≡ None
   -- "Whether metrics entry i can be shown": what the test means; and its name with its zero lies in the bytes lent and within its
   -- section, and its text is sound by rule 10.
   pub entry_shown_lem : (o : Opening) (p : List ℕ) (i : ℕ) → Opens p o → (entry_shown o p i ≡ true) ↔ EntryShown o p i

@@ -8,27 +8,26 @@ use Rattle.little_endian.specs.Number.{le}
 use Rattle.sections.specs.Fields.{part}
 use Rattle.head.specs.declared.checks.Opening.{Opening}
 use Rattle.names.specs.Names.{name_at, name_units}
-use Rattle.volumes.specs.declared.Step.{Step}
-use Rattle.volumes.specs.declared.Step.TheVariants.{Next, Past, Unended}
 use Rattle.volumes.specs.Volumes.{entry_at, directories_at, directory_count, reference_of, step_at}
 use Rattle.volumes.specs.SoundVolume.{directory_at}
 use Rattle.query.specs.declared.costs.FileCost.{FileCost}
-use Rattle.query.specs.declared.costs.CostAnswer.{CostAnswer}
-use Rattle.query.specs.declared.costs.CostAnswer.TheVariants.{Known}
 use Rattle.query.specs.Queries.{volume_facts}
 use Rattle.query.specs.Contents.{ListsDirectories, ListsReferences}
 use Rattle.query.specs.Cost.{cost_asked, cost_said}
 use Rattle.reader.specs.declared.verdict.Acceptance.{Acceptance}
-use Rattle.reader.specs.declared.verdict.Verdict.{Verdict}
-use Rattle.reader.specs.declared.verdict.Verdict.TheVariants.{Accepted}
 use Rattle.reader.specs.Checks.{ReadsFile}
 use Rattle.reader.specs.Allowed.{Allowed}
+use Rattle.volumes.specs.declared.Cursor.{Cursor}
+use Rattle.std.specs.Prelude.{Err, Ok, Option, Result, Some}
+use Rattle.volumes.specs.declared.StepFault.TheVariants.{Past, Unended}
+use Rattle.volumes.specs.declared.StepFault.{StepFault}
+use Rattle.incremental.specs.declared.Stop.{Stop}
 
 -- where the string after k others starts: k steps of the cursor, which stays where it can't go on
-abbrev pub step_on : ℕ → Step → ℕ
-step_on at (Next c) = c.at
-step_on at Past = at
-step_on at Unended = at
+abbrev pub step_on : ℕ → Result Cursor StepFault → ℕ
+step_on at (Ok c) = c.at
+step_on at (Err Past) = at
+step_on at (Err Unended) = at
 
 abbrev pub stepped : List ℕ → ℕ → ℕ → ℕ
 stepped s at zero = at
@@ -80,11 +79,11 @@ DirectoriesApart o p =
 
 pub record ContentsGiven (p : List ℕ) (o : Opening) : Type 0 where
   pub listed : (i : ℕ) → i < o.head.volumes.count → VolumeListed p o i (part o.head.volumes p) (entry_at o.layout i)
-  pub names_fit : (r : CostAnswer) (c : FileCost) → Answers cost_said (cost_asked p) r → r ≡ Known c → NamesApart o p → c.names ≤ o.head.strings.len
-  pub directories_fit : (r : CostAnswer) (c : FileCost) → Answers cost_said (cost_asked p) r → r ≡ Known c → DirectoriesApart o p
+  pub names_fit : (r : Option FileCost) (c : FileCost) → Answers cost_said (cost_asked p) r → r ≡ Some c → NamesApart o p → c.names ≤ o.head.strings.len
+  pub directories_fit : (r : Option FileCost) (c : FileCost) → Answers cost_said (cost_asked p) r → r ≡ Some c → DirectoriesApart o p
       → c.directories ≤ o.head.volumes.len
 
 -- the statement, over the promises of the whole-file reader and of the queries
 abbrev pub Contents : Type 0
-Contents = (file buffer : List ℕ) (v : Verdict) (after : List ℕ) (a : Acceptance) → ReadsFile file buffer v after → v ≡ Accepted a
+Contents = (file buffer : List ℕ) (v : Result Acceptance Stop) (after : List ℕ) (a : Acceptance) → ReadsFile file buffer v after → v ≡ Ok a
     → (o : Opening) × Allowed file o × ContentsGiven file o

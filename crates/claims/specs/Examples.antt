@@ -12,14 +12,11 @@ use Rattle.head.specs.declared.checks.Opening.{Opening}
 use Rattle.trace.specs.Links.{end}
 use Rattle.reader.specs.declared.verdict.RunTimes.{RunTimes}
 use Rattle.reader.specs.declared.verdict.Acceptance.{Acceptance}
-use Rattle.reader.specs.declared.verdict.Verdict.{Verdict}
-use Rattle.reader.specs.declared.verdict.Verdict.TheVariants.{Accepted}
 use Rattle.reader.specs.Checks.{file_answer, ReadsFile}
 use Rattle.reader.specs.Allowed.{Allowed, given_record}
 use Rattle.query.specs.Queries.{entry_place, volume_asked, reference_asked}
-use Rattle.query.specs.declared.PlaceAnswer.TheVariants as place
-use Rattle.query.specs.declared.VolumeAnswer.TheVariants as volume
-use Rattle.query.specs.declared.ReferenceAnswer.TheVariants as reference
+use Rattle.std.specs.Prelude.{Ok, Result, Some}
+use Rattle.incremental.specs.declared.Stop.{Stop}
 
 -- ---- the files
 abbrev pub u16 : ℕ → List ℕ
@@ -148,7 +145,7 @@ full_record v =
 -- a file that the layout allows, and that so is accepted wherever each trace entry has a working place
 pub record Example (p : List ℕ) (a : Acceptance) : Type 0 where
   pub allowed : (o : Opening) × Allowed p o × (given_record o p ≡ a)
-  pub accepted : (buffer : List ℕ) (v : Verdict) (after : List ℕ) → a.trace_count ≤ length buffer → ReadsFile p buffer v after → v ≡ Accepted a
+  pub accepted : (buffer : List ℕ) (v : Result Acceptance Stop) (after : List ℕ) → a.trace_count ≤ length buffer → ReadsFile p buffer v after → v ≡ Ok a
 
 pub record SmallestFile : Type 0 where
   pub long : length (smallest 1) ≡ 148
@@ -161,11 +158,11 @@ pub record FullFile (v : Version) : Type 0 where
   pub long : length (full v) ≡ full_size v
   pub answer : file_answer (full v) 2 ≡ decided (accept (record { fields = full_record v; table = full_table v }))
   -- the metrics entry's name, the volume with its counts and its path, and its reference can be shown
-  pub name : entry_place (full v) 0 ≡ place.Shown (record { at = strings_at v; len = 2 })
+  pub name : entry_place (full v) 0 ≡ Some (record { at = strings_at v; len = 2 })
   pub volume : volume_asked (full v) 0
-      ≡ volume.Shown
+      ≡ Some
       (record { created = 7; serial = 9; references = 1; directories = 1; path = record { at = volumes_at v + volume_entry (layout_of v); len = 2 } })
-  pub reference : reference_asked (full v) 0 0 ≡ reference.Shown (record { index = 5; sequence = 3 })
+  pub reference : reference_asked (full v) 0 0 ≡ Some (record { index = 5; sequence = 3 })
 
 pub record Examples : Type 0 where
   pub smallest_file : SmallestFile

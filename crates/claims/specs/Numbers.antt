@@ -4,8 +4,9 @@ use Rattle.incremental.specs.Decision.{accept}
 use Rattle.incremental.specs.Plan.{decided, run}
 use Rattle.head.specs.Checks.{open_plan}
 use Rattle.head.specs.declared.checks.Opening.{Opening}
-use Rattle.path_search.specs.declared.PathAnswer.TheVariants.{Entry, NoPath}
 use Rattle.path_search.specs.Search.{matches_by, path_found, path_pairs}
+use Rattle.std.specs.Prelude.{None, Some}
+use Rattle.path_search.specs.Search.{path_entry}
 
 -- pair r of a list of pairs
 pub record PairAt (pairs : List ℕ) (r i n : ℕ) : Type 0 where
@@ -15,8 +16,8 @@ pub record PairAt (pairs : List ℕ) (r i n : ℕ) : Type 0 where
 
 pub record Numbers : Type 0 where
   -- the search's answer is the first pair, and none exactly when there is no pair
-  pub first_pair : (p : List ℕ) (i n : ℕ) → path_found p ≡ Entry i n → PairAt (path_pairs p) 0 i n
-  pub no_pair : (p : List ℕ) → (path_found p ≡ NoPath) ↔ (path_pairs p ≡ [])
+  pub first_pair : (p : List ℕ) (i n : ℕ) → path_found p ≡ Some (path_entry i n) → PairAt (path_pairs p) 0 i n
+  pub no_pair : (p : List ℕ) → (path_found p ≡ None) ↔ (path_pairs p ≡ [])
   -- the pairs are those of an entry and a number by which it matches, and all of them are listed
   pub pair : (o : Opening) (p : List ℕ) (r : ℕ) → run open_plan p ≡ decided (accept o) → 2 * r + 1 < length (path_pairs p)
       → (i : ℕ) × (n : ℕ) × PairAt (path_pairs p) r i n × (n < 9) × (i < o.head.metrics.count) × (matches_by o p n i ≡ true)

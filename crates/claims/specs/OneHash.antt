@@ -1,20 +1,20 @@
 -- Request 108: two names for one hash. What it rests on, and that the search for version 23 finds what it found before.
 use Rattle.std.specs.Prelude.{◌≡◌, Bool, ◌&&◌, ◌||◌, List, ℕ, ◌+◌, ◌%◌, ◌^◌, eqb}
 use Rattle.lists.specs.First.{first}
-use Rattle.lists.specs.declared.Found.{Found}
 use Rattle.layout.specs.declared.Version.TheVariants.{V23}
 use Rattle.sections.specs.Fields.{stored_hash}
 use Rattle.path_hash.specs.Hash.{vista, hash2008}
 use Rattle.head.specs.declared.checks.Opening.{Opening}
 use Rattle.query.specs.Queries.{entry_shown}
 use Rattle.path_search.specs.Search.{entry_numbers, matches_by}
+use Rattle.std.specs.Prelude.{Option}
 
 -- the test of version 23 before: Vista or 2008
 abbrev pub either_matches : List ℕ → ℕ → Bool
 either_matches numbers hash = eqb (vista numbers) hash || eqb (hash2008 numbers) hash
 
 -- the search of version 23 before
-unfoldable pub old_match : Opening → List ℕ → Found
+unfoldable pub old_match : Opening → List ℕ → Option ℕ
 old_match o p = first (λ i. entry_shown o p i && either_matches (entry_numbers o p i) (stored_hash p)) o.head.metrics.count
 
 pub record OneHash : Type 0 where

@@ -8,10 +8,12 @@ use Rattle.head.specs.declared.checks.Opening.{Opening}
 use Rattle.trace.specs.Links.{end, namers}
 use Rattle.reader.specs.Verdict.{Acceptable}
 use Rattle.reader.specs.Checks.{nexts_in, file_answer}
-use Rattle.walk.specs.declared.WalkAnswer.{WalkAnswer}
-use Rattle.walk.specs.declared.WalkAnswer.TheVariants.{Walked}
 use Rattle.walk.specs.Walk.{heads, total, blocks_in, Walks}
 use Rattle.walk.specs.EveryEntry.{times}
+use Rattle.std.specs.Prelude.{Ok, Result}
+use Rattle.incremental.specs.declared.Refusal.{Refusal}
+use Rattle.walk.specs.declared.Walked.{Walked}
+use Rattle.walk.specs.Walk.{steps_walked}
 
 -- a walk of a file with next indexes, of n steps and the total t
 pub record EachOnce (p buffer : List ℕ) (o : Opening) (n t : ℕ) (order' : List ℕ) : Type 0 where
@@ -27,15 +29,15 @@ pub record EachOnce (p buffer : List ℕ) (o : Opening) (n t : ℕ) (order' : Li
   pub heads_ends : length (heads (nexts_in o p)) ≡ namers (nexts_in o p) o.head.trace.count end
 
 -- what the promise says of a file that opens, with the working buffer and the place before and after
-pub record WalkSays (p buffer order : List ℕ) (o : Opening) (r : WalkAnswer) (buffer' order' : List ℕ) : Type 0 where
+pub record WalkSays (p buffer order : List ℕ) (o : Opening) (r : Result Walked Refusal) (buffer' order' : List ℕ) : Type 0 where
   -- with next indexes every entry is visited once
-  pub each_once : has_next o.layout ≡ true → (n t : ℕ) → r ≡ Walked n t → EachOnce p buffer o n t order'
+  pub each_once : has_next o.layout ≡ true → (n t : ℕ) → r ≡ Ok (steps_walked n t) → EachOnce p buffer o n t order'
   -- without them an empty list, 0 steps and total 0; and whatever the whole-file reader accepts is walked: 23 is never given
-  pub none : has_next o.layout ≡ false → (n t : ℕ) → r ≡ Walked n t → (n ≡ 0) × (t ≡ 0) × (order' ≡ order)
-  pub never_23 : has_next o.layout ≡ false → (x : Acceptable) → file_answer p (length buffer) ≡ decided (accept x) → r ≡ Walked 0 0
+  pub none : has_next o.layout ≡ false → (n t : ℕ) → r ≡ Ok (steps_walked n t) → (n ≡ 0) × (t ≡ 0) × (order' ≡ order)
+  pub never_23 : has_next o.layout ≡ false → (x : Acceptable) → file_answer p (length buffer) ≡ decided (accept x) → r ≡ Ok (steps_walked 0 0)
 
 abbrev pub WalksSay : Type 0
-WalksSay = (p buffer order : List ℕ) (o : Opening) (r : WalkAnswer) (buffer' order' : List ℕ)
+WalksSay = (p buffer order : List ℕ) (o : Opening) (r : Result Walked Refusal) (buffer' order' : List ℕ)
     → run open_plan p ≡ decided (accept o)
     → Walks p buffer order r buffer' order'
     → WalkSays p buffer order o r buffer' order'

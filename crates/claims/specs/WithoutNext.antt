@@ -12,8 +12,10 @@ use Rattle.head.specs.Checks.{open_plan}
 use Rattle.head.specs.declared.checks.Opening.{Opening}
 use Rattle.lists.specs.Filled.{filled}
 use Rattle.trace.specs.Links.{chains, predecessors}
-use Rattle.reader.specs.declared.verdict.Verdict.{Verdict}
 use Rattle.reader.specs.Checks.{trace_required, nexts_in, ReadsPrefix}
+use Rattle.reader.specs.declared.verdict.Acceptance.{Acceptance}
+use Rattle.std.specs.Prelude.{Result}
+use Rattle.incremental.specs.declared.Stop.{Stop}
 
 -- as many bytes, and the same ones outside a section
 pub record SameOutside (s : Section) (p q : List ℕ) : Type 0 where
@@ -27,7 +29,7 @@ pub record WithoutNext : Type 0 where
   pub no_chain : (o : Opening) (b : List ℕ) → has_next o.layout ≡ false → chains (nexts_in o b) ≡ 0
   pub stays_filled : (o : Opening) (b : List ℕ) (m : ℕ) → has_next o.layout ≡ false → predecessors (nexts_in o b) m ≡ filled m
   -- the verdict depends neither on the bytes of the trace section nor on the length of the working buffer
-  pub verdict : (p q buffer buffer' : List ℕ) (o : Opening) (v w : Verdict) (after after' : List ℕ)
+  pub verdict : (p q buffer buffer' : List ℕ) (o : Opening) (v w : Result Acceptance Stop) (after after' : List ℕ)
       → run open_plan p ≡ decided (accept o)
       → has_next o.layout ≡ false
       → SameOutside o.head.trace p q

@@ -11,15 +11,15 @@ use Rattle.incremental.specs.Decision.{accept, refuse, refusal}
 use Rattle.incremental.specs.Plan.{decided}
 use Rattle.incremental.specs.declared.Refusal.{Refusal}
 use Rattle.lists.specs.Filled.{filled}
-use Rattle.query.specs.declared.PlaceAnswer.TheVariants.{Shown}
 use Rattle.query.specs.Queries.{program_place, entry_place}
 use Rattle.reader.specs.declared.verdict.Acceptance.{Acceptance}
-use Rattle.reader.specs.declared.verdict.Verdict.{Verdict}
-use Rattle.reader.specs.declared.verdict.Verdict.TheVariants.{Accepted, Refused, Wanted}
 use Rattle.reader.specs.Verdict.{Acceptable}
 use Rattle.reader.specs.Checks.{file_answer, ReadsFile}
 use Rattle.writer.specs.LaidOut.{Description, Numbers, laid_out, before_zero, pairs, trace_at, strings_at}
 use Rattle.writer.specs.Writes.{Writes}
+use Rattle.std.specs.Prelude.{Err, Ok, Result, Some}
+use Rattle.incremental.specs.declared.Stop.TheVariants.{Refused, Wanted}
+use Rattle.incremental.specs.declared.Stop.{Stop}
 
 -- "A writer for versions 17 and 23": the version that a number asks for
 abbrev pub AsksFor : ℕ → Version → Type 0
@@ -47,15 +47,15 @@ pub record FileWritten (v : Version) (d : Description) (buffer output : List ℕ
   pub rest : drop a.declared_size output' ≡ drop a.declared_size output
   pub long : length output' ≡ length output
   -- "What it writes the reader accepts with equal fields, name and working buffer": the same record and the same buffer
-  pub read_again : ReadsFile (take a.declared_size output') buffer (Accepted a) buffer'
+  pub read_again : ReadsFile (take a.declared_size output') buffer (Ok a) buffer'
   -- "equal fields": those of the record are those given
   pub fields : EqualFields d a
   -- the program name is shown, from byte 16, and is "a name up to its first zero"
-  pub name_shown_lem : program_place (laid_out v d) ≡ Shown (record { at = program_name_at; len = 2 * length (before_zero d.name) })
+  pub name_shown_lem : program_place (laid_out v d) ≡ Some (record { at = program_name_at; len = 2 * length (before_zero d.name) })
   pub name_written : (i : ℕ) → i < length (before_zero d.name) → le 2 (laid_out v d) (program_name_at + 2 * i) ≡ get_or d.name i 0
   -- each metrics entry is shown with the "name offset and length" given: so many bytes into the string section, so many units
   pub entry_written : (i : ℕ) → i < pairs d.metrics
-      → entry_place (laid_out v d) i ≡ Shown (record { at = strings_at (layout_of v) d + first_of d.metrics i; len = 2 * second_of d.metrics i })
+      → entry_place (laid_out v d) i ≡ Some (record { at = strings_at (layout_of v) d + first_of d.metrics i; len = 2 * second_of d.metrics i })
   -- each trace entry has the "next and block count" given
   pub next_written : (i : ℕ) → i < pairs d.trace
       → le 4 (laid_out v d) (entry_offset (trace_at (layout_of v) d) (trace_entry (layout_of v)) i) ≡ first_of d.trace i
@@ -63,28 +63,28 @@ pub record FileWritten (v : Version) (d : Description) (buffer output : List ℕ
       → le 4 (laid_out v d) (entry_offset (trace_at (layout_of v) d) (trace_entry (layout_of v)) i + 4) ≡ second_of d.trace i
 
 -- what the promise says, with the working buffer and the place before and after
-pub record WriterSays (version : ℕ) (d : Description) (buffer output : List ℕ) (r : Verdict) (buffer' output' : List ℕ) : Type 0 where
+pub record WriterSays (version : ℕ) (d : Description) (buffer output : List ℕ) (r : Result Acceptance Stop) (buffer' output' : List ℕ) : Type 0 where
   -- after an acceptance the file is written
-  pub written : (a : Acceptance) → r ≡ Accepted a → (v : Version) × AsksFor version v × FileWritten v d buffer output a buffer' output'
+  pub written : (a : Acceptance) → r ≡ Ok a → (v : Version) × AsksFor version v × FileWritten v d buffer output a buffer' output'
   -- "It answers with that file's acceptance record": where the reader accepts the file and the place has room for it
   pub accepted_alike : (v : Version) → AsksFor version v → (x : Acceptable) → file_answer (laid_out v d) (length buffer) ≡ decided (accept x)
-      → length (laid_out v d) ≤ length output → r ≡ Accepted x.fields
+      → length (laid_out v d) ≤ length output → r ≡ Ok x.fields
   -- "Every file it can't write is named by the reader's own number, found as if the file had been laid out", with index and file offset
-  pub refused_alike : (v : Version) → AsksFor version v → (f : Refusal) → file_answer (laid_out v d) (length buffer) ≡ decided (refuse f) → r ≡ Refused f
+  pub refused_alike : (v : Version) → AsksFor version v → (f : Refusal) → file_answer (laid_out v d) (length buffer) ≡ decided (refuse f) → r ≡ Err (Err (Err (Err (Err (Err (Err (Err (Err (Err (Err (Err (Err (Err (Err (Err (Err (Err (Err (Err (Err (Err (Err (Err (Err (Err (Err (Err (Err (Err (Err (Err (Err (Err (Err (Err (Err (Err (Err (Err (Err (Err (Err (Err (Err (Err (Err (Err (Err (Err (Err (Err (Err (Err (Err (Err (Err (Err (Err (Err (Err (Err (Err (Err (Err (Err (Err (Err (Err (Err (Err (Err (Err (Err (Err (Err (Err (Err (Err (Err (Err (Err (Err (Err (Err (Err (Err (Err (Err (Err (Err (Err (Err (Err (Err (Err (Err (Err (Err (Err (Err (Err (Err (Err (Err (Err (Err (Err (Err (Err (Err (Err (Err (Err (Err (Err (Err (Err (Err (Err (Err (Err (Err (Err (Err (Err (Err (Err (Err (Err (Err (Err (Err (Err (Err (Err (Err (Err (Err (Err (Err (Err (Err (Err (Err (Err (Err (Err (Err (Err (Err (Err (Err (Err (Err (Err (Err (Err (Err (Err (Err (Err (Err (Err (Err (Err (Err (Err (Err (Err (Err (Err (Err (Err (Err (Err (Err (Err (Err (Err (Err (Err (Err (Err (Err (Err (Err (Err (Err (Err (Err (Err (Err (Err (Err (Err (Err (Err (Err (Err (Refused f))))))))))))))))))))))))))))))))))))))))))))))))))))))))))))))))))))))))))))))))))))))))))))))))))))))))))))))))))))))))))))))))))))))))))))))))))))))))))))))))))))))))))))))))))))))))))))))))))))))))
   -- "20, index 0, place too short for the laid-out file, checked last"
   pub short : (v : Version) → AsksFor version v → (x : Acceptable) → file_answer (laid_out v d) (length buffer) ≡ decided (accept x)
-      → length output < length (laid_out v d) → r ≡ Refused (refusal 20 0 0)
+      → length output < length (laid_out v d) → r ≡ Err (Err (Err (Err (Err (Err (Err (Err (Err (Err (Err (Err (Err (Err (Err (Err (Err (Err (Err (Err (Err (Err (Err (Err (Err (Err (Err (Err (Err (Err (Err (Err (Err (Err (Err (Err (Err (Err (Err (Err (Err (Err (Err (Err (Err (Err (Err (Err (Err (Err (Err (Err (Err (Err (Err (Err (Err (Err (Err (Err (Err (Err (Err (Err (Err (Err (Err (Err (Err (Err (Err (Err (Err (Err (Err (Err (Err (Err (Err (Err (Err (Err (Err (Err (Err (Err (Err (Err (Err (Err (Err (Err (Err (Err (Err (Err (Err (Err (Err (Err (Err (Err (Err (Err (Err (Err (Err (Err (Err (Err (Err (Err (Err (Err (Err (Err (Err (Err (Err (Err (Err (Err (Err (Err (Err (Err (Err (Err (Err (Err (Err (Err (Err (Err (Err (Err (Err (Err (Err (Err (Err (Err (Err (Err (Err (Err (Err (Err (Err (Err (Err (Err (Err (Err (Err (Err (Err (Err (Err (Err (Err (Err (Err (Err (Err (Err (Err (Err (Err (Err (Err (Err (Err (Err (Err (Err (Err (Err (Err (Err (Err (Err (Err (Err (Err (Err (Err (Err (Err (Err (Err (Err (Err (Err (Err (Err (Err (Err (Err (Err (Refused (refusal 20 0 0)))))))))))))))))))))))))))))))))))))))))))))))))))))))))))))))))))))))))))))))))))))))))))))))))))))))))))))))))))))))))))))))))))))))))))))))))))))))))))))))))))))))))))))))))))))))))))))))))))))))))
   -- "any other getting 1"
-  pub other : (version ≡ 17 → ⊥) → (version ≡ 23 → ⊥) → r ≡ Refused (refusal 1 0 version_at)
+  pub other : (version ≡ 17 → ⊥) → (version ≡ 23 → ⊥) → r ≡ Err (Err (Err (Err (Err (Err (Err (Err (Err (Err (Err (Err (Err (Err (Err (Err (Err (Err (Err (Err (Err (Err (Err (Err (Err (Err (Err (Err (Err (Err (Err (Err (Err (Err (Err (Err (Err (Err (Err (Err (Err (Err (Err (Err (Err (Err (Err (Err (Err (Err (Err (Err (Err (Err (Err (Err (Err (Err (Err (Err (Err (Err (Err (Err (Err (Err (Err (Err (Err (Err (Err (Err (Err (Err (Err (Err (Err (Err (Err (Err (Err (Err (Err (Err (Err (Err (Err (Err (Err (Err (Err (Err (Err (Err (Err (Err (Err (Err (Err (Err (Err (Err (Err (Err (Err (Err (Err (Err (Err (Err (Err (Err (Err (Err (Err (Err (Err (Err (Err (Err (Err (Err (Err (Err (Err (Err (Err (Err (Err (Err (Err (Err (Err (Err (Err (Err (Err (Err (Err (Err (Err (Err (Err (Err (Err (Err (Err (Err (Err (Err (Err (Err (Err (Err (Err (Err (Err (Err (Err (Err (Err (Err (Err (Err (Err (Err (Err (Err (Err (Err (Err (Err (Err (Err (Err (Err (Err (Err (Err (Err (Err (Err (Err (Err (Err (Err (Err (Err (Err (Err (Err (Err (Err (Err (Err (Err (Err (Err (Err (Err (Refused (refusal 1 0 version_at)))))))))))))))))))))))))))))))))))))))))))))))))))))))))))))))))))))))))))))))))))))))))))))))))))))))))))))))))))))))))))))))))))))))))))))))))))))))))))))))))))))))))))))))))))))))))))))))))))))))))
   -- "the place unchanged in every refusal", and the working buffer filled
-  pub unchanged : (f : Refusal) → r ≡ Refused f → (output' ≡ output) × (buffer' ≡ filled (length buffer))
+  pub unchanged : (f : Refusal) → r ≡ Err (Err (Err (Err (Err (Err (Err (Err (Err (Err (Err (Err (Err (Err (Err (Err (Err (Err (Err (Err (Err (Err (Err (Err (Err (Err (Err (Err (Err (Err (Err (Err (Err (Err (Err (Err (Err (Err (Err (Err (Err (Err (Err (Err (Err (Err (Err (Err (Err (Err (Err (Err (Err (Err (Err (Err (Err (Err (Err (Err (Err (Err (Err (Err (Err (Err (Err (Err (Err (Err (Err (Err (Err (Err (Err (Err (Err (Err (Err (Err (Err (Err (Err (Err (Err (Err (Err (Err (Err (Err (Err (Err (Err (Err (Err (Err (Err (Err (Err (Err (Err (Err (Err (Err (Err (Err (Err (Err (Err (Err (Err (Err (Err (Err (Err (Err (Err (Err (Err (Err (Err (Err (Err (Err (Err (Err (Err (Err (Err (Err (Err (Err (Err (Err (Err (Err (Err (Err (Err (Err (Err (Err (Err (Err (Err (Err (Err (Err (Err (Err (Err (Err (Err (Err (Err (Err (Err (Err (Err (Err (Err (Err (Err (Err (Err (Err (Err (Err (Err (Err (Err (Err (Err (Err (Err (Err (Err (Err (Err (Err (Err (Err (Err (Err (Err (Err (Err (Err (Err (Err (Err (Err (Err (Err (Err (Err (Err (Err (Err (Err (Refused f)))))))))))))))))))))))))))))))))))))))))))))))))))))))))))))))))))))))))))))))))))))))))))))))))))))))))))))))))))))))))))))))))))))))))))))))))))))))))))))))))))))))))))))))))))))))))))))))))))))))) → (output' ≡ output) × (buffer' ≡ filled (length buffer))
   -- a laid-out file is never refused with 2, 5, 6, 16, 17 or 21, and no more bytes are asked for
-  pub never : (f : Refusal) → r ≡ Refused f → Occurs f.number
-  pub no_request : (k : ℕ) → r ≡ Wanted k → ⊥
+  pub never : (f : Refusal) → r ≡ Err (Err (Err (Err (Err (Err (Err (Err (Err (Err (Err (Err (Err (Err (Err (Err (Err (Err (Err (Err (Err (Err (Err (Err (Err (Err (Err (Err (Err (Err (Err (Err (Err (Err (Err (Err (Err (Err (Err (Err (Err (Err (Err (Err (Err (Err (Err (Err (Err (Err (Err (Err (Err (Err (Err (Err (Err (Err (Err (Err (Err (Err (Err (Err (Err (Err (Err (Err (Err (Err (Err (Err (Err (Err (Err (Err (Err (Err (Err (Err (Err (Err (Err (Err (Err (Err (Err (Err (Err (Err (Err (Err (Err (Err (Err (Err (Err (Err (Err (Err (Err (Err (Err (Err (Err (Err (Err (Err (Err (Err (Err (Err (Err (Err (Err (Err (Err (Err (Err (Err (Err (Err (Err (Err (Err (Err (Err (Err (Err (Err (Err (Err (Err (Err (Err (Err (Err (Err (Err (Err (Err (Err (Err (Err (Err (Err (Err (Err (Err (Err (Err (Err (Err (Err (Err (Err (Err (Err (Err (Err (Err (Err (Err (Err (Err (Err (Err (Err (Err (Err (Err (Err (Err (Err (Err (Err (Err (Err (Err (Err (Err (Err (Err (Err (Err (Err (Err (Err (Err (Err (Err (Err (Err (Err (Err (Err (Err (Err (Err (Err (Refused f)))))))))))))))))))))))))))))))))))))))))))))))))))))))))))))))))))))))))))))))))))))))))))))))))))))))))))))))))))))))))))))))))))))))))))))))))))))))))))))))))))))))))))))))))))))))))))))))))))))))) → Occurs f.number
+  pub no_request : (k : ℕ) → r ≡ Err (Err (Err (Err (Err (Err (Err (Err (Err (Err (Err (Err (Err (Err (Err (Err (Err (Err (Err (Err (Err (Err (Err (Err (Err (Err (Err (Err (Err (Err (Err (Err (Err (Err (Err (Err (Err (Err (Err (Err (Err (Err (Err (Err (Err (Err (Err (Err (Err (Err (Err (Err (Err (Err (Err (Err (Err (Err (Err (Err (Err (Err (Err (Err (Err (Err (Err (Err (Err (Err (Err (Err (Err (Err (Err (Err (Err (Err (Err (Err (Err (Err (Err (Err (Err (Err (Err (Err (Err (Err (Err (Err (Err (Err (Err (Err (Err (Err (Err (Err (Err (Err (Err (Err (Err (Err (Err (Err (Err (Err (Err (Err (Err (Err (Err (Err (Err (Err (Err (Err (Err (Err (Err (Err (Err (Err (Err (Err (Err (Err (Err (Err (Err (Err (Err (Err (Err (Err (Err (Err (Err (Err (Err (Err (Err (Err (Err (Err (Err (Err (Err (Err (Err (Err (Err (Err (Err (Err (Err (Err (Err (Err (Err (Err (Err (Err (Err (Err (Err (Err (Err (Err (Err (Err (Err (Err (Err (Err (Err (Err (Err (Err (Err (Err (Err (Err (Err (Err (Err (Err (Err (Err (Err (Err (Err (Err (Err (Err (Err (Err (Wanted k)))))))))))))))))))))))))))))))))))))))))))))))))))))))))))))))))))))))))))))))))))))))))))))))))))))))))))))))))))))))))))))))))))))))))))))))))))))))))))))))))))))))))))))))))))))))))))))))))))))))) → ⊥
 
 -- the statement, of a description whose numbers fit their widths
 abbrev pub WritersSay : Type 0
-WritersSay = (version : ℕ) (d : Description) (buffer output : List ℕ) (r : Verdict) (buffer' output' : List ℕ)
+WritersSay = (version : ℕ) (d : Description) (buffer output : List ℕ) (r : Result Acceptance Stop) (buffer' output' : List ℕ)
     → Numbers d
     → Writes version d buffer output r buffer' output'
     → WriterSays version d buffer output r buffer' output'

@@ -3,7 +3,6 @@ use mathlib.Core.Path.{◌≡◌, refl, sym, ap, ◌∙◌}
 use mathlib.Core.List.{List}
 use mathlib.Core.Bool.{Bool, true, false}
 use mathlib.Core.Logic.{◌⊎◌, inl, inr}
-use mathlib.Core.Option.{Option, some, none}
 use Prim.Native.Nat.{ℕ, ◌+◌, ◌*◌, ◌≤◌}
 use native.Mathlib.Nat.{le_trans}
 use native.Mathlib.Omega.{arith}
@@ -11,8 +10,6 @@ use borrow.Author.Tests.{eq-eqb, ltb-false}
 use lib.Dec.{eqb, ltb}
 use lib.ListN.{length, take}
 use Rattle.lists.specs.Count.{pick}
-use Rattle.lists.specs.declared.Found.{Found}
-use Rattle.lists.specs.declared.Found.TheVariants as found
 use Rattle.lists.proofs.Tests.{never}
 use Rattle.little_endian.specs.Number.{le}
 use Rattle.little_endian.proofs.Number.{le-take}
@@ -21,9 +18,6 @@ use Rattle.layout.specs.Sound.{SoundLayout}
 use Rattle.layout.proofs.Laws.{layout_sound, form_sound, form_required_lem}
 use Rattle.layout.specs.declared.Version.{Version}
 use Rattle.layout.specs.declared.Layout.{Layout}
-use Rattle.layout.specs.declared.KnownVersion.{KnownVersion}
-use Rattle.layout.specs.declared.KnownVersion.TheVariants.{Known, Unknown}
-use Rattle.incremental.specs.declared.Fault.TheVariants.{Nowhere}
 use Rattle.incremental.specs.Decision.{accept}
 use Rattle.incremental.specs.Plan.{decided, run}
 use Rattle.incremental.proofs.Plan.{answer_then, reach_here, check_passed, given_some, AnswerHolds, holds_accept, holds_reach, holds_check}
@@ -31,14 +25,12 @@ use Rattle.incremental.proofs.Plan.{holds_given, holds_then, Decided, decided_de
 use Rattle.sections.specs.declared.Head.{Head}
 use Rattle.sections.specs.Fields.{signature_fault, declared_size, size_fault, name_end, room_for, form_in, head_of, outside_fault, overlap_fault}
 use Rattle.head.specs.declared.checks.Start.{Start}
-use Rattle.head.specs.declared.checks.StartAnswer.{StartAnswer}
-use Rattle.head.specs.declared.checks.StartAnswer.TheVariants as start_answer
 use Rattle.head.specs.declared.checks.Opening.{Opening}
-use Rattle.head.specs.declared.checks.OpenAnswer.{OpenAnswer}
-use Rattle.head.specs.declared.checks.OpenAnswer.TheVariants as open_answer
 use Rattle.head.specs.Checks.{version, units, start_plan, form_plan, section_plan, open_plan, start_of, open_of}
 use Rattle.head.specs.Opened.{start_in, StartFacts, OpenFacts}
 use Rattle.head.proofs.Rules.{size_law, none-outside, section_end}
+use Rattle.std.specs.Prelude.{None, Ok, Option, Result, Some}
+use Rattle.incremental.specs.declared.Stop.{Stop}
 
 -- ---- what is read of a prefix is read of the bytes
 
@@ -57,24 +49,24 @@ form_take l p (inl z) = rw (eq-eqb _ _ z)
 form_take l p (inr z) = rw (z, le-take 4 88 p 84 (omega arith), le-take 4 88 p 12 (omega arith))
 
 -- a form that is found is sound, and S is not below its H
-pub form_facts : (l k : Layout) (p : List ℕ) → form_in l p ≡ some k → SoundLayout l → head_end l ≤ declared_size p
+pub form_facts : (l k : Layout) (p : List ℕ) → form_in l p ≡ Some k → SoundLayout l → head_end l ≤ declared_size p
     → SoundLayout k × (head_end k ≤ declared_size p)
 unfolding form_in
 form_facts l k p e s h = go (eqb (form_required l) 0) e
   where
-    none-some : none ≡ some k → ⊥
+    none-some : None ≡ Some k → ⊥
     none-some e = never cc
 
-    room : (f : Layout) (b : Bool) → ltb (declared_size p) (head_end f) ≡ b → SoundLayout f → pick b none (some f) ≡ some k
+    room : (f : Layout) (b : Bool) → ltb (declared_size p) (head_end f) ≡ b → SoundLayout f → pick b None (Some f) ≡ Some k
         → SoundLayout k × (head_end k ≤ declared_size p)
     room f true q w e = absurd (none-some e)
     room f false q w e = let i : f ≡ k = cc in rw (← i) (w, ltb-false _ _ q)
 
-    known : (f : Option Layout) → form_at (le 4 p 84) forms ≡ f → room_for (declared_size p) f ≡ some k → SoundLayout k × (head_end k ≤ declared_size p)
-    known (some f) q e = room f _ refl (form_sound (le 4 p 84) f q) e
-    known none q e = absurd (none-some e)
+    known : (f : Option Layout) → form_at (le 4 p 84) forms ≡ f → room_for (declared_size p) f ≡ Some k → SoundLayout k × (head_end k ≤ declared_size p)
+    known (Some f) q e = room f _ refl (form_sound (le 4 p 84) f q) e
+    known None q e = absurd (none-some e)
 
-    go : (b : Bool) → pick b (some l) (room_for (declared_size p) (form_at (le 4 p 84) forms)) ≡ some k → SoundLayout k × (head_end k ≤ declared_size p)
+    go : (b : Bool) → pick b (Some l) (room_for (declared_size p) (form_at (le 4 p 84) forms)) ≡ Some k → SoundLayout k × (head_end k ≤ declared_size p)
     go true e = let i : l ≡ k = cc in rw (← i) (s, h)
     go false e = known _ refl e
 
@@ -82,13 +74,13 @@ version-take : (p : List ℕ) → version_of (le 4 (take 4 p) 0) ≡ version_of 
 version-take p = rw (le-take 4 4 p 0 (omega arith))
 
 -- what checks 1 and 4 found
-version-some : (k : KnownVersion) (v : Version) → version k ≡ some v → k ≡ Known v
-version-some (Known w) v e = let q : w ≡ v = cc in ap (λ (x : Version). Known x) q
-version-some Unknown v e = never cc
+version-some : (k : Option Version) (v : Version) → version k ≡ Some v → k ≡ Some v
+version-some (Some w) v e = let q : w ≡ v = cc in ap (λ (x : Version). Some x) q
+version-some None v e = never cc
 
-units-some : (f : Found) (n : ℕ) → units f ≡ some n → f ≡ found.At n
-units-some (found.At m) n e = let q : m ≡ n = cc in ap (λ (x : ℕ). found.At x) q
-units-some found.Nothing n e = never cc
+units-some : (f : Option ℕ) (n : ℕ) → units f ≡ Some n → f ≡ Some n
+units-some (Some m) n e = let q : m ≡ n = cc in ap (λ (x : ℕ). Some x) q
+units-some None n e = never cc
 
 -- ---- checks 1 to 4
 
@@ -130,7 +122,7 @@ start_complete p s f =
     ∙ given_some 4 _ _ _ p s.name_units (ap units f.ended)
     ∙ rw (← f.laid)
 
-pub start_met : (p : List ℕ) (r : StartAnswer) (s : Start) → start_of r ≡ run start_plan p → r ≡ start_answer.Started s → StartFacts p s
+pub start_met : (p : List ℕ) (r : Result Start Stop) (s : Start) → start_of r ≡ run start_plan p → r ≡ Ok s → StartFacts p s
 start_met p r s e q = (start_facts p).holds s (sym e ∙ ap start_of q)
 
 -- ---- checks 1 to 6
@@ -143,7 +135,7 @@ before21 t = record { version = t.version; layout = layout_of t.version; name_un
 record FormFacts (p : List ℕ) (t : Start) : Type 0 where
   start : StartFacts p (before21 t)
   told : form_required (layout_of t.version) ≤ length p
-  formed : form_in (layout_of t.version) p ≡ some t.layout
+  formed : form_in (layout_of t.version) p ≡ Some t.layout
   sound : SoundLayout t.layout
   least : head_end t.layout ≤ declared_size p
 
@@ -152,14 +144,14 @@ unfolding form_plan
 form_holds p s f =
     holds_reach (form_required s.layout) _ p _ λ t.
     holds_given _ 21 84 (form_in s.layout (take (form_required s.layout) p)) _ p λ l e.
-    let q : form_in s.layout p ≡ some l = sym (form_take s.layout p (rw f.laid (form_required_lem s.version))) ∙ e in
+    let q : form_in s.layout p ≡ Some l = sym (form_take s.layout p (rw f.laid (form_required_lem s.version))) ∙ e in
     let k = form_facts s.layout l p q (rw f.laid (layout_sound s.version)) f.least in
     holds_accept (FormFacts p) _ p
     (record { start = rw (← f.laid) f; told = rw (← f.laid) t; formed = rw (← f.laid) q; sound = k.0; least = k.1 })
 
 open_inside : (p : List ℕ) (s : Start) → FormFacts p s → head_end s.layout ≤ length p
-    → outside_fault s.layout (head_of s.layout (take (head_end s.layout) p)) ≡ Nowhere
-    → overlap_fault (head_of s.layout (take (head_end s.layout) p)) ≡ Nowhere
+    → outside_fault s.layout (head_of s.layout (take (head_end s.layout) p)) ≡ None
+    → overlap_fault (head_of s.layout (take (head_end s.layout) p)) ≡ None
     → OpenFacts p
     (record { version = s.version; layout = s.layout; name_units = s.name_units; head = head_of s.layout (take (head_end s.layout) p) })
 unfolding head_of
@@ -217,7 +209,7 @@ open_complete p o f =
     ∙ answer_then (form_plan (start_in o)) section_plan p _ form
     ∙ answer_then start_plan _ p _ (start_complete p (start_in o) f.start))
 
-pub open_met : (p : List ℕ) (r : OpenAnswer) (o : Opening) → open_of r ≡ run open_plan p → r ≡ open_answer.Opened o → OpenFacts p o
+pub open_met : (p : List ℕ) (r : Result Opening Stop) (o : Opening) → open_of r ≡ run open_plan p → r ≡ Ok o → OpenFacts p o
 open_met p r o e q = (open_facts p).holds o (sym e ∙ ap open_of q)
 
 pub open_sound : (p : List ℕ) (o : Opening) → OpenFacts p o → SoundLayout o.layout

@@ -12,11 +12,9 @@ use borrow.Author.Tests.{eq-eqb, le-ltb, ltb-false, eqb-true, eqb-false, not-fal
 use Rattle.lists.specs.Count.{pick}
 use Rattle.lists.proofs.Tests.{by_test, both_false, one_false}
 use Rattle.lists.proofs.Parts.{drop-take}
-use Rattle.lists.specs.declared.Found.TheVariants as found
 use Rattle.little_endian.specs.Number.{le}
 use Rattle.layout.specs.Versions.{size_limit, head_end}
 use Rattle.layout.specs.declared.Layout.{Layout}
-use Rattle.incremental.specs.declared.Fault.TheVariants.{At, Nowhere}
 use Rattle.incremental.proofs.Decision.{at_nowhere, fault_clear}
 use Rattle.sections.specs.declared.Section.{Section}
 use Rattle.sections.specs.declared.Head.{Head}
@@ -24,19 +22,21 @@ use Rattle.sections.specs.Fields.{signature_fault, declared_size, size_fault, na
 use Rattle.sections.proofs.Name.{ends_at}
 use Rattle.sections.proofs.Cases.{in_turn, pairs_are}
 use Rattle.head.specs.Rules.{NameEnds, Within, Inside, Separate, Apart}
+use Rattle.std.specs.Prelude.{None, Some}
+use Rattle.incremental.specs.Decision.{fault}
 
-pub signature_law : (b : List ℕ) → (signature_fault b ≡ Nowhere) ↔ (le 4 b 4 ≡ 0x41434353)
+pub signature_law : (b : List ℕ) → (signature_fault b ≡ None) ↔ (le 4 b 4 ≡ 0x41434353)
 unfolding signature_fault
 signature_law b = (λ e. eqb-true _ _ (not-false (eqb (le 4 b 4) 0x41434353) (fault_clear 0 _ _ e)), λ e. rw (eq-eqb _ _ e))
 
-pub size_law : (l : Layout) (b : List ℕ) → (size_fault l b ≡ Nowhere) ↔ ((head_end l ≤ declared_size b) × (declared_size b ≤ size_limit))
+pub size_law : (l : Layout) (b : List ℕ) → (size_fault l b ≡ None) ↔ ((head_end l ≤ declared_size b) × (declared_size b ≤ size_limit))
 unfolding size_fault
 size_law l b = (
   (λ e. let t = both_false _ _ (fault_clear 0 _ _ e) in (ltb-false _ _ t.0, ltb-false _ _ t.1)),
   (λ h. rw (le-ltb _ _ h.0, le-ltb _ _ h.1)),
 )
 
-pub name_law : (b : List ℕ) (u : ℕ) → name_end b ≡ found.At u → NameEnds b u
+pub name_law : (b : List ℕ) (u : ℕ) → name_end b ≡ Some u → NameEnds b u
 name_law b u e =
     let r = (ends_at b u).0 e in
     record { short = r.short; zero_unit_lem = eqb-true _ _ r.zero_unit_lem; before = λ k l. eqb-false _ _ (r.before k l) }
@@ -55,7 +55,7 @@ within_law h size s = (there, back)
     back (inr w) = rw (le-ltb _ _ w.0, le-ltb _ _ w.1) (and-false (not (eqb s.len 0)))
 
 -- 5
-pub none-outside : (l : Layout) (h : Head) → outside_fault l h ≡ Nowhere
+pub none-outside : (l : Layout) (h : Head) → outside_fault l h ≡ None
     → (outside (head_end l) (size_in h) h.metrics ≡ false)
     × (outside (head_end l) (size_in h) h.trace ≡ false)
     × (outside (head_end l) (size_in h) h.strings ≡ false)
@@ -64,7 +64,7 @@ none-outside l h e =
     let o : Section → Bool = λ s. outside (head_end l) (size_in h) s in
     go (o h.metrics) (o h.trace) (o h.strings) (o h.volumes) (sym (in_turn l h) ∙ e)
   where
-    go : (a b c d : Bool) → pick a (At 1 84) (pick b (At 2 92) (pick c (At 3 100) (pick d (At 4 108) Nowhere))) ≡ Nowhere
+    go : (a b c d : Bool) → pick a (Some (fault 1 84)) (pick b (Some (fault 2 92)) (pick c (Some (fault 3 100)) (pick d (Some (fault 4 108)) None))) ≡ None
         → (a ≡ false) × (b ≡ false) × (c ≡ false) × (d ≡ false)
     go true b c d e = absurd (at_nowhere 1 84 e)
     go false true c d e = absurd (at_nowhere 2 92 e)
@@ -72,10 +72,10 @@ none-outside l h e =
     go false false false true e = absurd (at_nowhere 4 108 e)
     go false false false false e = (refl, refl, refl, refl)
 
-pub outside_law : (l : Layout) (h : Head) → (outside_fault l h ≡ Nowhere) ↔ Inside l h
+pub outside_law : (l : Layout) (h : Head) → (outside_fault l h ≡ None) ↔ Inside l h
 outside_law l h = (there, back)
   where
-    there : outside_fault l h ≡ Nowhere → Inside l h
+    there : outside_fault l h ≡ None → Inside l h
     there e =
         let n = none-outside l h e in
         record {
@@ -85,7 +85,7 @@ outside_law l h = (there, back)
           volumes = (within_law _ _ _).0 n.3;
         }
 
-    back : Inside l h → outside_fault l h ≡ Nowhere
+    back : Inside l h → outside_fault l h ≡ None
     back i =
         let w = within_law (head_end l) (size_in h) in
         in_turn l h
@@ -114,7 +114,7 @@ separate_law s t = (there, back)
 
 -- 6
 none-shared : (a b c d e f : Bool)
-    → pick a (At 2 92) (pick b (At 3 100) (pick c (At 3 100) (pick d (At 4 108) (pick e (At 4 108) (pick f (At 4 108) Nowhere))))) ≡ Nowhere
+    → pick a (Some (fault 2 92)) (pick b (Some (fault 3 100)) (pick c (Some (fault 3 100)) (pick d (Some (fault 4 108)) (pick e (Some (fault 4 108)) (pick f (Some (fault 4 108)) None))))) ≡ None
     → (a ≡ false) × (b ≡ false) × (c ≡ false) × (d ≡ false) × (e ≡ false) × (f ≡ false)
 none-shared true b c d e f q = absurd (at_nowhere 2 92 q)
 none-shared false true c d e f q = absurd (at_nowhere 3 100 q)
@@ -124,10 +124,10 @@ none-shared false false false false true f q = absurd (at_nowhere 4 108 q)
 none-shared false false false false false true q = absurd (at_nowhere 4 108 q)
 none-shared false false false false false false q = (refl, refl, refl, refl, refl, refl)
 
-pub shares_law : (h : Head) → (overlap_fault h ≡ Nowhere) ↔ Apart h
+pub shares_law : (h : Head) → (overlap_fault h ≡ None) ↔ Apart h
 shares_law h = (there, back)
   where
-    there : overlap_fault h ≡ Nowhere → Apart h
+    there : overlap_fault h ≡ None → Apart h
     there e =
         let n =
         none-shared (shares h.metrics h.trace) (shares h.metrics h.strings) (shares h.trace h.strings)
@@ -142,7 +142,7 @@ shares_law h = (there, back)
           strings_volumes = (separate_law _ _).0 n.5;
         }
 
-    back : Apart h → overlap_fault h ≡ Nowhere
+    back : Apart h → overlap_fault h ≡ None
     back a =
         let l = separate_law in
         pairs_are h

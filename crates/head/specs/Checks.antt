@@ -1,33 +1,27 @@
 -- Checks 1 to 6 of document 01's table in their order, and 21 of request 107 directly after 4: required length (document 01: reach),
 -- number, fault with its file offset.
-use Rattle.std.proofs.Math.Option.{Option, some, none}
 use Rattle.std.specs.Prelude.{ℕ}
-use Rattle.lists.specs.declared.Found.{Found}
-use Rattle.lists.specs.declared.Found.TheVariants.{At, Nothing}
 use Rattle.little_endian.specs.Number.{le}
 use Rattle.layout.specs.Head.{version_at, program_name_at, metrics_offset_at}
 use Rattle.layout.specs.Versions.{version_of, layout_of, head_end, form_required}
 use Rattle.layout.specs.declared.Version.{Version}
-use Rattle.layout.specs.declared.KnownVersion.{KnownVersion}
-use Rattle.layout.specs.declared.KnownVersion.TheVariants.{Known, Unknown}
 use Rattle.incremental.specs.Decision.{accept, refuse}
 use Rattle.incremental.specs.Plan.{Plan, Answer, decided, wants, reach, check, given, done, ◌>>=◌, ◌>>◌}
 use Rattle.sections.specs.Fields.{signature_fault, size_fault, name_end, form_in, head_of, outside_fault, overlap_fault}
 use Rattle.head.specs.declared.checks.Start.{Start}
-use Rattle.head.specs.declared.checks.StartAnswer.{StartAnswer}
-use Rattle.head.specs.declared.checks.StartAnswer.TheVariants as start_answer
 use Rattle.head.specs.declared.checks.Opening.{Opening}
-use Rattle.head.specs.declared.checks.OpenAnswer.{OpenAnswer}
-use Rattle.head.specs.declared.checks.OpenAnswer.TheVariants as open_answer
+use Rattle.std.specs.Prelude.{Err, None, Ok, Option, Result, Some}
+use Rattle.incremental.specs.declared.Stop.TheVariants.{Refused, Wanted}
+use Rattle.incremental.specs.declared.Stop.{Stop}
 
 -- what checks 1 and 4 have to find: a version, the number of name units before the first zero
-abbrev pub version : KnownVersion → Option Version
-version (Known v) = some v
-version Unknown = none
+abbrev pub version : Option Version → Option Version
+version (Some v) = Some v
+version None = None
 
-abbrev pub units : Found → Option ℕ
-units (At n) = some n
-units Nothing = none
+abbrev pub units : Option ℕ → Option ℕ
+units (Some n) = Some n
+units None = None
 
 -- CHECKS 1 TO 4
 unfoldable pub start_plan : Plan Start
@@ -66,12 +60,12 @@ open_plan = do
   section_plan formed
 
 -- what each case of the answers says
-abbrev pub start_of : StartAnswer → Answer Start
-start_of (start_answer.Started s) = decided (accept s)
-start_of (start_answer.Refused r) = decided (refuse r)
-start_of (start_answer.Wanted k) = wants k
+abbrev pub start_of : Result Start Stop → Answer Start
+start_of (Ok s) = decided (accept s)
+start_of (Err (Refused r)) = decided (refuse r)
+start_of (Err (Wanted k)) = wants k
 
-abbrev pub open_of : OpenAnswer → Answer Opening
-open_of (open_answer.Opened o) = decided (accept o)
-open_of (open_answer.Refused r) = decided (refuse r)
-open_of (open_answer.Wanted k) = wants k
+abbrev pub open_of : Result Opening Stop → Answer Opening
+open_of (Ok o) = decided (accept o)
+open_of (Err (Refused r)) = decided (refuse r)
+open_of (Err (Wanted k)) = wants k

@@ -2,18 +2,18 @@
 -- about all refusals is one walk down its lines.
 use mathlib.Core.Path.{◌≡◌, refl}
 use mathlib.Core.List.{List}
-use mathlib.Core.Option.{Option, some, none}
 use Prim.Native.Nat.{ℕ, ◌≤◌}
 use lib.Dec.{leb}
 use lib.ListN.{length, take}
 use borrow.Author.Tests.{leb-true, leb-false}
 use Rattle.incremental.specs.declared.Refusal.{Refusal}
-use Rattle.incremental.specs.declared.Fault.{Fault}
-use Rattle.incremental.specs.declared.Fault.TheVariants.{At, Nowhere}
 use Rattle.incremental.specs.Decision.{Decision, accept, refuse, refusal, check as check_now, ◌>>◌ as ◌then◌}
 use Rattle.incremental.specs.Plan.{Plan, decide, Answer, decided, wants, run, and_then, reach, check, given}
 use Rattle.incremental.proofs.Plan.{onward, run_then, reach_here, reach_short}
 use Rattle.lists.proofs.Tests.{by_test, never}
+use Rattle.incremental.specs.declared.Fault.{Fault}
+use Rattle.std.specs.Prelude.{None, Option, Some}
+use Rattle.incremental.specs.Decision.{fault}
 
 -- ---- decisions
 pub record Fair {A : Type 0} (Q : Refusal → Type 0) (d : Decision A) : Type 0 where
@@ -26,10 +26,10 @@ module _ (Q : Refusal → Type 0) where
   pub fair_refuse : {A : Type 0} (r : Refusal) → Q r → Fair {A = A} Q (refuse r)
   fair_refuse r h = record { refuses = λ s e. let q : r ≡ s = cc in rw (← q) h }
 
-  pub fair_check : {A : Type 0} (n : ℕ) (f : Fault) (later : Decision A) → ((i at : ℕ) → f ≡ At i at → Q (refusal n i at)) → Fair Q later
+  pub fair_check : {A : Type 0} (n : ℕ) (f : Option Fault) (later : Decision A) → ((i at : ℕ) → f ≡ Some (fault i at) → Q (refusal n i at)) → Fair Q later
       → Fair Q (check_now n f then later)
-  fair_check n (At i at) later h k = fair_refuse (refusal n i at) (h i at refl)
-  fair_check n Nowhere later h k = k
+  fair_check n (Some (fault i at)) later h k = fair_refuse (refusal n i at) (h i at refl)
+  fair_check n None later h k = k
 
   pub fair_then : {A : Type 0} (d : Decision Unit) (later : Decision A) → Fair Q d → Fair Q later → Fair Q (d then later)
   fair_then (accept t) later f k = k
@@ -71,20 +71,20 @@ module _ {B : Type 0} (P : B → Type 0) (Q : Refusal → Type 0) where
       by_test (leb k (length p)) (λ e. rw (reach_here k f p (leb-true _ _ e)) (h (leb-true _ _ e)))
       (λ e. rw (reach_short k f p (leb-false _ _ e)) (each_wants P Q k))
 
-  pub each_check : (n : ℕ) (f : Fault) (g : Unit → Plan B) (p : List ℕ) → ((i at : ℕ) → f ≡ At i at → Q (refusal n i at))
-      → (f ≡ Nowhere → Each P Q (run (g tt) p)) → Each P Q (run (and_then (check n f) g) p)
+  pub each_check : (n : ℕ) (f : Option Fault) (g : Unit → Plan B) (p : List ℕ) → ((i at : ℕ) → f ≡ Some (fault i at) → Q (refusal n i at))
+      → (f ≡ None → Each P Q (run (g tt) p)) → Each P Q (run (and_then (check n f) g) p)
   unfolding check and_then run
-  each_check n (At i at) g p h k = each_refuse P Q (refusal n i at) (h i at refl)
-  each_check n Nowhere g p h k = k refl
+  each_check n (Some (fault i at)) g p h k = each_refuse P Q (refusal n i at) (h i at refl)
+  each_check n None g p h k = k refl
 
-  pub each_found : {A : Type 0} (n at : ℕ) (o : Option A) (g : A → Plan B) (p : List ℕ) → (o ≡ none → Q (refusal n 0 at))
-      → ((a : A) → o ≡ some a → Each P Q (run (g a) p)) → Each P Q (run (and_then (given n at o) g) p)
+  pub each_found : {A : Type 0} (n at : ℕ) (o : Option A) (g : A → Plan B) (p : List ℕ) → (o ≡ None → Q (refusal n 0 at))
+      → ((a : A) → o ≡ Some a → Each P Q (run (g a) p)) → Each P Q (run (and_then (given n at o) g) p)
   unfolding given and_then run
-  each_found n at (some a) g p h k = k a refl
-  each_found n at none g p h k = each_refuse P Q (refusal n 0 at) (h refl)
+  each_found n at (Some a) g p h k = k a refl
+  each_found n at None g p h k = each_refuse P Q (refusal n 0 at) (h refl)
 
   pub each_given : {A : Type 0} (n at : ℕ) (o : Option A) (g : A → Plan B) (p : List ℕ) → Q (refusal n 0 at)
-      → ((a : A) → o ≡ some a → Each P Q (run (g a) p)) → Each P Q (run (and_then (given n at o) g) p)
+      → ((a : A) → o ≡ Some a → Each P Q (run (g a) p)) → Each P Q (run (and_then (given n at o) g) p)
   each_given n at o g p h k = each_found n at o g p (λ _. h) k
 
   pub each_decide : (d : Decision Unit) (g : Unit → Plan B) (p : List ℕ) → Fair Q d → Each P Q (run (g tt) p) → Each P Q (run (and_then (decide d) g) p)

@@ -2,7 +2,6 @@
 -- early stands, whatever its checks are.
 use mathlib.Core.Path.{◌≡◌, refl, ap, sym, ◌∙◌}
 use mathlib.Core.List.{List}
-use mathlib.Core.Option.{Option, some, none}
 use Prim.Native.Nat.{ℕ, ◌<◌, ◌≤◌, min}
 use native.Mathlib.Omega.{arith}
 use native.Mathlib.Nat.{le_trans}
@@ -13,9 +12,10 @@ use borrow.Author.Tests.{leb-true, leb-false, le-leb, lt-leb}
 use Rattle.lists.proofs.Tests.{by_test, never}
 use Rattle.incremental.specs.Decision.{Decision, accept, refuse, refusal}
 use Rattle.incremental.specs.declared.Refusal.{Refusal}
-use Rattle.incremental.specs.declared.Fault.{Fault}
-use Rattle.incremental.specs.declared.Fault.TheVariants.{At, Nowhere}
 use Rattle.incremental.specs.Plan.{Plan, decide, await, Answer, decided, wants, run, and_then, reach, check, given, Stands}
+use Rattle.incremental.specs.declared.Fault.{Fault}
+use Rattle.std.specs.Prelude.{None, Option, Some}
+use Rattle.incremental.specs.Decision.{fault}
 
 -- the same of answers
 abbrev pub onward : {A B : Type 0} → Answer A → (A → Answer B) → Answer B
@@ -158,56 +158,56 @@ module _ {B : Type 0} (k : ℕ) (f : List ℕ → Plan B) (p : List ℕ) where
   pub reach_on : (v : Answer B) → k ≤ length p → v ≡ run (f (take k p)) p → v ≡ run (and_then (reach k) f) p
   reach_on v h e = rw (reach_here h) e
 
-module _ {B : Type 0} (n : ℕ) (f : Fault) (g : Unit → Plan B) (p : List ℕ) where
-  pub check_fault : (i at : ℕ) → f ≡ At i at → run (and_then (check n f) g) p ≡ decided (refuse (refusal n i at))
+module _ {B : Type 0} (n : ℕ) (f : Option Fault) (g : Unit → Plan B) (p : List ℕ) where
+  pub check_fault : (i at : ℕ) → f ≡ Some (fault i at) → run (and_then (check n f) g) p ≡ decided (refuse (refusal n i at))
   unfolding check and_then run
   check_fault i at e = rw e
 
-  pub check_passed : f ≡ Nowhere → run (and_then (check n f) g) p ≡ run (g tt) p
+  pub check_passed : f ≡ None → run (and_then (check n f) g) p ≡ run (g tt) p
   unfolding check and_then run
   check_passed e = rw e
 
   -- for `search` at a function's returns: `r` is the fault that a call gave, on which the code has matched, and `x` the refusal made
-  pub check_refused : (i at : ℕ) (r : Fault) (x : Refusal) → r ≡ f → r ≡ At i at → x ≡ refusal n i at
+  pub check_refused : (i at : ℕ) (r : Option Fault) (x : Refusal) → r ≡ f → r ≡ Some (fault i at) → x ≡ refusal n i at
       → decided (refuse x) ≡ run (and_then (check n f) g) p
   check_refused i at r x e q h = rw h (sym (check_fault i at (sym e ∙ q)))
 
-  pub check_on : (r : Fault) (v : Answer B) → r ≡ f → r ≡ Nowhere → v ≡ run (g tt) p → v ≡ run (and_then (check n f) g) p
+  pub check_on : (r : Option Fault) (v : Answer B) → r ≡ f → r ≡ None → v ≡ run (g tt) p → v ≡ run (and_then (check n f) g) p
   check_on r v e q h = rw (check_passed (sym e ∙ q)) h
 
-pub holds_check : {B : Type 0} (P : B → Type 0) (n : ℕ) (f : Fault) (g : Unit → Plan B) (p : List ℕ)
-    → (f ≡ Nowhere → AnswerHolds P (run (g tt) p)) → AnswerHolds P (run (and_then (check n f) g) p)
+pub holds_check : {B : Type 0} (P : B → Type 0) (n : ℕ) (f : Option Fault) (g : Unit → Plan B) (p : List ℕ)
+    → (f ≡ None → AnswerHolds P (run (g tt) p)) → AnswerHolds P (run (and_then (check n f) g) p)
 unfolding check and_then
-holds_check P n (At i at) g p h = holds_refuse P (refusal n i at) p
-holds_check P n Nowhere g p h = h refl
+holds_check P n (Some (fault i at)) g p h = holds_refuse P (refusal n i at) p
+holds_check P n None g p h = h refl
 
-pub decided_check : {B : Type 0} (n : ℕ) (f : Fault) (g : Unit → Plan B) (p : List ℕ)
-    → (f ≡ Nowhere → Decided (run (g tt) p)) → Decided (run (and_then (check n f) g) p)
+pub decided_check : {B : Type 0} (n : ℕ) (f : Option Fault) (g : Unit → Plan B) (p : List ℕ)
+    → (f ≡ None → Decided (run (g tt) p)) → Decided (run (and_then (check n f) g) p)
 unfolding check and_then
-decided_check n (At i at) g p h = decided_decide (refuse (refusal n i at)) p
-decided_check n Nowhere g p h = h refl
+decided_check n (Some (fault i at)) g p h = decided_decide (refuse (refusal n i at)) p
+decided_check n None g p h = h refl
 
 -- what has to be there is, or is not
 module _ {A B : Type 0} (n at : ℕ) (o : Option A) (g : A → Plan B) (p : List ℕ) where
-  pub given_some : (a : A) → o ≡ some a → run (and_then (given n at o) g) p ≡ run (g a) p
+  pub given_some : (a : A) → o ≡ Some a → run (and_then (given n at o) g) p ≡ run (g a) p
   unfolding given and_then run
   given_some a e = rw e
 
-  pub given_none : o ≡ none → run (and_then (given n at o) g) p ≡ decided (refuse (refusal n 0 at))
+  pub given_none : o ≡ None → run (and_then (given n at o) g) p ≡ decided (refuse (refusal n 0 at))
   unfolding given and_then run
   given_none e = rw e
 
 pub holds_given : {A B : Type 0} (P : B → Type 0) (n at : ℕ) (o : Option A) (g : A → Plan B) (p : List ℕ)
-    → ((a : A) → o ≡ some a → AnswerHolds P (run (g a) p)) → AnswerHolds P (run (and_then (given n at o) g) p)
+    → ((a : A) → o ≡ Some a → AnswerHolds P (run (g a) p)) → AnswerHolds P (run (and_then (given n at o) g) p)
 unfolding given and_then
-holds_given P n at (some a) g p h = h a refl
-holds_given P n at none g p h = holds_refuse P (refusal n 0 at) p
+holds_given P n at (Some a) g p h = h a refl
+holds_given P n at None g p h = holds_refuse P (refusal n 0 at) p
 
 pub decided_given : {A B : Type 0} (n at : ℕ) (o : Option A) (g : A → Plan B) (p : List ℕ)
-    → ((a : A) → o ≡ some a → Decided (run (g a) p)) → Decided (run (and_then (given n at o) g) p)
+    → ((a : A) → o ≡ Some a → Decided (run (g a) p)) → Decided (run (and_then (given n at o) g) p)
 unfolding given and_then
-decided_given n at (some a) g p h = h a refl
-decided_given n at none g p h = decided_decide (refuse (refusal n 0 at)) p
+decided_given n at (Some a) g p h = h a refl
+decided_given n at None g p h = decided_decide (refuse (refusal n 0 at)) p
 
 -- a decision, as the last line
 pub decide_it : {A : Type 0} (d e : Decision A) (p : List ℕ) → d ≡ e → decided d ≡ run (decide e) p

@@ -2,22 +2,19 @@
 -- "Refusal numbers and the order of checks").
 use Rattle.std.specs.Prelude.{Bool, ℕ}
 use Rattle.lists.specs.Count.{pick}
-use Rattle.lists.specs.declared.Found.{Found}
-use Rattle.lists.specs.declared.Found.TheVariants as found
-use Rattle.incremental.specs.declared.Fault.{Fault}
-use Rattle.incremental.specs.declared.Fault.TheVariants.{At, Nowhere}
 use Rattle.incremental.specs.declared.Refusal.{Refusal}
-use Rattle.incremental.specs.declared.Checked.{Checked}
-use Rattle.incremental.specs.declared.Checked.TheVariants.{Passed, Refused}
+use Rattle.std.specs.Prelude.{Err, None, Ok, Option, Result, Some}
+use Rattle.incremental.specs.declared.Fault.{Fault}
+use Rattle.incremental.specs.Decision.{fault}
 
 -- a fault at an index, in the field at a file offset, where the test holds
-abbrev pub fault_at : ℕ → ℕ → Bool → Fault
-fault_at i at test = pick test (At i at) Nowhere
+abbrev pub fault_at : ℕ → ℕ → Bool → Option Fault
+fault_at i at test = pick test (Some (fault i at)) None
 
 -- the fault that a search found; `at` says where in the file the field of each index stands
-abbrev pub fault_of : (ℕ → ℕ) → Found → Fault
-fault_of at (found.At i) = At i (at i)
-fault_of at found.Nothing = Nowhere
+abbrev pub fault_of : (ℕ → ℕ) → Option ℕ → Option Fault
+fault_of at (Some i) = Some (fault i (at i))
+fault_of at None = None
 
 pub data Decision (A : Type 0) : Type 0 where
   accept : A → Decision A
@@ -28,9 +25,9 @@ abbrev pub refusal : ℕ → ℕ → ℕ → Refusal
 refusal n i at = record { number = n; index = i; offset = at }
 
 -- CHECK n: a fault is refused with its index and file offset, and else nothing stands in the way
-abbrev pub check : ℕ → Fault → Decision Unit
-check n (At i at) = refuse (refusal n i at)
-check n Nowhere = accept tt
+abbrev pub check : ℕ → Option Fault → Decision Unit
+check n (Some (fault i at)) = refuse (refusal n i at)
+check n None = accept tt
 
 -- one decision after another: the first that refuses answers
 infixl 10 ◌>>=◌
@@ -43,6 +40,6 @@ abbrev pub ◌>>◌ : {A : Type 0} → Decision Unit → Decision A → Decision
 ◌>>◌ d later = d >>= λ _. later
 
 -- what each case of `Checked` says
-abbrev pub checked_of : Checked → Decision Unit
-checked_of Passed = accept tt
-checked_of (Refused r) = refuse r
+abbrev pub checked_of : Result Unit Refusal → Decision Unit
+checked_of (Ok tt) = accept tt
+checked_of (Err r) = refuse r

@@ -1,7 +1,6 @@
 -- What holds of every version's constants. Above this crate it is cited, and no proof goes by cases of the version.
 use mathlib.Core.Path.{◌≡◌, refl}
 use mathlib.Core.Logic.{◌⊎◌, inl, inr}
-use mathlib.Core.Option.{some}
 use Prim.Native.Nat.{ℕ, ◌*◌, ◌^◌, ◌≤◌, ◌<◌}
 use native.Mathlib.Nat.{mul-le-mul_left}
 use native.Mathlib.Omega.{arith}
@@ -12,6 +11,7 @@ use Rattle.lists.proofs.Tests.{by_test, never}
 use Rattle.layout.specs.declared.Layout.{Layout}
 use Rattle.layout.specs.Versions.{layout_of, form_required, forms, form_at}
 use Rattle.layout.specs.Sound.{SoundLayout}
+use Rattle.std.specs.Prelude.{Some}
 
 pub layout_sound : (v : Version) → SoundLayout (layout_of v)
 layout_sound V17 = omega arith
@@ -27,7 +27,7 @@ form_required_lem V26 = inl refl
 form_required_lem V30 = inr refl
 
 -- a head form that is known is sound; a second form would be a second step here
-pub form_sound : (start : ℕ) (l : Layout) → form_at start forms ≡ some l → SoundLayout l
+pub form_sound : (start : ℕ) (l : Layout) → form_at start forms ≡ Some l → SoundLayout l
 form_sound start l e =
     by_test (eqb start 304) (λ t. let r = rw t at e in let q : layout_of V30 ≡ l = cc in rw (← q) (layout_sound V30)) (λ t. let r = rw t at e in never cc)
 

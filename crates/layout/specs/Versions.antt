@@ -1,15 +1,11 @@
 -- Document 01's table of versions, with version 30 (request 107): every version has its own constants, kept together.
 use Rattle.std.specs.Prelude.{Bool, true, false, List, [], ◌∷◌, ℕ, eqb}
-use Rattle.std.proofs.Math.Option.{Option, some, none}
 use Rattle.lists.specs.Answer.{Said}
 use Rattle.lists.specs.Count.{pick}
 use Rattle.layout.specs.declared.Version.{Version}
 use Rattle.layout.specs.declared.Version.TheVariants.{V17, V23, V26, V30}
 use Rattle.layout.specs.declared.Layout.{Layout}
-use Rattle.layout.specs.declared.KnownVersion.{KnownVersion}
-use Rattle.layout.specs.declared.KnownVersion.TheVariants.{Known, Unknown}
-use Rattle.layout.specs.declared.KnownForm.{KnownForm}
-use Rattle.layout.specs.declared.KnownForm.TheVariants as form
+use Rattle.std.specs.Prelude.{None, Option, Some}
 
 -- the greatest declared size
 abbrev pub size_limit : ℕ
@@ -90,13 +86,13 @@ forms = layout_of V30 ∷ []
 
 -- the form whose first section, the metrics array, starts there
 abbrev pub form_at : ℕ → List Layout → Option Layout
-form_at start [] = none
-form_at start (l ∷ ls) = pick (eqb start (first_section l)) (some l) (form_at start ls)
+form_at start [] = None
+form_at start (l ∷ ls) = pick (eqb start (first_section l)) (Some l) (form_at start ls)
 
 -- what each case says: the form's constants, or none
-abbrev pub form_said : KnownForm → Option Layout
-form_said (form.Known l) = some l
-form_said form.Unknown = none
+abbrev pub form_said : Option Layout → Option Layout
+form_said (Some l) = Some l
+form_said None = None
 
 -- the number that the file has for a version
 abbrev pub version_number : Version → ℕ
@@ -106,11 +102,11 @@ version_number V26 = 26
 version_number V30 = 30
 
 -- the version of a number, for 17, 23, 26 and 30
-unfoldable pub version_of : ℕ → KnownVersion
+unfoldable pub version_of : ℕ → Option Version
 version_of v =
-    pick (eqb v 17) (Known V17) (pick (eqb v 23) (Known V23) (pick (eqb v 26) (Known V26) (pick (eqb v 30) (Known V30) Unknown)))
+    pick (eqb v 17) (Some V17) (pick (eqb v 23) (Some V23) (pick (eqb v 26) (Some V26) (pick (eqb v 30) (Some V30) None)))
 
 -- what each case says: 1 and the version's number, or 0 and none
-abbrev pub known_said : KnownVersion → Said
-known_said (Known v) = record { number = 1; values = version_number v ∷ [] }
-known_said Unknown = record { number = 0; values = [] }
+abbrev pub known_said : Option Version → Said
+known_said (Some v) = record { number = 1; values = version_number v ∷ [] }
+known_said None = record { number = 0; values = [] }

@@ -12,8 +12,6 @@ use Rattle.lists.proofs.Tests.{never}
 use Rattle.lists.specs.First.{first_from}
 use Rattle.lists.proofs.First.{first_at}
 use Rattle.lists.proofs.Count.{count-le}
-use Rattle.lists.specs.declared.Found.{Found}
-use Rattle.lists.specs.declared.Found.TheVariants as found
 use Rattle.little_endian.proofs.Number.{le-lt}
 use Rattle.little_endian.specs.Number.{le}
 use Rattle.layout.specs.Head.{signature_at}
@@ -24,8 +22,6 @@ use Rattle.layout.specs.declared.Layout.{Layout}
 use Rattle.incremental.specs.Decision.{accept, refuse, refusal, fault_at, fault_of}
 use Rattle.incremental.specs.Plan.{Plan, and_then, reach, check, done, Answer, decided, wants, run}
 use Rattle.incremental.specs.declared.Refusal.{Refusal}
-use Rattle.incremental.specs.declared.Fault.{Fault}
-use Rattle.incremental.specs.declared.Fault.TheVariants.{At}
 use Rattle.incremental.proofs.Each.{Each, each_refuse, each_accept, each_done, each_reach, each_check, each_given, each_decide, each_then}
 use Rattle.volumes.proofs.Fair.{fair_volumes}
 use Rattle.sections.proofs.Name.{ends_at}
@@ -44,8 +40,10 @@ use Rattle.reader.specs.Verdict.{Acceptable, Values, Reads, values_of, answer_va
 use Rattle.reader.specs.Checks.{trace_required, nexts_in, record_of, prefix_answer, sized, size_of, whole, file_answer}
 use Rattle.reader.specs.Checks.{counts_plan, fits_plan, texts_plan, trace_plan, volumes_plan, rest_plan, read_plan}
 use Rattle.reader.specs.declared.verdict.Acceptance.{Acceptance}
-use Rattle.reader.specs.declared.verdict.Verdict.{Verdict}
-use Rattle.reader.specs.declared.verdict.Verdict.TheVariants.{Accepted}
+use Rattle.incremental.specs.declared.Fault.{Fault}
+use Rattle.std.specs.Prelude.{None, Ok, Option, Result, Some}
+use Rattle.incremental.specs.declared.Stop.{Stop}
+use Rattle.incremental.specs.Decision.{fault}
 
 -- every byte is below 256
 abbrev pub Bytes : List ℕ → Type 0
@@ -67,8 +65,8 @@ small_at : (n i at : ℕ) → n < 100 → i < 2 ^ 32 → SmallRefusal (refusal n
 small_at n i at l h = record { number = l; index = h }
 
 -- ---- faults: one at index 0, or at an index of so many
-abbrev LowFault : Fault → Type 0
-LowFault f = (i at : ℕ) → f ≡ At i at → i < 2 ^ 32
+abbrev LowFault : Option Fault → Type 0
+LowFault f = (i at : ℕ) → f ≡ Some (fault i at) → i < 2 ^ 32
 
 low_fault : (i at : ℕ) (b : Bool) → i < 2 ^ 32 → LowFault (fault_at i at b)
 low_fault i at true l j x e = let q : i ≡ j = cc in omega arith
@@ -77,9 +75,9 @@ low_fault i at false l j x e = never cc
 low_from : (at : ℕ → ℕ) (test : ℕ → Bool) (n i : ℕ) → i + n < 2 ^ 32 → LowFault (fault_of at (first_from test n i))
 low_from at test n i l = go (first_from test n i) refl
   where
-    go : (f : Found) → first_from test n i ≡ f → LowFault (fault_of at f)
-    go (found.At k) e j x q = let y : k ≡ j = cc in omega (arith, (first_at test n i k e).1)
-    go found.Nothing e j x q = never cc
+    go : (f : Option ℕ) → first_from test n i ≡ f → LowFault (fault_of at f)
+    go (Some k) e j x q = let y : k ≡ j = cc in omega (arith, (first_at test n i k e).1)
+    go None e j x q = never cc
 
 low_signature : (b : List ℕ) → LowFault (signature_fault b)
 unfolding signature_fault
@@ -167,10 +165,10 @@ module _ (p : List ℕ) (m : ℕ) (h : Bytes p) where
   Any a = Unit
 
   -- a check by its number and its fault
-  small-check : (n : ℕ) (f : Fault) → n < 100 → LowFault f → (i at : ℕ) → f ≡ At i at → SmallRefusal (refusal n i at)
+  small-check : (n : ℕ) (f : Option Fault) → n < 100 → LowFault f → (i at : ℕ) → f ≡ Some (fault i at) → SmallRefusal (refusal n i at)
   small-check n f l h i at e = small_at n i at l (h i at e)
 
-  abbrev line : {B : Type 0} (n : ℕ) (f : Fault) (g : Unit → Plan B) → n < 100 → LowFault f → Each Any SmallRefusal (run (g tt) p)
+  abbrev line : {B : Type 0} (n : ℕ) (f : Option Fault) (g : Unit → Plan B) → n < 100 → LowFault f → Each Any SmallRefusal (run (g tt) p)
       → Each Any SmallRefusal (run (and_then (check n f) g) p)
   line n f g l h k = each_check Any SmallRefusal n f g p (small-check n f l h) (λ _. k)
 
@@ -275,8 +273,8 @@ module _ (p : List ℕ) (m : ℕ) (h : Bytes p) where
   small_answer = each-whole (length p) (prefix_answer p m) each_read
 
 -- an accepted record has a name of fewer than 30 units
-pub accepted_units : (p : List ℕ) (m : ℕ) (v : Verdict) (after : List ℕ) (a : Acceptance) → Bytes p → Reads (file_answer p m) m v after
-    → v ≡ Accepted a → a.name_units < 30
+pub accepted_units : (p : List ℕ) (m : ℕ) (v : Result Acceptance Stop) (after : List ℕ) (a : Acceptance) → Bytes p → Reads (file_answer p m) m v after
+    → v ≡ Ok a → a.name_units < 30
 accepted_units p m v after a h r q = go (file_answer p m) (small_answer p m h) (ap values_of (sym q) ∙ r.verdict)
   where
     go : (x : Answer Acceptable) → Each (λ y. SmallFields y.fields) SmallRefusal x → accepted_values a ≡ answer_values x → a.name_units < 30

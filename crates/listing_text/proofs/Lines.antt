@@ -19,10 +19,7 @@ use Rattle.digits.specs.Hex.{hex_digits}
 use Rattle.reader.specs.Verdict.{Acceptable, Values, Reads, answer_values, accepted_values, refused_values, wanted_values, values_of, buffer_after}
 use Rattle.reader.specs.Checks.{file_answer}
 use Rattle.reader.specs.declared.verdict.Acceptance.{Acceptance}
-use Rattle.reader.specs.declared.verdict.Verdict.{Verdict}
-use Rattle.reader.specs.declared.verdict.Verdict.TheVariants.{Accepted, Refused, Wanted}
 use Rattle.path_search.specs.Search.{path_found}
-use Rattle.path_search.specs.declared.PathAnswer.{PathAnswer}
 use Rattle.text.specs.Decimal.{decimal}
 use Rattle.text.specs.Put.{Put}
 use Rattle.text.proofs.Growth.{put_none, put_then, put_whole}
@@ -32,6 +29,10 @@ use Rattle.listing_text.specs.Listing.{answer_text, file_limit, listing, room, L
 use Rattle.listing_text.specs.Private.{count_lines}
 use Rattle.listing_text.proofs.Bounds.{Bytes}
 use Rattle.listing_text.proofs.ListingRoom.{listing_short}
+use Rattle.std.specs.Prelude.{Err, Ok, Option, Result}
+use Rattle.path_search.specs.declared.PathEntry.{PathEntry}
+use Rattle.incremental.specs.declared.Stop.TheVariants.{Refused, Wanted}
+use Rattle.incremental.specs.declared.Stop.{Stop}
 
 -- ---- the units of the name
 -- the last entry of a list that is given by its entries
@@ -75,7 +76,7 @@ regroup : (a b c d e : List ℕ) → (a ++ (b ++ (c ++ d))) ++ e ≡ a ++ (b ++ 
 regroup a b c d e = simp append_assoc
 
 pub accepted_lines : {o : List ℕ} {r : ℕ} {p : List ℕ} {q : ℕ} {n : List ℕ} {e : ℕ} {m : List ℕ} {y : ℕ} {u : List ℕ} {z : ℕ} {t : List ℕ}
-    (a : Acceptance) (file : List ℕ) {found : PathAnswer}
+    (a : Acceptance) (file : List ℕ) {found : Option PathEntry}
     → Put o 0 (line (version·word ++ decimal a.version)) r p
     → Put p r (line (name·word ++ shown_name file a.name_units)) q n
     → Put n q (line (hash·word ++ hex_digits 8 a.stored_hash)) e m
@@ -120,7 +121,7 @@ module _ (p buffer : List ℕ) (h : Bytes p) where
       let b = lt-ltb file_limit (length p) l in
       listed-text o r after n (rw b t) (rw b e)
 
-  module _ (l : length p ≤ file_limit) (v : Verdict) (after : List ℕ) (z : Reads (file_answer p (length buffer)) (length buffer) v after) where
+  module _ (l : length p ≤ file_limit) (v : Result Acceptance Stop) (after : List ℕ) (z : Reads (file_answer p (length buffer)) (length buffer) v after) where
     listed : (o : List ℕ) (r : ℕ) (n : List ℕ) → Put o 0 (answer_text (file_answer p (length buffer)) p) r n → Listed p buffer o r after n
     unfolding listing
     listed o r n t =
@@ -144,12 +145,12 @@ module _ (p buffer : List ℕ) (h : Bytes p) where
     wanted_answer j (decided (refuse q)) e = absurd (omega (arith, ap (λ (w : Values). w.kind) e))
     wanted_answer j (wants k) e = refl
 
-    pub listed_accepted : (o : List ℕ) (r : ℕ) (n : List ℕ) (a : Acceptance) → v ≡ Accepted a → Put o 0 (accepted_text a p) r n → Listed p buffer o r after n
+    pub listed_accepted : (o : List ℕ) (r : ℕ) (n : List ℕ) (a : Acceptance) → v ≡ Ok a → Put o 0 (accepted_text a p) r n → Listed p buffer o r after n
     listed_accepted o r n a q t = listed o r n (rw (accepted_answer a (file_answer p (length buffer)) (ap values_of (sym q) ∙ z.verdict)) t)
 
-    pub listed_refused : (o : List ℕ) (r : ℕ) (n : List ℕ) (f : Refusal) → v ≡ Refused f → Put o 0 (refused_text f.number f.index) r n
+    pub listed_refused : (o : List ℕ) (r : ℕ) (n : List ℕ) (f : Refusal) → v ≡ Err (Err (Err (Err (Err (Err (Err (Err (Err (Err (Err (Err (Err (Err (Err (Err (Err (Err (Err (Err (Err (Err (Err (Err (Err (Err (Err (Err (Err (Err (Err (Err (Err (Err (Err (Err (Err (Err (Err (Err (Err (Err (Err (Err (Err (Err (Err (Err (Err (Err (Err (Err (Err (Err (Err (Err (Err (Err (Err (Err (Err (Err (Err (Err (Err (Err (Err (Err (Err (Err (Err (Err (Err (Err (Err (Err (Err (Err (Err (Err (Err (Err (Err (Err (Err (Err (Err (Err (Err (Err (Err (Err (Err (Err (Err (Err (Err (Err (Err (Err (Err (Err (Err (Err (Err (Err (Err (Err (Err (Err (Err (Err (Err (Err (Err (Err (Err (Err (Err (Err (Err (Err (Err (Err (Err (Err (Err (Err (Err (Err (Err (Err (Err (Err (Err (Err (Err (Err (Err (Err (Err (Err (Err (Err (Err (Err (Err (Err (Err (Err (Err (Err (Err (Err (Err (Err (Err (Err (Err (Err (Err (Err (Err (Err (Err (Err (Err (Err (Err (Err (Err (Err (Err (Err (Err (Err (Err (Err (Err (Err (Err (Err (Err (Err (Err (Err (Err (Err (Err (Err (Err (Err (Err (Err (Err (Err (Err (Err (Err (Err (Refused f)))))))))))))))))))))))))))))))))))))))))))))))))))))))))))))))))))))))))))))))))))))))))))))))))))))))))))))))))))))))))))))))))))))))))))))))))))))))))))))))))))))))))))))))))))))))))))))))))))))))) → Put o 0 (refused_text f.number f.index) r n
         → Listed p buffer o r after n
     listed_refused o r n f q t = listed o r n (rw (refused_answer f (file_answer p (length buffer)) (ap values_of (sym q) ∙ z.verdict)) t)
 
-    pub listed_wanted : (o : List ℕ) (j : ℕ) → v ≡ Wanted j → Listed p buffer o 0 after o
+    pub listed_wanted : (o : List ℕ) (j : ℕ) → v ≡ Err (Err (Err (Err (Err (Err (Err (Err (Err (Err (Err (Err (Err (Err (Err (Err (Err (Err (Err (Err (Err (Err (Err (Err (Err (Err (Err (Err (Err (Err (Err (Err (Err (Err (Err (Err (Err (Err (Err (Err (Err (Err (Err (Err (Err (Err (Err (Err (Err (Err (Err (Err (Err (Err (Err (Err (Err (Err (Err (Err (Err (Err (Err (Err (Err (Err (Err (Err (Err (Err (Err (Err (Err (Err (Err (Err (Err (Err (Err (Err (Err (Err (Err (Err (Err (Err (Err (Err (Err (Err (Err (Err (Err (Err (Err (Err (Err (Err (Err (Err (Err (Err (Err (Err (Err (Err (Err (Err (Err (Err (Err (Err (Err (Err (Err (Err (Err (Err (Err (Err (Err (Err (Err (Err (Err (Err (Err (Err (Err (Err (Err (Err (Err (Err (Err (Err (Err (Err (Err (Err (Err (Err (Err (Err (Err (Err (Err (Err (Err (Err (Err (Err (Err (Err (Err (Err (Err (Err (Err (Err (Err (Err (Err (Err (Err (Err (Err (Err (Err (Err (Err (Err (Err (Err (Err (Err (Err (Err (Err (Err (Err (Err (Err (Err (Err (Err (Err (Err (Err (Err (Err (Err (Err (Err (Err (Err (Err (Err (Err (Err (Wanted j)))))))))))))))))))))))))))))))))))))))))))))))))))))))))))))))))))))))))))))))))))))))))))))))))))))))))))))))))))))))))))))))))))))))))))))))))))))))))))))))))))))))))))))))))))))))))))))))))))))))) → Listed p buffer o 0 after o
     listed_wanted o j q = listed o 0 o (rw (wanted_answer j (file_answer p (length buffer)) (ap values_of (sym q) ∙ z.verdict)) (put_none o 0))

@@ -19,8 +19,6 @@ use Rattle.reader.specs.Checks.{file_answer}
 use Rattle.reader.specs.declared.verdict.Acceptance.{Acceptance}
 use Rattle.path_search.specs.Search.{path_found}
 use Rattle.path_search.proofs.Laws.{path_found_law}
-use Rattle.path_search.specs.declared.PathAnswer.{PathAnswer}
-use Rattle.path_search.specs.declared.PathAnswer.TheVariants as path_answer
 use Rattle.lists.specs.Count.{pick}
 use Rattle.text.specs.Decimal.{decimal}
 use Rattle.text.proofs.Decimal.{decimal_short}
@@ -28,6 +26,9 @@ use Rattle.listing_text.specs.Listing.{line, too_long, path_text, accepted_text,
 use Rattle.listing_text.specs.Listing.{file_limit, listing, room}
 use Rattle.incremental.proofs.Each.{Each}
 use Rattle.listing_text.proofs.Bounds.{Bytes, SmallRefusal, SmallFields, low_counts, small_answer}
+use Rattle.std.specs.Prelude.{None, Option, Some}
+use Rattle.path_search.specs.declared.PathEntry.{PathEntry}
+use Rattle.path_search.specs.Search.{path_entry}
 
 two_digits : (n : ℕ) → n < 100 → length (decimal n) ≤ 2
 two_digits n l = decimal_short 1 n l
@@ -36,12 +37,12 @@ ten_digits : (n : ℕ) → n < 2 ^ 32 → length (decimal n) ≤ 10
 ten_digits n l = decimal_short 9 n (omega arith)
 
 module _ (p : List ℕ) (h : Bytes p) where
-  path_found_lem : (o : Opening) (r : PathAnswer) → path_found p ≡ r → run open_plan p ≡ decided (accept o) → length (path_text r) ≤ 12
-  path_found_lem o (path_answer.Entry i n) e q =
+  path_found_lem : (o : Opening) (r : Option PathEntry) → path_found p ≡ r → run open_plan p ≡ decided (accept o) → length (path_text r) ≤ 12
+  path_found_lem o (Some (path_entry i n)) e q =
       let f = path_found_law o p i n q e in
       let b = (low_counts p o h ((open_facts p).holds o q)).metrics in
       simp length-append (omega (arith, ten_digits i (omega (arith, f.below)), decimal_short 0 n (omega (arith, f.number))))
-  path_found_lem o path_answer.NoPath e q = omega arith
+  path_found_lem o None e q = omega arith
 
   path-short : length (path_text (path_found p)) ≤ 12
   path-short = go (run open_plan p) refl

@@ -15,8 +15,9 @@ use Rattle.reader.specs.Verdict.{Acceptable, buffer_after}
 use Rattle.reader.specs.Checks.{file_answer}
 use Rattle.reader.specs.declared.verdict.Acceptance.{Acceptance}
 use Rattle.path_search.specs.Search.{path_found}
-use Rattle.path_search.specs.declared.PathAnswer.{PathAnswer}
-use Rattle.path_search.specs.declared.PathAnswer.TheVariants as path_answer
+use Rattle.std.specs.Prelude.{None, Option, Some}
+use Rattle.path_search.specs.declared.PathEntry.{PathEntry}
+use Rattle.path_search.specs.Search.{path_entry}
 
 -- the words
 abbrev pub version·word : List ℕ
@@ -61,9 +62,9 @@ abbrev pub shown_name : List ℕ → ℕ → List ℕ
 shown_name p units = tabulate units (λ k. shown_unit (le 2 p (program_name_at + 2 * k)))
 
 -- the entry's index, a blank and its number (request 105), or `none`
-abbrev pub path_text : PathAnswer → List ℕ
-path_text (path_answer.Entry i n) = decimal i ++ (32 ∷ decimal n)
-path_text path_answer.NoPath = ascii "none"
+abbrev pub path_text : Option PathEntry → List ℕ
+path_text (Some (path_entry i n)) = decimal i ++ (32 ∷ decimal n)
+path_text None = ascii "none"
 
 -- the eight lines
 unfoldable pub accepted_text : Acceptance → List ℕ → List ℕ

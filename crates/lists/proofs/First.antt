@@ -8,11 +8,11 @@ use native.Mathlib.Nat.{sub-zero, zero-add, add-zero, eq-or-lt_of_le}
 use native.Mathlib.Numerals.{add-one}
 use lib.Dec.{ltb}
 use borrow.Author.Tests.{ltb-true, ltb-false}
-use Rattle.lists.specs.declared.Found.TheVariants.{At, Nothing}
 use Rattle.lists.specs.First.{first_from, first, found_below}
 use Rattle.lists.proofs.Tests.{by_test, never}
+use Rattle.std.specs.Prelude.{None, Some}
 
-pub at_nothing : (i : ℕ) → At i ≡ Nothing → ⊥
+pub at_nothing : (i : ℕ) → Some i ≡ None → ⊥
 at_nothing i e = never cc
 
 -- Four laws for a loop whose invariant is `first test n ≡ first_from test (n - i) i`
@@ -25,39 +25,39 @@ first_miss test n i l e =
     let d : n - i ≡ suc (n - (i + 1)) = omega arith in
     rw (d, e, add-one i)
 
-pub first_hit : (test : ℕ → Bool) (n i : ℕ) → i < n → test i ≡ true → first_from test (n - i) i ≡ At i
+pub first_hit : (test : ℕ → Bool) (n i : ℕ) → i < n → test i ≡ true → first_from test (n - i) i ≡ Some i
 unfolding first_from
 first_hit test n i l e =
     let d : n - i ≡ suc (n - (i + 1)) = omega arith in
     rw (d, e)
 
-pub first-none : (test : ℕ → Bool) (n i : ℕ) → n ≤ i → first_from test (n - i) i ≡ Nothing
+pub first-none : (test : ℕ → Bool) (n i : ℕ) → n ≤ i → first_from test (n - i) i ≡ None
 unfolding first_from
 first-none test n i l =
     let d : n - i ≡ 0 = omega arith in
     rw d
 
 -- where there is none, every index fails the test
-pub first-clear : (test : ℕ → Bool) (n i : ℕ) → first_from test n i ≡ Nothing → (k : ℕ) → k < n → test (i + k) ≡ false
+pub first-clear : (test : ℕ → Bool) (n i : ℕ) → first_from test n i ≡ None → (k : ℕ) → k < n → test (i + k) ≡ false
 unfolding first_from
 first-clear test zero i e k l = absurd (omega arith)
-first-clear test (suc n) i e zero l = by_test (test i) (λ q. let w : At i ≡ Nothing = rw q at e in never cc) (λ q. rw (add-zero i) q)
+first-clear test (suc n) i e zero l = by_test (test i) (λ q. let w : Some i ≡ None = rw q at e in never cc) (λ q. rw (add-zero i) q)
 first-clear test (suc n) i e (suc k) l =
     let s : suc i + k ≡ i + suc k = omega arith in
-    by_test (test i) (λ q. let w : At i ≡ Nothing = rw q at e in never cc)
+    by_test (test i) (λ q. let w : Some i ≡ None = rw q at e in never cc)
     (λ q. rw (← s) (first-clear test n (suc i) (rw q at e) k (omega arith)))
 
-pub first_nothing : (test : ℕ → Bool) (n : ℕ) → first test n ≡ Nothing → (k : ℕ) → k < n → test k ≡ false
+pub first_nothing : (test : ℕ → Bool) (n : ℕ) → first test n ≡ None → (k : ℕ) → k < n → test k ≡ false
 first_nothing test n e k l = ap test (sym (zero-add k)) ∙ first-clear test n 0 e k l
 
 -- the index that is found passes the test, and none before it does
-pub first_at : (test : ℕ → Bool) (n i u : ℕ) → first_from test n i ≡ At u → (i ≤ u) × (u < i + n) × (test u ≡ true) × ((k : ℕ) → i ≤ k → k < u → test k ≡ false)
+pub first_at : (test : ℕ → Bool) (n i u : ℕ) → first_from test n i ≡ Some u → (i ≤ u) × (u < i + n) × (test u ≡ true) × ((k : ℕ) → i ≤ k → k < u → test k ≡ false)
 unfolding first_from
 first_at test zero i u e = absurd (at_nothing u (sym e))
 first_at test (suc n) i u e =
     by_test (test i)
     (λ q.
-    let j : At i ≡ At u = rw q at e in
+    let j : Some i ≡ Some u = rw q at e in
     let h : i ≡ u = cc in
     (omega arith, omega arith, ap test (sym h) ∙ q, λ k l m. absurd (omega arith)))
     (λ q.
@@ -71,10 +71,10 @@ first_skip test n (suc r) l f =
     first_skip test n r (omega arith) (λ k h. f k (omega arith)) ∙ rw (← add-one r) (first_miss test n r (omega arith) (f r (omega arith)))
 
 -- r passes and none below it does; and none passes
-pub first_is_at : (test : ℕ → Bool) (n r : ℕ) → r < n → test r ≡ true → ((k : ℕ) → k < r → test k ≡ false) → first test n ≡ At r
+pub first_is_at : (test : ℕ → Bool) (n r : ℕ) → r < n → test r ≡ true → ((k : ℕ) → k < r → test k ≡ false) → first test n ≡ Some r
 first_is_at test n r l e f = first_skip test n r (omega arith) f ∙ first_hit test n r l e
 
-pub first_is_nothing : (test : ℕ → Bool) (n : ℕ) → ((k : ℕ) → k < n → test k ≡ false) → first test n ≡ Nothing
+pub first_is_nothing : (test : ℕ → Bool) (n : ℕ) → ((k : ℕ) → k < n → test k ≡ false) → first test n ≡ None
 first_is_nothing test n f = first_skip test n n (omega arith) f ∙ first-none test n n (omega arith)
 
 -- the same search by a number: the first index below n that passes the test, or n where none does
@@ -117,8 +117,8 @@ ending_miss test n end k q l e =
       here = λ h. (omega (arith, (q.here h).0), (q.here h).1);
     }
 
-pub ending_at : (test : ℕ → Bool) (n end k : ℕ) → Ending test n end k → end ≤ k → end < n → At end ≡ first test n
+pub ending_at : (test : ℕ → Bool) (n end k : ℕ) → Ending test n end k → end ≤ k → end < n → Some end ≡ first test n
 ending_at test n end k q l m = sym (first_is_at test n end m (q.here m).1 (λ j h. q.below j (omega arith) h))
 
-pub ending_none : (test : ℕ → Bool) (n end k : ℕ) → Ending test n end k → end ≤ k → n ≤ end → Nothing ≡ first test n
+pub ending_none : (test : ℕ → Bool) (n end k : ℕ) → Ending test n end k → end ≤ k → n ≤ end → None ≡ first test n
 ending_none test n end k q l m = sym (first_is_nothing test n (λ j h. q.below j (omega arith) (omega arith)))

@@ -8,13 +8,6 @@ ghost use Rattle.lists.specs.Part.{IsPart};
 // What a place holds that nothing has been put into.
 const EMPTY: u32 = 4294967295;
 
-// The index that a search found, if any.
-#[derive(Clone, Copy)]
-pub enum Found {
-    At(usize),
-    Nothing,
-}
-
 // So many bytes from an offset, or as many of them as there are.
 pub fn part(bytes: &[u8], at: usize, len: usize) -> &[u8]
     ensures { IsPart bytes.entry at len result }
@@ -33,19 +26,12 @@ pub fn part(bytes: &[u8], at: usize, len: usize) -> &[u8]
 pub fn number_at(list: &[u32], at: usize) -> u32
     ensures { result ≡ get_or list.now at 0 }
 {
-    if list.len() <= at {
-        return 0;
-    }
-    list[at]
+    list.get(at).copied().unwrap_or(0)
 }
 
 // Every place becomes empty.
 pub fn fill(places: &mut [u32])
     ensures { places.new ≡ filled (length places.old) }
 {
-    let mut i = 0;
-    while i < places.len() {
-        places[i] = EMPTY;
-        i += 1;
-    }
+    places.fill(EMPTY);
 }

@@ -5,8 +5,6 @@ ghost use Rattle.std.specs.Prelude.{◌≡◌, ◌+◌, ◌*◌, ◌≤◌, leng
 ghost use Rattle.lists.specs.First.{first};
 ghost use Rattle.little_endian.specs.Number.{le, zero_unit};
 
-use lists::Found;
-
 // A read whose bytes are all there, as in most reads: none is tested for itself.
 fn whole_u16(s: &[u8], at: usize) -> u16
     requires { at + 2 ≤ length s.now }
@@ -97,20 +95,14 @@ pub fn u64_at(s: &[u8], at: usize) -> u64
     whole_u64(s, at)
 }
 
-// The first zero unit among so many units from an offset. The loop ends with it: what lies behind is not looked at.
-pub fn first_zero_unit(s: &[u8], at: u32, count: u32) -> Found
+// The first zero unit among so many units from an offset. What lies behind it is not looked at.
+pub fn first_zero_unit(s: &[u8], at: u32, count: u32) -> Option<usize>
     ensures { result ≡ first (λ k. zero_unit s.now (at + 2 * k)) count }
 {
-    let mut end = count;
-    let mut k = 0;
-    while k < end {
+    for k in 0..count {
         if u16_at(s, at as usize + 2 * (k as usize)) == 0 {
-            end = k;
+            return Some(k as usize);
         }
-        k += 1;
     }
-    if end < count {
-        return Found::At(end as usize);
-    }
-    Found::Nothing
+    None
 }

@@ -9,6 +9,7 @@ use Rattle.layout.specs.Versions.{metrics_entry, name_offset_at, name_length_at}
 use Rattle.layout.specs.declared.Layout.{Layout}
 use Rattle.incremental.specs.Decision.{fault_of}
 use Rattle.incremental.specs.declared.Fault.{Fault}
+use Rattle.std.specs.Prelude.{Option}
 
 -- the name of metrics entry i: its offset in the strings section, and its length in units
 abbrev pub name_at : Layout → List ℕ → ℕ → ℕ
@@ -41,7 +42,7 @@ unfoldable pub fits : ℕ → ℕ → ℕ → Bool
 fits size at units = leb (at + 2 * units + 2) size
 
 -- 9: the first of the entries, in a metrics array from `start`, whose name doesn't fit a strings section of that size
-unfoldable pub misfit_fault : Layout → ℕ → Named → ℕ → ℕ → Fault
+unfoldable pub misfit_fault : Layout → ℕ → Named → ℕ → ℕ → Option Fault
 misfit_fault l start names entries size = fault_of (name_field_at l start) (first (λ i. not (fits size (names.offset i) (names.units i))) entries)
 
 -- a name that fits has no zero unit among its units, and a zero unit directly after them
@@ -50,7 +51,7 @@ sound strings at units =
     fits (length strings) at units && (not (any_below (λ k. zero_unit strings (at + 2 * k)) units) && zero_unit strings (at + 2 * units))
 
 -- 10: the first of the entries whose name isn't sound
-unfoldable pub unsound_fault : Layout → ℕ → Named → ℕ → List ℕ → Fault
+unfoldable pub unsound_fault : Layout → ℕ → Named → ℕ → List ℕ → Option Fault
 unsound_fault l start names entries strings = fault_of (name_field_at l start) (first (λ i. not (sound strings (names.offset i) (names.units i))) entries)
 
 -- in plain words: what a sound name is

@@ -26,9 +26,10 @@ use Rattle.path_search.proofs.Same.{same-eq}
 use Rattle.path_search.specs.declared.Sought.{Sought}
 use Rattle.query.proofs.Entries.{name_inside, both}
 use Rattle.query.proofs.Parts.{part_there, part_low, part_bytes}
-use Rattle.path_search.specs.declared.PathAnswer.{PathAnswer}
-use Rattle.path_search.specs.declared.PathAnswer.TheVariants as path_answer
 use Rattle.path_search.proofs.NameNumber.{number_test}
+use Rattle.std.specs.Prelude.{None, Option, Some}
+use Rattle.path_search.specs.declared.PathEntry.{PathEntry}
+use Rattle.path_search.specs.Search.{path_entry}
 
 -- ---- THE SEARCH ON THE SECTIONS IS THE SEARCH ON THE FILE
 
@@ -140,7 +141,7 @@ few_entries l metrics h = omega (arith, div-le_self (length metrics) l.metrics_e
 pub metrics_low : (o : Opening) (p : List ℕ) {metrics : List ℕ} → OpenFacts p o → metrics ≡ part o.head.metrics p → length metrics ≤ size_limit
 metrics_low o p f e = rw e (part_low o.head.metrics _ p (open_shapes p o f).metrics_end (le_trans f.metrics f.start.most))
 
-pub sections_given : (o : Opening) (p path : List ℕ) (from : ℕ) {metrics strings : List ℕ} {q : Sought} {r : PathAnswer}
+pub sections_given : (o : Opening) (p path : List ℕ) (from : ℕ) {metrics strings : List ℕ} {q : Sought} {r : Option PathEntry}
     → metrics ≡ part o.head.metrics p → strings ≡ part o.head.strings p → q ≡ sought_on o p from
     → r ≡ searched q path o.layout metrics strings → r ≡ searched_on o p path from
 sections_given o p path from em es eq e = rw (em, es, eq) at e
@@ -148,7 +149,7 @@ sections_given o p path from em es eq e = rw (em, es, eq) at e
 pub stored_low : (p : List ℕ) → ((k : ℕ) → get_or p k 0 < 256) → stored_hash p < 2 ^ 32
 stored_low p h = le-lt 4 p _ h
 
-pub path_given : (o : Opening) (p : List ℕ) {path : List ℕ} {from : ℕ} {r : PathAnswer} → OpenFacts p o → from < 2 ^ 32 → stored_hash p < 2 ^ 32
+pub path_given : (o : Opening) (p : List ℕ) {path : List ℕ} {from : ℕ} {r : Option PathEntry} → OpenFacts p o → from < 2 ^ 32 → stored_hash p < 2 ^ 32
     → path ≡ [] → from ≡ hash_start o.version → r ≡ searched_on o p path from → r ≡ least_pair (matches_by o p) o.head.metrics.count
 path_given o p {path} {from} f a b ep ef e =
     e ∙ sym (path_law o p f path from a b (matches_by o p) (λ n i. rw (ep, ef) (all_matches o p n i)))
@@ -164,7 +165,7 @@ pairs-given o p {path} {from = from} f a b ep ef em es eq w =
     record { count = c; pairs = d }
 
 -- from another start: `path` is what the query for the volume's path gave
-pub from_given : (o : Opening) (p : List ℕ) (v : ℕ) (start : List ℕ) {path : List ℕ} {h from : ℕ} {r : PathAnswer} → OpenFacts p o → from < 2 ^ 32
+pub from_given : (o : Opening) (p : List ℕ) (v : ℕ) (start : List ℕ) {path : List ℕ} {h from : ℕ} {r : Option PathEntry} → OpenFacts p o → from < 2 ^ 32
     → stored_hash p < 2 ^ 32 → path ≡ bytes_at (path_place o p v) p → (length path ≡ 0 → ⊥) → h ≡ hash_start o.version → from ≡ plain h start
     → r ≡ searched_on o p path from → r ≡ least_pair (matches_from o p v start) o.head.metrics.count
 from_given o p v start {path} {h} {from} {r} f a b ep n eh ef e =
@@ -176,7 +177,7 @@ from_given o p v start {path} {h} {from} {r} f a b ep n eh ef e =
     (λ s. absurd (n (ap length (rw s at ep))))
 
 pub from_none : (o : Opening) (p : List ℕ) (v : ℕ) (start : List ℕ) {path : List ℕ} → path ≡ bytes_at (path_place o p v) p → length path ≡ 0
-    → path_answer.NoPath ≡ least_pair (matches_from o p v start) o.head.metrics.count
+    → None ≡ least_pair (matches_from o p v start) o.head.metrics.count
 unfolding takes_part
 from_none o p v start {path} ep z =
     sym
@@ -189,22 +190,22 @@ from_none o p v start {path} ep z =
     (λ s. rw s (by_test (entry_shown o p i) (λ e. rw e) (λ e. rw e)))))
 
 -- ---- what a found path is
-pub path_found_law : (o : Opening) (p : List ℕ) (i n : ℕ) → run open_plan p ≡ decided (accept o) → path_found p ≡ path_answer.Entry i n → PathFound o p i n
+pub path_found_law : (o : Opening) (p : List ℕ) (i n : ℕ) → run open_plan p ≡ decided (accept o) → path_found p ≡ Some (path_entry i n) → PathFound o p i n
 path_found_law o p i n a e =
-    let g : least_pair (matches_by o p) o.head.metrics.count ≡ path_answer.Entry i n = rw a at e in
+    let g : least_pair (matches_by o p) o.head.metrics.count ≡ Some (path_entry i n) = rw a at e in
     let q = least_is (matches_by o p) o.head.metrics.count i n g in
     record { below = q.below; number = q.number; matched = q.matched; least = q.least; first = q.first }
 
-pub found_path_law : (o : Opening) (p : List ℕ) (i n : ℕ) → run open_plan p ≡ decided (accept o) → PathFound o p i n → path_found p ≡ path_answer.Entry i n
+pub found_path_law : (o : Opening) (p : List ℕ) (i n : ℕ) → run open_plan p ≡ decided (accept o) → PathFound o p i n → path_found p ≡ Some (path_entry i n)
 found_path_law o p i n a q =
     rw a
     (least_at (matches_by o p) o.head.metrics.count i n
     (record { below = q.below; number = q.number; matched = q.matched; least = q.least; first = q.first }))
 
-pub path_not_found_law : (o : Opening) (p : List ℕ) → run open_plan p ≡ decided (accept o) → path_found p ≡ path_answer.NoPath
+pub path_not_found_law : (o : Opening) (p : List ℕ) → run open_plan p ≡ decided (accept o) → path_found p ≡ None
     → (n i : ℕ) → n < 9 → i < o.head.metrics.count → matches_by o p n i ≡ false
 path_not_found_law o p a e =
-    let g : least_pair (matches_by o p) o.head.metrics.count ≡ path_answer.NoPath = rw a at e in
+    let g : least_pair (matches_by o p) o.head.metrics.count ≡ None = rw a at e in
     least_not (matches_by o p) o.head.metrics.count g
 
 -- ---- FROM THE VOLUME'S OWN PATH the path is the name: it begins with that path

@@ -7,8 +7,6 @@ use Rattle.lists.proofs.Tests.{by_test, never}
 use Rattle.lists.specs.First.{first}
 use Rattle.lists.proofs.Those.{those-same}
 use Rattle.lists.proofs.First.{first_at, first_is_at, first_is_nothing, first_nothing}
-use Rattle.lists.specs.declared.Found.{Found}
-use Rattle.lists.specs.declared.Found.TheVariants.{At, Nothing}
 use Rattle.layout.specs.declared.Layout.{Layout}
 use Rattle.layout.specs.declared.Version.{Version}
 use Rattle.layout.specs.declared.Version.TheVariants.{V17, V23, V26, V30}
@@ -17,8 +15,9 @@ use Rattle.path_hash.proofs.Laws.{plain-lt, vista_2008}
 use Rattle.path_search.specs.Search.{hash_of, entry_by, pair_by, least_pair, pairs_below}
 use Rattle.path_search.specs.Private.{hash_start, hash_end, number_for, number_in, numbered_in, entries_in, searched}
 use Rattle.path_search.specs.declared.Sought.{Sought}
-use Rattle.path_search.specs.declared.PathAnswer.{PathAnswer}
-use Rattle.path_search.specs.declared.PathAnswer.TheVariants as path_answer
+use Rattle.std.specs.Prelude.{None, Option, Some}
+use Rattle.path_search.specs.declared.PathEntry.{PathEntry}
+use Rattle.path_search.specs.Search.{path_entry}
 
 -- entry i matches by number n; no entry by a lower number, and no earlier entry by n
 pub record IsLeast (test : ℕ → ℕ → Bool) (m i n : ℕ) : Type 0 where
@@ -32,30 +31,30 @@ abbrev pub NoneMatches : (ℕ → ℕ → Bool) → ℕ → Type 0
 NoneMatches test m = (n i : ℕ) → n < 9 → i < m → test n i ≡ false
 
 module _ (test : ℕ → ℕ → Bool) (m : ℕ) where
-  pub least_at : (i n : ℕ) → IsLeast test m i n → least_pair test m ≡ path_answer.Entry i n
+  pub least_at : (i n : ℕ) → IsLeast test m i n → least_pair test m ≡ Some (path_entry i n)
   unfolding least_pair
   least_at i n q =
-      let a : first (λ k. any_below (test k) m) 9 ≡ At n =
+      let a : first (λ k. any_below (test k) m) 9 ≡ Some n =
       first_is_at (λ k. any_below (test k) m) 9 n q.number (any_yes (test n) m i q.below q.matched)
       (λ k h. any_no (test k) m (λ j l. q.least k j h l)) in
-      let b : first (test n) m ≡ At i = first_is_at (test n) m i q.below q.matched q.first in
+      let b : first (test n) m ≡ Some i = first_is_at (test n) m i q.below q.matched q.first in
       ap (pair_by test m) a ∙ ap (entry_by n) b
 
-  pub least_none : NoneMatches test m → least_pair test m ≡ path_answer.NoPath
+  pub least_none : NoneMatches test m → least_pair test m ≡ None
   unfolding least_pair
   least_none f = ap (pair_by test m) (first_is_nothing (λ k. any_below (test k) m) 9 (λ k h. any_no (test k) m (λ j l. f k j h l)))
 
   -- and back
-  pub least_is : (i n : ℕ) → least_pair test m ≡ path_answer.Entry i n → IsLeast test m i n
+  pub least_is : (i n : ℕ) → least_pair test m ≡ Some (path_entry i n) → IsLeast test m i n
   unfolding least_pair
   least_is i n e = go (first (λ k. any_below (test k) m) 9) refl e
     where
-      entry : (k : ℕ) (f : Found) → first (test k) m ≡ f → entry_by k f ≡ path_answer.Entry i n → (k ≡ n) × (first (test k) m ≡ At i)
-      entry k (At j) q h = (cc, cc)
-      entry k Nothing q h = never cc
+      entry : (k : ℕ) (f : Option ℕ) → first (test k) m ≡ f → entry_by k f ≡ Some (path_entry i n) → (k ≡ n) × (first (test k) m ≡ Some i)
+      entry k (Some j) q h = (cc, cc)
+      entry k None q h = never cc
 
-      go : (f : Found) → first (λ k. any_below (test k) m) 9 ≡ f → pair_by test m f ≡ path_answer.Entry i n → IsLeast test m i n
-      go (At k) q h =
+      go : (f : Option ℕ) → first (λ k. any_below (test k) m) 9 ≡ f → pair_by test m f ≡ Some (path_entry i n) → IsLeast test m i n
+      go (Some k) q h =
           let a = entry k (first (test k) m) refl h in
           let b = first_at (λ k. any_below (test k) m) 9 0 k q in
           let c = first_at (test k) m 0 i a.1 in
@@ -67,22 +66,22 @@ module _ (test : ℕ → ℕ → Bool) (m : ℕ) where
             least = λ x j l d. any_false (test x) m (b.3 x (omega arith) l) j d;
             first = λ j l. c.3 j (omega arith) l;
           })
-      go Nothing q h = never cc
+      go None q h = never cc
 
-  pub least_not : least_pair test m ≡ path_answer.NoPath → NoneMatches test m
+  pub least_not : least_pair test m ≡ None → NoneMatches test m
   unfolding least_pair
   least_not e = go (first (λ k. any_below (test k) m) 9) refl e
     where
-      entry : (k : ℕ) (f : Found) → first (test k) m ≡ f → entry_by k f ≡ path_answer.NoPath → first (test k) m ≡ Nothing
-      entry k (At j) q h = never cc
-      entry k Nothing q h = q
+      entry : (k : ℕ) (f : Option ℕ) → first (test k) m ≡ f → entry_by k f ≡ None → first (test k) m ≡ None
+      entry k (Some j) q h = never cc
+      entry k None q h = q
 
-      go : (f : Found) → first (λ k. any_below (test k) m) 9 ≡ f → pair_by test m f ≡ path_answer.NoPath → NoneMatches test m
-      go (At k) q h =
+      go : (f : Option ℕ) → first (λ k. any_below (test k) m) 9 ≡ f → pair_by test m f ≡ None → NoneMatches test m
+      go (Some k) q h =
           let a = entry k (first (test k) m) refl h in
           let t = any_true (test k) m (first_at (λ k. any_below (test k) m) 9 0 k q).2 in
           never (cc (t.2, first_nothing (test k) m a t.0 t.1))
-      go Nothing q h = λ n i l b. any_false (test n) m (first_nothing (λ k. any_below (test k) m) 9 q n l) i b
+      go None q h = λ n i l b. any_false (test n) m (first_nothing (λ k. any_below (test k) m) 9 q n l) i b
 
 -- tests that agree below w, and past w one of them fails
 pub least_same : (t u : ℕ → ℕ → Bool) (m w : ℕ) → w ≤ m → ((n i : ℕ) → n < 9 → i < w → t n i ≡ u n i)
@@ -92,8 +91,8 @@ least_same t u m w l same past = go (least_pair u w) refl
     fails : (n i : ℕ) → n < 9 → i < m → (i < w → u n i ≡ false) → t n i ≡ false
     fails n i h b f = by_test (ltb i w) (λ c. let l = ltb-true i w c in same n i h l ∙ f l) (λ c. past n i h (ltb-false i w c) b)
 
-    go : (x : PathAnswer) → least_pair u w ≡ x → least_pair t m ≡ least_pair u w
-    go (path_answer.Entry i n) e =
+    go : (x : Option PathEntry) → least_pair u w ≡ x → least_pair t m ≡ least_pair u w
+    go (Some (path_entry i n)) e =
         let q = least_is u w i n e in
         least_at t m i n
         (record {
@@ -104,7 +103,7 @@ least_same t u m w l same past = go (least_pair u w) refl
           first = λ j a. same n j q.number (omega (arith, q.below)) ∙ q.first j a;
         })
         ∙ sym e
-    go path_answer.NoPath e = least_none t m (λ n i h b. fails n i h b (λ c. least_not u w e n i h c)) ∙ sym e
+    go None e = least_none t m (λ n i h b. fails n i h b (λ c. least_not u w e n i h c)) ∙ sym e
 
 pub pairs-same : (t u : ℕ → ℕ → Bool) (m w n : ℕ) → w ≤ m → ((k i : ℕ) → k < n → i < w → t k i ≡ u k i)
     → ((k i : ℕ) → k < n → w ≤ i → i < m → t k i ≡ false) → pairs_below t m n ≡ pairs_below u w n
@@ -144,7 +143,7 @@ lowest-same num i least index n q e l =
 abbrev numbered : (ℕ → ℕ) → ℕ → ℕ → Bool
 numbered num n i = eqb (num i) n
 
-pub lowest_at : (num : ℕ → ℕ) (m least index : ℕ) → Lowest num m least index → least < 9 → path_answer.Entry index least ≡ least_pair (numbered num) m
+pub lowest_at : (num : ℕ → ℕ) (m least index : ℕ) → Lowest num m least index → least < 9 → Some (path_entry index least) ≡ least_pair (numbered num) m
 lowest_at num m least index q l =
     let a = q.here l in
     sym
@@ -157,7 +156,7 @@ lowest_at num m least index q l =
       first = λ j b. ne_eqb (num j) least (λ z. omega (arith, a.2 j b));
     }))
 
-pub lowest-none : (num : ℕ → ℕ) (m least index : ℕ) → Lowest num m least index → 9 ≤ least → path_answer.NoPath ≡ least_pair (numbered num) m
+pub lowest-none : (num : ℕ → ℕ) (m least index : ℕ) → Lowest num m least index → 9 ≤ least → None ≡ least_pair (numbered num) m
 lowest-none num m least index q l =
     sym (least_none (numbered num) m (λ n i h b. ne_eqb (num i) n (λ z. omega (arith, q.none_less i b))))
 
@@ -180,7 +179,7 @@ module _ (q : Sought) (path : List ℕ) (l : Layout) (metrics strings : List ℕ
       (λ k h. ⊎_elim (λ (y : k ≡ i). rw y (ne_eqb _ 0 (λ x. z (e ∙ x)))) (λ y. any_false at-zero i w k y) (eq-or-lt_of_le (omega arith)))
 
   pub search_zero : {i n : ℕ} → n ≡ number_in q path l metrics strings i → n ≡ 0 → any_below at-zero i ≡ false → i < entries_in l metrics
-      → path_answer.Entry i 0 ≡ searched q path l metrics strings
+      → Some (path_entry i 0) ≡ searched q path l metrics strings
   search_zero {i} e z w b =
       sym
       (least_at (numbered_in q path l metrics strings) (entries_in l metrics) i 0

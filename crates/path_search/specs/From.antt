@@ -6,8 +6,8 @@ use Rattle.head.specs.Checks.{open_plan}
 use Rattle.head.specs.declared.checks.Opening.{Opening}
 use Rattle.query.specs.Queries.{asked, bytes_at, entry_shown, name_place, volume_shown, volume_facts}
 use Rattle.path_search.specs.Search.{hashed_numbers, matches, least_pair}
-use Rattle.path_search.specs.declared.PathAnswer.{PathAnswer}
-use Rattle.path_search.specs.declared.PathAnswer.TheVariants as path_answer
+use Rattle.std.specs.Prelude.{None, Option}
+use Rattle.path_search.specs.declared.PathEntry.{PathEntry}
 
 -- the same bytes
 unfoldable pub same : List ℕ → List ℕ → Bool
@@ -43,5 +43,5 @@ matches_from o p v start n i =
     takes_part o p v i && matches o.version (hashed_numbers (from_start start (path_of o p v) (name_of o p i))) (stored_hash p) n
 
 -- the least number for which any such path matches, and then the first such entry, or none; and none on bytes that don't pass checks 1 to 6
-abbrev pub path_found_from : List ℕ → ℕ → List ℕ → PathAnswer
-path_found_from p v start = asked (run open_plan p) path_answer.NoPath (λ o. least_pair (matches_from o p v start) o.head.metrics.count)
+abbrev pub path_found_from : List ℕ → ℕ → List ℕ → Option PathEntry
+path_found_from p v start = asked (run open_plan p) None (λ o. least_pair (matches_from o p v start) o.head.metrics.count)

@@ -12,8 +12,9 @@ use Rattle.head.specs.declared.checks.Opening.{Opening}
 use Rattle.query.specs.Queries.{bytes_at, name_sound, name_in}
 use Rattle.path_search.specs.Search.{number_count, least_pair}
 use Rattle.path_search.specs.From.{begins_with}
-use Rattle.path_search.specs.declared.PathAnswer.{PathAnswer}
 use Rattle.path_search.specs.declared.Sought.{Sought}
+use Rattle.std.specs.Prelude.{Option}
+use Rattle.path_search.specs.declared.PathEntry.{PathEntry}
 
 -- ---- the hash of a version is plain from its start, and then its end step
 abbrev pub hash_start : Version → ℕ
@@ -60,14 +61,14 @@ entries_in l metrics = length metrics / metrics_entry l
 abbrev pub numbered_in : Sought → List ℕ → Layout → List ℕ → List ℕ → ℕ → ℕ → Bool
 numbered_in s path l metrics strings n i = (number_in s path l metrics strings i) == n
 
-abbrev pub searched : Sought → List ℕ → Layout → List ℕ → List ℕ → PathAnswer
+abbrev pub searched : Sought → List ℕ → Layout → List ℕ → List ℕ → Option PathEntry
 searched s path l metrics strings = least_pair (numbered_in s path l metrics strings) (entries_in l metrics)
 
 -- on a file
 abbrev pub sought_on : Opening → List ℕ → ℕ → Sought
 sought_on o p from = record { version = o.version; from = from; stored = stored_hash p }
 
-abbrev pub searched_on : Opening → List ℕ → List ℕ → ℕ → PathAnswer
+abbrev pub searched_on : Opening → List ℕ → List ℕ → ℕ → Option PathEntry
 searched_on o p path from = searched (sought_on o p from) path o.layout (part o.head.metrics p) (part o.head.strings p)
 
 -- ---- where each pair goes, over any test of a number and an entry, and m entries

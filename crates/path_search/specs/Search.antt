@@ -5,8 +5,6 @@ use Rattle.lists.specs.Count.{any_below}
 use Rattle.lists.specs.First.{first}
 use Rattle.lists.specs.Pairs.{PairsListed}
 use Rattle.lists.specs.Those.{those}
-use Rattle.lists.specs.declared.Found.{Found}
-use Rattle.lists.specs.declared.Found.TheVariants.{At, Nothing}
 use Rattle.layout.specs.declared.Version.{Version}
 use Rattle.layout.specs.declared.Version.TheVariants.{V17, V23, V26, V30}
 use Rattle.sections.specs.Fields.{stored_hash}
@@ -15,8 +13,9 @@ use Rattle.path_hash.specs.Hash.{xp, vista, hash2008}
 use Rattle.head.specs.Checks.{open_plan}
 use Rattle.head.specs.declared.checks.Opening.{Opening}
 use Rattle.query.specs.Queries.{asked, bytes_at, entry_shown, name_place}
-use Rattle.path_search.specs.declared.PathAnswer.{PathAnswer}
-use Rattle.path_search.specs.declared.PathAnswer.TheVariants as path_answer
+use Rattle.std.specs.Prelude.{None, Option, Some}
+use Rattle.path_search.specs.declared.PathEntry.{PathEntry}
+use Rattle.path_search.specs.Search.{path_entry}
 
 -- the numbers that a name gives to the hash (request 102): its bytes, low byte first, two for each unit, each from 0 to 255. The bytes
 -- are those of the file as they stand.
@@ -49,16 +48,16 @@ matches_by o p n i = entry_shown o p i && matches o.version (entry_numbers o p i
 -- ---- over any test of a number and an entry, and m entries
 
 -- the entry of a pair is the first that matches by that number
-abbrev pub entry_by : ℕ → Found → PathAnswer
-entry_by n (At i) = path_answer.Entry i n
-entry_by n Nothing = path_answer.NoPath
+abbrev pub entry_by : ℕ → Option ℕ → Option PathEntry
+entry_by n (Some i) = Some (path_entry i n)
+entry_by n None = None
 
-abbrev pub pair_by : (ℕ → ℕ → Bool) → ℕ → Found → PathAnswer
-pair_by test m (At n) = entry_by n (first (test n) m)
-pair_by test m Nothing = path_answer.NoPath
+abbrev pub pair_by : (ℕ → ℕ → Bool) → ℕ → Option ℕ → Option PathEntry
+pair_by test m (Some n) = entry_by n (first (test n) m)
+pair_by test m None = None
 
 -- THE ANSWER: the least number for which any entry matches, and then the first entry, or none
-unfoldable pub least_pair : (ℕ → ℕ → Bool) → ℕ → PathAnswer
+unfoldable pub least_pair : (ℕ → ℕ → Bool) → ℕ → Option PathEntry
 least_pair test m = pair_by test m (first (λ n. any_below (test n) m) number_count)
 
 -- ALL PAIRS that match, ordered by number and then by entry: two numbers each, the entry and its number
@@ -74,8 +73,8 @@ abbrev pub all_pairs : (ℕ → ℕ → Bool) → ℕ → List ℕ
 all_pairs test m = pairs_below test m number_count
 
 -- ---- on a file: none on bytes that don't pass checks 1 to 6
-abbrev pub path_found : List ℕ → PathAnswer
-path_found p = asked (run open_plan p) path_answer.NoPath (λ o. least_pair (matches_by o p) o.head.metrics.count)
+abbrev pub path_found : List ℕ → Option PathEntry
+path_found p = asked (run open_plan p) None (λ o. least_pair (matches_by o p) o.head.metrics.count)
 
 abbrev pub path_pairs : List ℕ → List ℕ
 path_pairs p = asked (run open_plan p) [] (λ o. all_pairs (matches_by o p) o.head.metrics.count)
@@ -85,9 +84,9 @@ abbrev pub ListsPaths : List ℕ → List ℕ → ℕ → List ℕ → Type 0
 ListsPaths p before r after = PairsListed (path_pairs p) before r after
 
 -- what each case says: 1 for an entry, with its index and number, or 0 for none, with zeros
-abbrev pub path_said : PathAnswer → Said
-path_said (path_answer.Entry i n) = record { number = 1; values = i ∷ n ∷ [] }
-path_said path_answer.NoPath = record { number = 0; values = 0 ∷ 0 ∷ [] }
+abbrev pub path_said : Option PathEntry → Said
+path_said (Some (path_entry i n)) = record { number = 1; values = i ∷ n ∷ [] }
+path_said None = record { number = 0; values = 0 ∷ 0 ∷ [] }
 
 -- ---- WHAT A FOUND PATH IS
 

@@ -21,23 +21,21 @@ use Rattle.names.proofs.Laws.{sound_name}
 use Rattle.query.specs.Queries.{entry_shown, name_sound, name_in}
 use Rattle.query.specs.Private.{entry_in, name_shown, entry_reference_in}
 use Rattle.query.specs.declared.Place.{Place}
-use Rattle.query.specs.declared.PlaceAnswer.{PlaceAnswer}
-use Rattle.query.specs.declared.PlaceAnswer.TheVariants as place_answer
 use Rattle.query.specs.Shown.{EntryShown, NamePlaced}
 use Rattle.lists.proofs.Tests.{by_test, never}
 use Rattle.query.proofs.Parts.{part_there_to, section_end, part_unit}
 use Rattle.query.specs.Contents.{file_reference_of}
 use Rattle.query.specs.declared.EntryReference.{EntryReference}
-use Rattle.query.specs.declared.EntryReferenceAnswer.TheVariants as entry_reference_answer
+use Rattle.std.specs.Prelude.{None, Option, Some}
 
 -- ---- one name
 module _ (v : Layout) (metrics strings : List ℕ) (i : ℕ) {at units : ℕ} {r : Bool} (a : at ≡ name_at v metrics i) (u : units ≡ name_units v metrics i)
     (e : r ≡ sound strings at units) where
-  pub name_not_sound : r ≡ false → place_answer.NotShown ≡ name_shown v metrics strings i
+  pub name_not_sound : r ≡ false → None ≡ name_shown v metrics strings i
   unfolding name_sound
   name_not_sound q = rw (← a, ← u, ← e, q)
 
-  pub name_is_sound : r ≡ true → place_answer.Shown (record { at = at; len = 2 * units }) ≡ name_shown v metrics strings i
+  pub name_is_sound : r ≡ true → Some (record { at = at; len = 2 * units }) ≡ name_shown v metrics strings i
   unfolding name_sound
   name_is_sound q = rw (← a, ← u, ← e, q)
 
@@ -48,11 +46,11 @@ pub record NameShown (v : Layout) (metrics strings : List ℕ) (i : ℕ) (w : Pl
   pub sound : name_sound v metrics strings i ≡ true
   pub place : w ≡ name_in v metrics i
 
-pub name_shown_lem : (v : Layout) (metrics strings : List ℕ) (i : ℕ) {r : PlaceAnswer} (w : Place) → r ≡ name_shown v metrics strings i
-    → r ≡ place_answer.Shown w → NameShown v metrics strings i w
+pub name_shown_lem : (v : Layout) (metrics strings : List ℕ) (i : ℕ) {r : Option Place} (w : Place) → r ≡ name_shown v metrics strings i
+    → r ≡ Some w → NameShown v metrics strings i w
 name_shown_lem v metrics strings i w e q = by_test (name_sound v metrics strings i) (λ s. record { sound = s; place = cc }) (λ s. never (cc))
 
-pub name_hidden : (v : Layout) (metrics strings : List ℕ) (i : ℕ) {r : PlaceAnswer} → r ≡ name_shown v metrics strings i → r ≡ place_answer.NotShown
+pub name_hidden : (v : Layout) (metrics strings : List ℕ) (i : ℕ) {r : Option Place} → r ≡ name_shown v metrics strings i → r ≡ None
     → name_sound v metrics strings i ≡ false
 name_hidden v metrics strings i e q = by_test (name_sound v metrics strings i) (λ s. never (cc)) (λ s. s)
 
@@ -62,31 +60,31 @@ pub name_inside : (v : Layout) (metrics strings : List ℕ) (i : ℕ) → name_s
 unfolding name_sound
 name_inside v metrics strings i s = ((sound_name strings (name_at v metrics i) (name_units v metrics i)).0 s).inside
 
-pub name_end : (v : Layout) (metrics strings : List ℕ) (i : ℕ) {r : PlaceAnswer} (w : Place) → r ≡ name_shown v metrics strings i
-    → r ≡ place_answer.Shown w → w.at + w.len + 2 ≤ length strings
+pub name_end : (v : Layout) (metrics strings : List ℕ) (i : ℕ) {r : Option Place} (w : Place) → r ≡ name_shown v metrics strings i
+    → r ≡ Some w → w.at + w.len + 2 ≤ length strings
 name_end v metrics strings i w e q =
     let n = name_shown_lem v metrics strings i w e q in
     rw n.place (name_inside v metrics strings i n.sound)
 
 -- ---- metrics entry i, by the tests in their order
 module _ (o : Opening) (p : List ℕ) (i : ℕ) where
-  pub entry_past : o.head.metrics.count ≤ i → place_answer.NotShown ≡ entry_in o p i
+  pub entry_past : o.head.metrics.count ≤ i → None ≡ entry_in o p i
   unfolding entry_shown
   entry_past h = rw (le-ltb _ _ h)
 
   pub entry_cut : {metrics : List ℕ} → metrics ≡ part o.head.metrics p → i < o.head.metrics.count
-      → length metrics < (i + 1) * metrics_entry o.layout → place_answer.NotShown ≡ entry_in o p i
+      → length metrics < (i + 1) * metrics_entry o.layout → None ≡ entry_in o p i
   unfolding entry_shown
   entry_cut em h c = rw (← em, lt-ltb _ _ h, lt-leb _ _ c)
 
-  module _ {metrics strings : List ℕ} {r : PlaceAnswer} (em : metrics ≡ part o.head.metrics p) (es : strings ≡ part o.head.strings p)
+  module _ {metrics strings : List ℕ} {r : Option Place} (em : metrics ≡ part o.head.metrics p) (es : strings ≡ part o.head.strings p)
       (h : i < o.head.metrics.count) (c : (i + 1) * metrics_entry o.layout ≤ length metrics) (e : r ≡ name_shown o.layout metrics strings i) where
-    pub entry_hidden : r ≡ place_answer.NotShown → place_answer.NotShown ≡ entry_in o p i
+    pub entry_hidden : r ≡ None → None ≡ entry_in o p i
     unfolding entry_shown name_sound
     entry_hidden q = rw (← em, ← es, lt-ltb _ _ h, le-leb _ _ c, name_hidden o.layout metrics strings i e q)
 
-    pub entry_given : {w : Place} → r ≡ place_answer.Shown w
-        → place_answer.Shown (record { at = o.head.strings.at + w.at; len = w.len }) ≡ entry_in o p i
+    pub entry_given : {w : Place} → r ≡ Some w
+        → Some (record { at = o.head.strings.at + w.at; len = w.len }) ≡ entry_in o p i
     unfolding entry_shown name_sound
     entry_given {w} q =
         let n = name_shown_lem o.layout metrics strings i w e q in
@@ -130,8 +128,8 @@ name_placed o p i f e =
     }
 
 -- for the code: no sum wraps
-pub name_low : (o : Opening) (p metrics : List ℕ) (i : ℕ) {strings : List ℕ} {r : PlaceAnswer} {w : Place} → OpenFacts p o
-    → strings ≡ part o.head.strings p → r ≡ name_shown o.layout metrics strings i → r ≡ place_answer.Shown w
+pub name_low : (o : Opening) (p metrics : List ℕ) (i : ℕ) {strings : List ℕ} {r : Option Place} {w : Place} → OpenFacts p o
+    → strings ≡ part o.head.strings p → r ≡ name_shown o.layout metrics strings i → r ≡ Some w
     → o.head.strings.at + w.at ≤ size_limit
 name_low o p metrics i {strings} {w = w} f es e q =
     let s = o.head.strings in
@@ -141,23 +139,23 @@ name_low o p metrics i {strings} {w = w} f es e q =
     omega (arith, r.0, f.strings, f.start.most)
 
 -- the entry is shown exactly where its name is
-entry_is : (o : Opening) (p : List ℕ) (i : ℕ) {a : PlaceAnswer} (w : Place) → a ≡ entry_in o p i → a ≡ place_answer.Shown w → entry_shown o p i ≡ true
+entry_is : (o : Opening) (p : List ℕ) (i : ℕ) {a : Option Place} (w : Place) → a ≡ entry_in o p i → a ≡ Some w → entry_shown o p i ≡ true
 entry_is o p i w e q = by_test (entry_shown o p i) (λ s. s) (λ s. never (cc))
 
-entry-not : (o : Opening) (p : List ℕ) (i : ℕ) {a : PlaceAnswer} → a ≡ entry_in o p i → a ≡ place_answer.NotShown → entry_shown o p i ≡ false
+entry-not : (o : Opening) (p : List ℕ) (i : ℕ) {a : Option Place} → a ≡ entry_in o p i → a ≡ None → entry_shown o p i ≡ false
 entry-not o p i e q = by_test (entry_shown o p i) (λ s. never (cc)) (λ s. s)
 
-pub entry_below : (o : Opening) (p : List ℕ) (i : ℕ) {a : PlaceAnswer} (w : Place) → OpenFacts p o → a ≡ entry_in o p i → a ≡ place_answer.Shown w
+pub entry_below : (o : Opening) (p : List ℕ) (i : ℕ) {a : Option Place} (w : Place) → OpenFacts p o → a ≡ entry_in o p i → a ≡ Some w
     → i < o.head.metrics.count
 entry_below o p i w f e q = ((entry_shown_law o p i (open_sound p o f)).0 (entry_is o p i w e q)).below
 
-pub entry_reference_hidden : (o : Opening) (p : List ℕ) (i : ℕ) {a : PlaceAnswer} → a ≡ entry_in o p i → a ≡ place_answer.NotShown
-    → entry_reference_answer.NotShown ≡ entry_reference_in o p i
+pub entry_reference_hidden : (o : Opening) (p : List ℕ) (i : ℕ) {a : Option Place} → a ≡ entry_in o p i → a ≡ None
+    → None ≡ entry_reference_in o p i
 entry_reference_hidden o p i e q = rw (entry-not o p i e q)
 
-pub entry_reference_given : (o : Opening) (p : List ℕ) (i : ℕ) {a : PlaceAnswer} {w : Place} {b : List ℕ} {x : EntryReference} → a ≡ entry_in o p i
-    → a ≡ place_answer.Shown w → b ≡ part o.head.metrics p → x ≡ file_reference_of o.layout b i
-    → entry_reference_answer.Shown x ≡ entry_reference_in o p i
+pub entry_reference_given : (o : Opening) (p : List ℕ) (i : ℕ) {a : Option Place} {w : Place} {b : List ℕ} {x : EntryReference} → a ≡ entry_in o p i
+    → a ≡ Some w → b ≡ part o.head.metrics p → x ≡ file_reference_of o.layout b i
+    → Some x ≡ entry_reference_in o p i
 entry_reference_given o p i {w = w} e q eb ex = rw (entry_is o p i w e q, ex, eb)
 
 -- ---- the file reference of a metrics entry

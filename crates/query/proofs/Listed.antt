@@ -11,7 +11,6 @@ use Rattle.lists.proofs.Pairs.{none_listed}
 use Rattle.little_endian.specs.Number.{le}
 use Rattle.sections.specs.Fields.{part}
 use Rattle.head.specs.declared.checks.Opening.{Opening}
-use Rattle.volumes.specs.declared.Step.{Step}
 use Rattle.volumes.specs.declared.Volume.{Volume}
 use Rattle.volumes.specs.Volumes.{entry_at, directories_at, reference_of, volume_of, step_at}
 use Rattle.volumes.specs.SoundVolume.{SoundDirectory, directory_at}
@@ -19,9 +18,12 @@ use Rattle.volumes.proofs.SoundVolume.{is_step}
 use Rattle.query.specs.Contents.{list_step, directory_pairs, reference_pairs}
 use Rattle.query.specs.Private.{section_shown, directories_shown, references_shown}
 use Rattle.query.proofs.Volumes.{section_met, hidden, shown}
+use Rattle.volumes.specs.declared.Cursor.{Cursor}
+use Rattle.std.specs.Prelude.{Result}
+use Rattle.volumes.specs.declared.StepFault.{StepFault}
 
 -- ---- directories
-pub directories_step : (s : List ℕ) (base n k at : ℕ) (x : Step) → k < n → step_at s at ≡ x
+pub directories_step : (s : List ℕ) (base n k at : ℕ) (x : Result Cursor StepFault) → k < n → step_at s at ≡ x
     → directory_pairs s base (n - k) at ≡ list_step s base at x (λ next. directory_pairs s base (n - (k + 1)) next)
 unfolding directory_pairs
 directories_step s base n k at x l e =

@@ -13,20 +13,14 @@ use denote.Ref.{Bor}
 use Rattle.lists.specs.Part.{IsPart}
 use Rattle.lists.specs.First.{first}
 use Rattle.lists.proofs.First.{first_at}
-use Rattle.lists.specs.declared.Found.{Found}
-use Rattle.lists.specs.declared.Found.TheVariants.{At, Nothing}
 use Rattle.little_endian.specs.Number.{zero_unit}
 use Rattle.layout.specs.Versions.{volume_entry, size_limit}
 use Rattle.layout.specs.Sound.{SoundLayout}
 use Rattle.layout.specs.declared.Layout.{Layout}
 use Rattle.incremental.specs.Decision.{Decision, accept, refuse, checked_of}
 use Rattle.incremental.specs.declared.Refusal.{Refusal}
-use Rattle.incremental.specs.declared.Checked.{Checked}
-use Rattle.incremental.specs.declared.Checked.TheVariants as checked
 use Rattle.sections.specs.Fields.{part, entries_fault}
 use Rattle.sections.proofs.Cases.{entries_met, entries_fit}
-use Rattle.incremental.specs.declared.Fault.{Fault}
-use Rattle.incremental.specs.declared.Fault.TheVariants as fault
 use Rattle.head.specs.Opened.{OpenFacts}
 use Rattle.head.proofs.Facts.{open_sound, open_shapes}
 use Rattle.sections.specs.declared.Section.{Section}
@@ -38,34 +32,35 @@ use Rattle.volumes.specs.declared.Volume.{Volume}
 use Rattle.volumes.specs.declared.Reference.{Reference}
 use Rattle.query.specs.Queries.{ShownAt, clear, accepts, volume_shown, volume_facts, path_place, reference_shown}
 use Rattle.query.specs.Private.{section_shown, volume_in, reference_in}
-use Rattle.query.specs.declared.VolumeAnswer.TheVariants as volume_answer
-use Rattle.query.specs.declared.ReferenceAnswer.TheVariants as reference_answer
 use Rattle.query.specs.Shown.{VolumeShown}
 use Rattle.lists.proofs.Tests.{by_test, never}
 use Rattle.query.proofs.Parts.{part_there, part_there_to, section_end, part_within}
 use Rattle.query.proofs.Entries.{both}
+use Rattle.std.specs.Prelude.{Err, None, Ok, Option, Result, Some}
+use Rattle.incremental.specs.declared.Fault.{Fault}
+use Rattle.incremental.specs.Decision.{fault}
 
 -- ---- volume i, by the tests in their order
-module _ (s : Section) (v : Layout) (b : List ℕ) (i : ℕ) {y : Fault} (e : y ≡ entries_fault s.count (volume_entry v) s.len) where
-  pub section_crowded : {k at : ℕ} → y ≡ fault.At k at → false ≡ section_shown s v b i
+module _ (s : Section) (v : Layout) (b : List ℕ) (i : ℕ) {y : Option Fault} (e : y ≡ entries_fault s.count (volume_entry v) s.len) where
+  pub section_crowded : {k at : ℕ} → y ≡ Some (fault k at) → false ≡ section_shown s v b i
   unfolding section_shown
   section_crowded h = rw (← e, h)
 
-  pub section_past : y ≡ fault.Nowhere → s.count ≤ i → false ≡ section_shown s v b i
+  pub section_past : y ≡ None → s.count ≤ i → false ≡ section_shown s v b i
   unfolding section_shown
   section_past h n = rw (← e, h, le-ltb _ _ n)
 
-  module _ (h : y ≡ fault.Nowhere) (n : i < s.count) where
+  module _ (h : y ≡ None) (n : i < s.count) where
     pub section_cut : length b < s.len → false ≡ section_shown s v b i
     unfolding section_shown
     section_cut c = rw (← e, h, lt-ltb _ _ n, lt-leb _ _ c)
 
-    module _ {r : Checked} (c : s.len ≤ length b) (a : checked_of r ≡ volume_checks b v s.at i) where
-      pub section_refused : {x : Refusal} → r ≡ checked.Refused x → false ≡ section_shown s v b i
+    module _ {r : Result Unit Refusal} (c : s.len ≤ length b) (a : checked_of r ≡ volume_checks b v s.at i) where
+      pub section_refused : {x : Refusal} → r ≡ Err x → false ≡ section_shown s v b i
       unfolding section_shown
       section_refused q = rw (← e, h, lt-ltb _ _ n, le-leb _ _ c, ← a, q)
 
-      pub section_passed : r ≡ checked.Passed → true ≡ section_shown s v b i
+      pub section_passed : r ≡ Ok tt → true ≡ section_shown s v b i
       unfolding section_shown
       section_passed q = rw (← e, h, lt-ltb _ _ n, le-leb _ _ c, ← a, q)
 
@@ -78,9 +73,9 @@ pub record SectionShown (s : Section) (v : Layout) (b : List ℕ) (i : ℕ) : Ty
   pub whole : s.len ≤ length b
   pub sound : SoundVolume b (entry_at v i)
 
-clear-true : (f : Fault) → clear f ≡ true → f ≡ fault.Nowhere
-clear-true (fault.At i at) e = never cc
-clear-true fault.Nowhere e = refl
+clear-true : (f : Option Fault) → clear f ≡ true → f ≡ None
+clear-true (Some (fault i at)) e = never cc
+clear-true None e = refl
 
 accepted : (d : Decision Unit) → accepts d ≡ true → d ≡ accept tt
 accepted (accept t) e = refl
@@ -118,11 +113,11 @@ module _ (o : Opening) (p : List ℕ) (i : ℕ) {b : List ℕ} {r : Bool} (eb : 
   unfolding volume_shown section_shown
   shown q = rw (← eb) (sym e ∙ q)
 
-  pub volume_hidden : r ≡ false → volume_answer.NotShown ≡ volume_in o p i
+  pub volume_hidden : r ≡ false → None ≡ volume_in o p i
   volume_hidden q = rw (hidden q)
 
   pub volume_given : {v : Volume} → r ≡ true → v ≡ volume_of b (entry_at o.layout i)
-      → volume_answer.Shown (record {
+      → Some (record {
         created = v.created;
         serial = v.serial;
         references = v.references;
@@ -132,16 +127,16 @@ module _ (o : Opening) (p : List ℕ) (i : ℕ) {b : List ℕ} {r : Bool} (eb : 
   unfolding volume_facts
   volume_given q ev = rw (shown q, ev, eb)
 
-  pub reference_hidden : (k : ℕ) → r ≡ false → reference_answer.NotShown ≡ reference_in o p i k
+  pub reference_hidden : (k : ℕ) → r ≡ false → None ≡ reference_in o p i k
   unfolding reference_shown
   reference_hidden k q = rw (hidden q)
 
   module _ (k : ℕ) {v : Volume} (q : r ≡ true) (ev : v ≡ volume_of b (entry_at o.layout i)) where
-    pub reference_past : v.references ≤ k → reference_answer.NotShown ≡ reference_in o p i k
+    pub reference_past : v.references ≤ k → None ≡ reference_in o p i k
     unfolding reference_shown
     reference_past h = rw (shown q, ← eb, ← ev, le-ltb _ _ h)
 
-    pub reference_given : {x : Reference} → k < v.references → x ≡ reference_of b (entry_at o.layout i) k → reference_answer.Shown x ≡ reference_in o p i k
+    pub reference_given : {x : Reference} → k < v.references → x ≡ reference_of b (entry_at o.layout i) k → Some x ≡ reference_in o p i k
     unfolding reference_shown
     reference_given h ex = rw (ex, shown q, ← eb, ← ev, lt-ltb _ _ h)
 
@@ -153,9 +148,9 @@ units-most : (s : List ℕ) (e : ℕ) → path_units s e ≤ path_count s e
 unfolding path_units
 units-most s e = go (first _ (path_count s e)) refl
   where
-    go : (f : Found) → first (λ k. zero_unit s (path_at s e + 2 * k)) (path_count s e) ≡ f → or_all f (path_count s e) ≤ path_count s e
-    go (At k) q = omega (arith, (first_at _ _ 0 k q).1)
-    go Nothing q = omega arith
+    go : (f : Option ℕ) → first (λ k. zero_unit s (path_at s e + 2 * k)) (path_count s e) ≡ f → or_all f (path_count s e) ≤ path_count s e
+    go (Some k) q = omega (arith, (first_at _ _ 0 k q).1)
+    go None q = omega arith
 
 pub path_inside : (s : List ℕ) (e : ℕ) → SoundVolume s e → (volume_of s e).path + 2 * (volume_of s e).units ≤ length s
 unfolding volume_of

@@ -11,21 +11,21 @@ use Rattle.sections.specs.Fields.{part}
 use Rattle.head.specs.Checks.{open_plan}
 use Rattle.head.specs.declared.checks.Opening.{Opening}
 use Rattle.volumes.specs.Volumes.{entry_at, directories_at, directory_count, reference_count, reference_of, step_at}
-use Rattle.volumes.specs.declared.Step.{Step}
-use Rattle.volumes.specs.declared.Step.TheVariants.{Next, Past, Unended}
 use Rattle.query.specs.declared.EntryReference.{EntryReference}
-use Rattle.query.specs.declared.EntryReferenceAnswer.{EntryReferenceAnswer}
-use Rattle.query.specs.declared.EntryReferenceAnswer.TheVariants as entry_reference_answer
 use Rattle.query.specs.Queries.{asked, entry_shown, volume_shown}
+use Rattle.volumes.specs.declared.Cursor.{Cursor}
+use Rattle.std.specs.Prelude.{Err, None, Ok, Option, Result, Some}
+use Rattle.volumes.specs.declared.StepFault.TheVariants.{Past, Unended}
+use Rattle.volumes.specs.declared.StepFault.{StepFault}
 
 -- ---- A1: directories
 
 -- the string at a position of the section, which starts at `base` in the file, by the step over it: the file offset of its first unit, two
 -- bytes behind its length field's start, and the number of its units without the last zero; then those after it
-abbrev pub list_step : List ℕ → ℕ → ℕ → Step → (ℕ → List ℕ) → List ℕ
-list_step s base at (Next c) later = (base + at + 2) ∷ le 2 s at ∷ later c.at
-list_step s base at Past later = []
-list_step s base at Unended later = []
+abbrev pub list_step : List ℕ → ℕ → ℕ → Result Cursor StepFault → (ℕ → List ℕ) → List ℕ
+list_step s base at (Ok c) later = (base + at + 2) ∷ le 2 s at ∷ later c.at
+list_step s base at (Err Past) later = []
+list_step s base at (Err Unended) later = []
 
 -- n directory strings, one after another from a position
 unfoldable pub directory_pairs : List ℕ → ℕ → ℕ → ℕ → List ℕ
@@ -77,13 +77,13 @@ file_reference_of l metrics i =
     })
 
 -- for an entry that can be shown
-abbrev pub entry_reference_asked : List ℕ → ℕ → EntryReferenceAnswer
+abbrev pub entry_reference_asked : List ℕ → ℕ → Option EntryReference
 entry_reference_asked p i =
-    asked (run open_plan p) entry_reference_answer.NotShown
+    asked (run open_plan p) None
     (λ o.
-    pick (entry_shown o p i) (entry_reference_answer.Shown (file_reference_of o.layout (part o.head.metrics p) i)) entry_reference_answer.NotShown)
+    pick (entry_shown o p i) (Some (file_reference_of o.layout (part o.head.metrics p) i)) None)
 
 -- what each case says: 1 for yes and 0 for no, and the three numbers, zeros where the answer is no
-abbrev pub entry_reference_said : EntryReferenceAnswer → Said
-entry_reference_said (entry_reference_answer.Shown r) = record { number = 1; values = r.known ∷ r.index ∷ r.sequence ∷ [] }
-entry_reference_said entry_reference_answer.NotShown = record { number = 0; values = 0 ∷ 0 ∷ 0 ∷ [] }
+abbrev pub entry_reference_said : Option EntryReference → Said
+entry_reference_said (Some r) = record { number = 1; values = r.known ∷ r.index ∷ r.sequence ∷ [] }
+entry_reference_said None = record { number = 0; values = 0 ∷ 0 ∷ 0 ∷ [] }

@@ -10,9 +10,9 @@ use Rattle.head.specs.Checks.{open_plan}
 use Rattle.head.specs.declared.checks.Opening.{Opening}
 use Rattle.names.specs.Names.{fits, name_at, name_units}
 use Rattle.volumes.specs.Volumes.{entry_at, directory_count}
-use Rattle.query.specs.declared.costs.CostAnswer.{CostAnswer}
-use Rattle.query.specs.declared.costs.CostAnswer.TheVariants as cost_answer
 use Rattle.query.specs.Queries.{asked}
+use Rattle.query.specs.declared.costs.FileCost.{FileCost}
+use Rattle.std.specs.Prelude.{None, Option, Some}
 
 -- the entries of an array that lie whole in the bytes lent of its section, those below the count
 abbrev pub whole_entries : List ℕ → ℕ → ℕ → ℕ
@@ -37,11 +37,11 @@ directories_cost o p =
     sum_below (directory_cost o.layout volumes o.head.volumes.len) (whole_entries volumes (volume_entry o.layout) o.head.volumes.count)
 
 -- both, on bytes that pass checks 1 to 6
-abbrev pub cost_asked : List ℕ → CostAnswer
+abbrev pub cost_asked : List ℕ → Option FileCost
 cost_asked p =
-    asked (run open_plan p) cost_answer.Unknown (λ o. cost_answer.Known (record { names = names_cost o p; directories = directories_cost o p }))
+    asked (run open_plan p) None (λ o. Some (record { names = names_cost o p; directories = directories_cost o p }))
 
 -- what each case says: 1 for yes and 0 for no, and both numbers, zeros where the answer is no
-abbrev pub cost_said : CostAnswer → Said
-cost_said (cost_answer.Known c) = record { number = 1; values = c.names ∷ c.directories ∷ [] }
-cost_said cost_answer.Unknown = record { number = 0; values = 0 ∷ 0 ∷ [] }
+abbrev pub cost_said : Option FileCost → Said
+cost_said (Some c) = record { number = 1; values = c.names ∷ c.directories ∷ [] }
+cost_said None = record { number = 0; values = 0 ∷ 0 ∷ [] }

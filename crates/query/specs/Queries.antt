@@ -7,8 +7,6 @@ use Rattle.lists.specs.Count.{pick}
 use Rattle.layout.specs.Head.{program_name_at}
 use Rattle.layout.specs.Versions.{metrics_entry, volume_entry}
 use Rattle.layout.specs.declared.Layout.{Layout}
-use Rattle.incremental.specs.declared.Fault.{Fault}
-use Rattle.incremental.specs.declared.Fault.TheVariants.{At, Nowhere}
 use Rattle.incremental.specs.Decision.{Decision, accept, refuse}
 use Rattle.incremental.specs.Plan.{Answer, decided, wants, run}
 use Rattle.sections.specs.Fields.{part, link_count, entries_fault}
@@ -17,15 +15,11 @@ use Rattle.head.specs.declared.checks.Opening.{Opening}
 use Rattle.names.specs.Names.{sound, name_at, name_units}
 use Rattle.volumes.specs.Volumes.{volume_checks, volume_of, reference_of, entry_at}
 use Rattle.query.specs.declared.Place.{Place}
-use Rattle.query.specs.declared.PlaceAnswer.{PlaceAnswer}
-use Rattle.query.specs.declared.PlaceAnswer.TheVariants as place_answer
-use Rattle.query.specs.declared.PlacesAnswer.{PlacesAnswer}
-use Rattle.query.specs.declared.PlacesAnswer.TheVariants as places_answer
 use Rattle.query.specs.declared.VolumeFacts.{VolumeFacts}
-use Rattle.query.specs.declared.VolumeAnswer.{VolumeAnswer}
-use Rattle.query.specs.declared.VolumeAnswer.TheVariants as volume_answer
-use Rattle.query.specs.declared.ReferenceAnswer.{ReferenceAnswer}
-use Rattle.query.specs.declared.ReferenceAnswer.TheVariants as reference_answer
+use Rattle.incremental.specs.declared.Fault.{Fault}
+use Rattle.std.specs.Prelude.{None, Option, Some}
+use Rattle.volumes.specs.declared.Reference.{Reference}
+use Rattle.incremental.specs.Decision.{fault}
 
 -- what is asked of a file whose checks accept, and a no otherwise
 abbrev pub asked : {A B : Type 0} → Answer A → B → (A → B) → B
@@ -42,29 +36,29 @@ abbrev pub ShownAt : Bor (List ℕ) → Place → Bor (List ℕ) → Type 0
 ShownAt file w r = IsPart file w.at w.len r
 
 -- ---- the number of working places: checks 1 to 6 pass; a place for each trace entry that has a next index
-abbrev pub places_needed : List ℕ → PlacesAnswer
-places_needed p = asked (run open_plan p) places_answer.Unknown (λ o. places_answer.Needed (link_count o.layout o.head))
+abbrev pub places_needed : List ℕ → Option ℕ
+places_needed p = asked (run open_plan p) None (λ o. Some (link_count o.layout o.head))
 
 -- what each case says: 1 for yes and 0 for no; the number, zero where the answer is no
-abbrev pub places_said : PlacesAnswer → Said
-places_said (places_answer.Needed n) = record { number = 1; values = n ∷ [] }
-places_said places_answer.Unknown = record { number = 0; values = 0 ∷ [] }
+abbrev pub places_said : Option ℕ → Said
+places_said (Some n) = record { number = 1; values = n ∷ [] }
+places_said None = record { number = 0; values = 0 ∷ [] }
 
 -- ---- names
 
 -- the place where a name is shown; an empty part at the start where it is not
-abbrev pub place_of : PlaceAnswer → Place
-place_of (place_answer.Shown w) = w
-place_of place_answer.NotShown = record { at = 0; len = 0 }
+abbrev pub place_of : Option Place → Place
+place_of (Some w) = w
+place_of None = record { at = 0; len = 0 }
 
 -- what each case says: 1 for yes and 0 for no; offset and length in bytes, zeros where the answer is no
-abbrev pub place_said : PlaceAnswer → Said
-place_said (place_answer.Shown w) = record { number = 1; values = w.at ∷ w.len ∷ [] }
-place_said place_answer.NotShown = record { number = 0; values = 0 ∷ 0 ∷ [] }
+abbrev pub place_said : Option Place → Said
+place_said (Some w) = record { number = 1; values = w.at ∷ w.len ∷ [] }
+place_said None = record { number = 0; values = 0 ∷ 0 ∷ [] }
 
 -- ---- the program name: checks 1 to 4 pass; the units before its first zero, from byte 16
-abbrev pub program_place : List ℕ → PlaceAnswer
-program_place p = asked (run start_plan p) place_answer.NotShown (λ s. place_answer.Shown (record { at = program_name_at; len = 2 * s.name_units }))
+abbrev pub program_place : List ℕ → Option Place
+program_place p = asked (run start_plan p) None (λ s. Some (record { at = program_name_at; len = 2 * s.name_units }))
 
 -- ---- metrics entry i
 
@@ -87,15 +81,15 @@ name_place o p i =
     }
 
 -- checks 1 to 6 pass on the bytes lent, and the entry can be shown
-abbrev pub entry_place : List ℕ → ℕ → PlaceAnswer
+abbrev pub entry_place : List ℕ → ℕ → Option Place
 entry_place p i =
-    asked (run open_plan p) place_answer.NotShown (λ o. pick (entry_shown o p i) (place_answer.Shown (name_place o p i)) place_answer.NotShown)
+    asked (run open_plan p) None (λ o. pick (entry_shown o p i) (Some (name_place o p i)) None)
 
 -- ---- volume i
 -- no fault
-abbrev pub clear : Fault → Bool
-clear (At i at) = false
-clear Nowhere = true
+abbrev pub clear : Option Fault → Bool
+clear (Some (fault i at)) = false
+clear None = true
 
 abbrev pub accepts : Decision Unit → Bool
 accepts (accept t) = true
@@ -121,14 +115,14 @@ volume_facts o p i =
       path = record { at = o.head.volumes.at + v.path; len = 2 * v.units };
     }
 
-abbrev pub volume_asked : List ℕ → ℕ → VolumeAnswer
+abbrev pub volume_asked : List ℕ → ℕ → Option VolumeFacts
 volume_asked p i =
-    asked (run open_plan p) volume_answer.NotShown (λ o. pick (volume_shown o p i) (volume_answer.Shown (volume_facts o p i)) volume_answer.NotShown)
+    asked (run open_plan p) None (λ o. pick (volume_shown o p i) (Some (volume_facts o p i)) None)
 
 -- the facts where a volume is shown; no: zeros and an empty part
-abbrev pub volume_values : VolumeAnswer → VolumeFacts
-volume_values (volume_answer.Shown f) = f
-volume_values volume_answer.NotShown =
+abbrev pub volume_values : Option VolumeFacts → VolumeFacts
+volume_values (Some f) = f
+volume_values None =
     record { created = 0; serial = 0; references = 0; directories = 0; path = record { at = 0; len = 0 } }
 
 -- creation time, serial number, references, directories, path offset, path length in bytes
@@ -136,30 +130,30 @@ abbrev pub volume_list : VolumeFacts → List ℕ
 volume_list f = f.created ∷ f.serial ∷ f.references ∷ f.directories ∷ f.path.at ∷ f.path.len ∷ []
 
 -- what each case says: 1 for yes and 0 for no, and the facts in that order
-abbrev pub volume_said : VolumeAnswer → Said
-volume_said (volume_answer.Shown f) = record { number = 1; values = volume_list f }
-volume_said volume_answer.NotShown = record { number = 0; values = volume_list (volume_values volume_answer.NotShown) }
+abbrev pub volume_said : Option VolumeFacts → Said
+volume_said (Some f) = record { number = 1; values = volume_list f }
+volume_said None = record { number = 0; values = volume_list (volume_values None) }
 
 -- where its path stands in a file whose checks 1 to 6 gave that opening; an empty part at the start where it is not shown
 abbrev pub path_place : Opening → List ℕ → ℕ → Place
-path_place o p i = pick (volume_shown o p i) (volume_facts o p i).path (place_of place_answer.NotShown)
+path_place o p i = pick (volume_shown o p i) (volume_facts o p i).path (place_of None)
 
 -- ---- reference k of volume i, where k is below n
 unfoldable pub reference_shown : Opening → List ℕ → ℕ → ℕ → Bool
 reference_shown o p i k = volume_shown o p i && ltb k (volume_of (part o.head.volumes p) (entry_at o.layout i)).references
 
-abbrev pub reference_asked : List ℕ → ℕ → ℕ → ReferenceAnswer
+abbrev pub reference_asked : List ℕ → ℕ → ℕ → Option Reference
 reference_asked p i k =
-    asked (run open_plan p) reference_answer.NotShown
+    asked (run open_plan p) None
     (λ o.
     pick (reference_shown o p i k)
-    (reference_answer.Shown (reference_of (part o.head.volumes p) (entry_at o.layout i) k))
-    reference_answer.NotShown)
+    (Some (reference_of (part o.head.volumes p) (entry_at o.layout i) k))
+    None)
 
 -- what each case says: 1 for yes and 0 for no; entry index and sequence number, zeros where the answer is no
-abbrev pub reference_said : ReferenceAnswer → Said
-reference_said (reference_answer.Shown r) = record { number = 1; values = r.index ∷ r.sequence ∷ [] }
-reference_said reference_answer.NotShown = record { number = 0; values = 0 ∷ 0 ∷ [] }
+abbrev pub reference_said : Option Reference → Said
+reference_said (Some r) = record { number = 1; values = r.index ∷ r.sequence ∷ [] }
+reference_said None = record { number = 0; values = 0 ∷ 0 ∷ [] }
 
 -- ---- the name of an entry that lies in the metrics, as a place of the strings
 unfoldable pub name_sound : Layout → List ℕ → List ℕ → ℕ → Bool

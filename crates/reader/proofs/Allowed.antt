@@ -21,14 +21,14 @@ use Rattle.sections.specs.declared.Head.{Head}
 use Rattle.head.specs.declared.checks.Opening.{Opening}
 use Rattle.trace.specs.Links.{after}
 use Rattle.reader.specs.declared.verdict.Acceptance.{Acceptance}
-use Rattle.reader.specs.declared.verdict.Verdict.{Verdict}
-use Rattle.reader.specs.declared.verdict.Verdict.TheVariants.{Accepted}
 use Rattle.reader.specs.Verdict.{Acceptable, values_of, answer_values, buffer_after}
 use Rattle.reader.proofs.Values.{accepted_answer, same_values}
 use Rattle.reader.specs.Checks.{record_of, prefix_answer, file_answer, ReadsFile}
 use Rattle.reader.proofs.Taken.{head-take, name_ends}
 use Rattle.reader.proofs.Rest.{RestFacts, read_facts, read_complete, whole_accepted, whole-accepts}
 use Rattle.reader.specs.Allowed.{Allowed, given_record, given_table, AcceptedExactly}
+use Rattle.std.specs.Prelude.{Ok, Result}
+use Rattle.incremental.specs.declared.Stop.{Stop}
 
 -- a section that is within S ends by S, for an empty one ends at H
 within_end : (h size : ℕ) (s : Section) → h ≤ size → s.end ≡ pick (eqb s.len 0) h (s.at + s.len) → Within h size s → s.end ≤ size
@@ -116,10 +116,10 @@ unfolding record_of
 sizes o p n = refl
 
 -- DEMAND 2
-pub demand_2 : (p buffer : List ℕ) (v : Verdict) (after : List ℕ) → ReadsFile p buffer v after → AcceptedExactly p buffer v after
+pub demand_2 : (p buffer : List ℕ) (v : Result Acceptance Stop) (after : List ℕ) → ReadsFile p buffer v after → AcceptedExactly p buffer v after
 demand_2 p buffer v after r = record { sound = is-allowed; complete = is-accepted }
   where
-    is-allowed : (a : Acceptance) → v ≡ Accepted a
+    is-allowed : (a : Acceptance) → v ≡ Ok a
         → (o : Opening) × Allowed p o × (link_count o.layout o.head ≤ length buffer) × (a ≡ given_record o p) × (after ≡ given_table o p (length buffer))
     is-allowed a e =
         let m = length buffer in
@@ -138,10 +138,10 @@ demand_2 p buffer v after r = record { sound = is-allowed; complete = is-accepte
         )
 
     is-accepted : (o : Opening) → Allowed p o → link_count o.layout o.head ≤ length buffer
-        → (v ≡ Accepted (given_record o p)) × (after ≡ given_table o p (length buffer))
+        → (v ≡ Ok (given_record o p)) × (after ≡ given_table o p (length buffer))
     is-accepted o a l =
         let m = length buffer in
         let x : Acceptable = record { fields = given_record o p; table = given_table o p m } in
         let e = read_complete m p o x (opens p o a) (omega (arith, a.complete)) (passes m p o a l) in
         let w = whole-accepts (length p) (prefix_answer p m) x e (sizes o p _ ∙ sym a.complete) in
-        (same_values v (Accepted (given_record o p)) (r.verdict ∙ ap answer_values w), r.buffer ∙ ap (λ (z : Answer Acceptable). buffer_after z m) w)
+        (same_values v (Ok (given_record o p)) (r.verdict ∙ ap answer_values w), r.buffer ∙ ap (λ (z : Answer Acceptable). buffer_after z m) w)

@@ -14,11 +14,11 @@ use Rattle.lists.specs.Count.{count}
 use Rattle.lists.proofs.Count.{count_yes, count_no, count-zero, true-false}
 use Rattle.lists.proofs.Tests.{by_test}
 use Rattle.incremental.specs.Decision.{accept, fault_of}
-use Rattle.incremental.specs.declared.Fault.TheVariants.{Nowhere}
 use Rattle.trace.specs.Links.{end, after, Cyclic, cyclic, namers, shared}
 use Rattle.trace.specs.Links.{astray, astray_fault, shared_fault, cyclic_fault, link_checks}
 use Rattle.trace.proofs.Accepted.{accepted, astray-end, astray_below}
 use Rattle.trace.proofs.Cycles.{cycle_law}
+use Rattle.std.specs.Prelude.{None}
 
 -- at most one number below n passes a test that no two pass
 none_pass : (test : ℕ → Bool) (n : ℕ) → ((a : ℕ) → a < n → test a ≡ true → ⊥) → count test n ≡ 0
@@ -61,7 +61,7 @@ module _ (s : List ℕ) (n : ℕ) (size : length s ≡ n) (small : n ≤ end) wh
   not-cyclic : Free s n → (i : ℕ) → i < length s → cyclic s i ≡ false
   not-cyclic f i l = by_test (cyclic s i) (λ q. absurd (f.acyclic i (omega arith) ((cycle_law s i l (omega arith)).0 q))) (λ q. q)
 
-  pub free_clear : (at : ℕ → ℕ) → Free s n → (astray_fault at s ≡ Nowhere) × (shared_fault at s ≡ Nowhere) × (cyclic_fault at s ≡ Nowhere)
+  pub free_clear : (at : ℕ → ℕ) → Free s n → (astray_fault at s ≡ None) × (shared_fault at s ≡ None) × (cyclic_fault at s ≡ None)
   free_clear at f = (
     ap (fault_of at) (first_is_nothing (astray s) (length s) (λ i l. ⊎_elim (astray-end s i) (λ h. astray_below s i (omega arith)) (f.links i (omega arith)))),
     ap (fault_of at) (first_is_nothing (shared s) (length s) (λ j l. le-ltb 1 _ (named-once f j l))),

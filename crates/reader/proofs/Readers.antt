@@ -13,38 +13,35 @@ use Rattle.incremental.proofs.Plan.{onward, answer_then}
 use Rattle.incremental.specs.declared.Refusal.{Refusal}
 use Rattle.head.specs.Checks.{open_plan, open_of}
 use Rattle.head.specs.declared.checks.Opening.{Opening}
-use Rattle.head.specs.declared.checks.OpenAnswer.{OpenAnswer}
-use Rattle.head.specs.declared.checks.OpenAnswer.TheVariants as open_answer
 use Rattle.reader.specs.declared.verdict.Acceptance.{Acceptance}
-use Rattle.reader.specs.declared.verdict.Verdict.{Verdict}
-use Rattle.reader.specs.declared.verdict.Verdict.TheVariants.{Accepted, Refused, Wanted}
-use Rattle.reader.specs.declared.verdict.FileVerdict.{FileVerdict}
-use Rattle.reader.specs.declared.verdict.FileVerdict.TheVariants as file
 use Rattle.reader.specs.Verdict.{Acceptable, Reads, verdict_in}
 use Rattle.reader.specs.Checks.{rest_plan, read_plan, whole, file_answer, ReadsFile, ReadsOpened}
 use Rattle.reader.specs.Private.{verdict_of, Refuses}
+use Rattle.std.specs.Prelude.{Err, Ok, Result}
+use Rattle.incremental.specs.declared.Stop.TheVariants.{Refused, Wanted}
+use Rattle.incremental.specs.declared.Stop.{Stop}
 
 -- a verdict of all checks, once the working buffer is seen to
-pub reads_accepted : (answer : Answer Acceptable) (m : ℕ) (after : List ℕ) (v : Verdict) (a : Acceptance) → verdict_of v after ≡ answer
-    → v ≡ Accepted a → Reads answer m (Accepted a) after
+pub reads_accepted : (answer : Answer Acceptable) (m : ℕ) (after : List ℕ) (v : Result Acceptance Stop) (a : Acceptance) → verdict_of v after ≡ answer
+    → v ≡ Ok a → Reads answer m (Ok a) after
 reads_accepted answer m after v a e q =
-    let x : answer ≡ decided (accept (record { fields = a; table = after })) = sym e ∙ ap (λ (y : Verdict). verdict_of y after) q in
+    let x : answer ≡ decided (accept (record { fields = a; table = after })) = sym e ∙ ap (λ (y : Result Acceptance Stop). verdict_of y after) q in
     rw x (record { verdict = refl; buffer = refl })
 
-pub reads_refused : (answer : Answer Acceptable) (m : ℕ) (after last : List ℕ) (v : Verdict) (r : Refusal) → verdict_of v after ≡ answer
-    → v ≡ Refused r → last ≡ filled m → Reads answer m (Refused r) last
+pub reads_refused : (answer : Answer Acceptable) (m : ℕ) (after last : List ℕ) (v : Result Acceptance Stop) (r : Refusal) → verdict_of v after ≡ answer
+    → v ≡ Err (Err (Err (Err (Err (Err (Err (Err (Err (Err (Err (Err (Err (Err (Err (Err (Err (Err (Err (Err (Err (Err (Err (Err (Err (Err (Err (Err (Err (Err (Err (Err (Err (Err (Err (Err (Err (Err (Err (Err (Err (Err (Err (Err (Err (Err (Err (Err (Err (Err (Err (Err (Err (Err (Err (Err (Err (Err (Err (Err (Err (Err (Err (Err (Err (Err (Err (Err (Err (Err (Err (Err (Err (Err (Err (Err (Err (Err (Err (Err (Err (Err (Err (Err (Err (Err (Err (Err (Err (Err (Err (Err (Err (Err (Err (Err (Err (Err (Err (Err (Err (Err (Err (Err (Err (Err (Err (Err (Err (Err (Err (Err (Err (Err (Err (Err (Err (Err (Err (Err (Err (Err (Err (Err (Err (Err (Err (Err (Err (Err (Err (Err (Err (Err (Err (Err (Err (Err (Err (Err (Err (Err (Err (Err (Err (Err (Err (Err (Err (Err (Err (Err (Err (Err (Err (Err (Err (Err (Err (Err (Err (Err (Err (Err (Err (Err (Err (Err (Err (Err (Err (Err (Err (Err (Err (Err (Err (Err (Err (Err (Err (Err (Err (Err (Err (Err (Err (Err (Err (Err (Err (Err (Err (Err (Err (Err (Err (Err (Err (Err (Refused r)))))))))))))))))))))))))))))))))))))))))))))))))))))))))))))))))))))))))))))))))))))))))))))))))))))))))))))))))))))))))))))))))))))))))))))))))))))))))))))))))))))))))))))))))))))))))))))))))))))))) → last ≡ filled m → Reads answer m (Refused r) last
 reads_refused answer m after last v r e q f =
-    let x : answer ≡ decided (refuse r) = sym e ∙ ap (λ (y : Verdict). verdict_of y after) q in
+    let x : answer ≡ decided (refuse r) = sym e ∙ ap (λ (y : Result Acceptance Stop). verdict_of y after) q in
     rw x (record { verdict = refl; buffer = f })
 
-pub reads_wanted : (answer : Answer Acceptable) (m : ℕ) (after last : List ℕ) (v : Verdict) (k : ℕ) → verdict_of v after ≡ answer → v ≡ Wanted k
-    → last ≡ filled m → Reads answer m (Wanted k) last
+pub reads_wanted : (answer : Answer Acceptable) (m : ℕ) (after last : List ℕ) (v : Result Acceptance Stop) (k : ℕ) → verdict_of v after ≡ answer → v ≡ Err (Err (Err (Err (Err (Err (Err (Err (Err (Err (Err (Err (Err (Err (Err (Err (Err (Err (Err (Err (Err (Err (Err (Err (Err (Err (Err (Err (Err (Err (Err (Err (Err (Err (Err (Err (Err (Err (Err (Err (Err (Err (Err (Err (Err (Err (Err (Err (Err (Err (Err (Err (Err (Err (Err (Err (Err (Err (Err (Err (Err (Err (Err (Err (Err (Err (Err (Err (Err (Err (Err (Err (Err (Err (Err (Err (Err (Err (Err (Err (Err (Err (Err (Err (Err (Err (Err (Err (Err (Err (Err (Err (Err (Err (Err (Err (Err (Err (Err (Err (Err (Err (Err (Err (Err (Err (Err (Err (Err (Err (Err (Err (Err (Err (Err (Err (Err (Err (Err (Err (Err (Err (Err (Err (Err (Err (Err (Err (Err (Err (Err (Err (Err (Err (Err (Err (Err (Err (Err (Err (Err (Err (Err (Err (Err (Err (Err (Err (Err (Err (Err (Err (Err (Err (Err (Err (Err (Err (Err (Err (Err (Err (Err (Err (Err (Err (Err (Err (Err (Err (Err (Err (Err (Err (Err (Err (Err (Err (Err (Err (Err (Err (Err (Err (Err (Err (Err (Err (Err (Err (Err (Err (Err (Err (Err (Err (Err (Err (Err (Err (Wanted k))))))))))))))))))))))))))))))))))))))))))))))))))))))))))))))))))))))))))))))))))))))))))))))))))))))))))))))))))))))))))))))))))))))))))))))))))))))))))))))))))))))))))))))))))))))))))))))))))))))))
+    → last ≡ filled m → Reads answer m (Err (Err (Err (Err (Err (Err (Err (Err (Err (Err (Err (Err (Err (Err (Err (Err (Err (Err (Err (Err (Err (Err (Err (Err (Err (Err (Err (Err (Err (Err (Err (Err (Err (Err (Err (Err (Err (Err (Err (Err (Err (Err (Err (Err (Err (Err (Err (Err (Err (Err (Err (Err (Err (Err (Err (Err (Err (Err (Err (Err (Err (Err (Err (Err (Err (Err (Err (Err (Err (Err (Err (Err (Err (Err (Err (Err (Err (Err (Err (Err (Err (Err (Err (Err (Err (Err (Err (Err (Err (Err (Err (Err (Err (Err (Err (Err (Err (Err (Err (Err (Err (Err (Err (Err (Err (Err (Err (Err (Err (Err (Err (Err (Err (Err (Err (Err (Err (Err (Err (Err (Err (Err (Err (Err (Err (Err (Err (Err (Err (Err (Err (Err (Err (Err (Err (Err (Err (Err (Err (Err (Err (Err (Err (Err (Err (Err (Err (Err (Err (Err (Err (Err (Err (Err (Err (Err (Err (Err (Err (Err (Err (Err (Err (Err (Err (Err (Err (Err (Err (Err (Err (Err (Err (Err (Err (Err (Err (Err (Err (Err (Err (Err (Err (Err (Err (Err (Err (Err (Err (Err (Err (Err (Err (Err (Err (Err (Err (Err (Err (Err (Wanted k))))))))))))))))))))))))))))))))))))))))))))))))))))))))))))))))))))))))))))))))))))))))))))))))))))))))))))))))))))))))))))))))))))))))))))))))))))))))))))))))))))))))))))))))))))))))))))))))))))))))) last
 reads_wanted answer m after last v k e q f =
-    let x : answer ≡ wants k = sym e ∙ ap (λ (y : Verdict). verdict_of y after) q in
+    let x : answer ≡ wants k = sym e ∙ ap (λ (y : Result Acceptance Stop). verdict_of y after) q in
     rw x (record { verdict = refl; buffer = f })
 
 -- 16 or 17, by the refusal that was made
-pub refuses_as : (f x : Refusal) (m : ℕ) (r : FileVerdict) (after : List ℕ) → x ≡ f → Refuses x m r after → Refuses f m r after
+pub refuses_as : (f x : Refusal) (m : ℕ) (r : Result (Acceptance × Opening) Refusal) (after : List ℕ) → x ≡ f → Refuses x m r after → Refuses f m r after
 refuses_as f x m r after e h = rw (← e) h
 
 -- ---- the whole-file reader: what it answers, by what checks 1 to 6 and the rest gave
@@ -55,46 +52,46 @@ module _ (p buffer : List ℕ) where
   file-as x e = ap (whole (length p)) (sym (answer_then open_plan (rest_plan (length buffer)) p x e))
 
   -- the answer is a refusal, and a call has made it
-  pub opened_refused : (f : Refusal) (m : ℕ) (r : FileVerdict) (after : List ℕ) → Refuses f m r after → m ≡ length buffer
+  pub opened_refused : (f : Refusal) (m : ℕ) (r : Result (Acceptance × Opening) Refusal) (after : List ℕ) → Refuses f m r after → m ≡ length buffer
       → file_answer p (length buffer) ≡ decided (refuse f) → ReadsOpened p buffer r after
   opened_refused f m r after w e q =
       rw (w.verdict, w.buffer, e)
       (record { reads = rw q (record { verdict = refl; buffer = refl }); opens = λ a o z. never cc })
 
-  pub head_refused : (x : OpenAnswer) (f : Refusal) → open_of x ≡ run open_plan p → x ≡ open_answer.Refused f
+  pub head_refused : (x : Result Opening Stop) (f : Refusal) → open_of x ≡ run open_plan p → x ≡ Err (Err (Err (Err (Err (Err (Err (Err (Err (Err (Err (Err (Err (Err (Err (Err (Err (Err (Err (Err (Err (Err (Err (Err (Err (Err (Err (Err (Err (Err (Err (Err (Err (Err (Err (Err (Err (Err (Err (Err (Err (Err (Err (Err (Err (Err (Err (Err (Err (Err (Err (Err (Err (Err (Err (Err (Err (Err (Err (Err (Err (Err (Err (Err (Err (Err (Err (Err (Err (Err (Err (Err (Err (Err (Err (Err (Err (Err (Err (Err (Err (Err (Err (Err (Err (Err (Err (Err (Err (Err (Err (Err (Err (Err (Err (Err (Err (Err (Err (Err (Err (Err (Err (Err (Err (Err (Err (Err (Err (Err (Err (Err (Err (Err (Err (Err (Err (Err (Err (Err (Err (Err (Err (Err (Err (Err (Err (Err (Err (Err (Err (Err (Err (Err (Err (Err (Err (Err (Err (Err (Err (Err (Err (Err (Err (Err (Err (Err (Err (Err (Err (Err (Err (Err (Err (Err (Err (Err (Err (Err (Err (Err (Err (Err (Err (Err (Err (Err (Err (Err (Err (Err (Err (Err (Err (Err (Err (Err (Err (Err (Err (Err (Err (Err (Err (Err (Err (Err (Err (Err (Err (Err (Err (Err (Err (Err (Err (Err (Err (Err (Refused f))))))))))))))))))))))))))))))))))))))))))))))))))))))))))))))))))))))))))))))))))))))))))))))))))))))))))))))))))))))))))))))))))))))))))))))))))))))))))))))))))))))))))))))))))))))))))))))))))))))))
       → file_answer p (length buffer) ≡ decided (refuse f)
   head_refused x f e q = file-as (decided (refuse f)) (sym e ∙ ap open_of q)
 
-  pub head_wanted : (x : OpenAnswer) (k : ℕ) → open_of x ≡ run open_plan p → x ≡ open_answer.Wanted k
+  pub head_wanted : (x : Result Opening Stop) (k : ℕ) → open_of x ≡ run open_plan p → x ≡ Err (Err (Err (Err (Err (Err (Err (Err (Err (Err (Err (Err (Err (Err (Err (Err (Err (Err (Err (Err (Err (Err (Err (Err (Err (Err (Err (Err (Err (Err (Err (Err (Err (Err (Err (Err (Err (Err (Err (Err (Err (Err (Err (Err (Err (Err (Err (Err (Err (Err (Err (Err (Err (Err (Err (Err (Err (Err (Err (Err (Err (Err (Err (Err (Err (Err (Err (Err (Err (Err (Err (Err (Err (Err (Err (Err (Err (Err (Err (Err (Err (Err (Err (Err (Err (Err (Err (Err (Err (Err (Err (Err (Err (Err (Err (Err (Err (Err (Err (Err (Err (Err (Err (Err (Err (Err (Err (Err (Err (Err (Err (Err (Err (Err (Err (Err (Err (Err (Err (Err (Err (Err (Err (Err (Err (Err (Err (Err (Err (Err (Err (Err (Err (Err (Err (Err (Err (Err (Err (Err (Err (Err (Err (Err (Err (Err (Err (Err (Err (Err (Err (Err (Err (Err (Err (Err (Err (Err (Err (Err (Err (Err (Err (Err (Err (Err (Err (Err (Err (Err (Err (Err (Err (Err (Err (Err (Err (Err (Err (Err (Err (Err (Err (Err (Err (Err (Err (Err (Err (Err (Err (Err (Err (Err (Err (Err (Err (Err (Err (Err (Wanted k))))))))))))))))))))))))))))))))))))))))))))))))))))))))))))))))))))))))))))))))))))))))))))))))))))))))))))))))))))))))))))))))))))))))))))))))))))))))))))))))))))))))))))))))))))))))))))))))))))))))
       → file_answer p (length buffer) ≡ decided (refuse (refusal 16 0 declared_size_at))
   head_wanted x k e q = file-as (wants k) (sym e ∙ ap open_of q)
 
-  module _ (x : OpenAnswer) (o : Opening) (e : open_of x ≡ run open_plan p) (q : x ≡ open_answer.Opened o) (v : Verdict) (after : List ℕ)
+  module _ (x : Result Opening Stop) (o : Opening) (e : open_of x ≡ run open_plan p) (q : x ≡ Ok o) (v : Result Acceptance Stop) (after : List ℕ)
       (rest : verdict_of v after ≡ run (rest_plan (length buffer) o) p) where
     opened : run open_plan p ≡ decided (accept o)
     opened = sym e ∙ ap open_of q
 
-    rest-as : (w : Verdict) → v ≡ w → file_answer p (length buffer) ≡ whole (length p) (verdict_of w after)
-    rest-as w z = file-as (decided (accept o)) opened ∙ ap (whole (length p)) (sym rest ∙ ap (λ (y : Verdict). verdict_of y after) z)
+    rest-as : (w : Result Acceptance Stop) → v ≡ w → file_answer p (length buffer) ≡ whole (length p) (verdict_of w after)
+    rest-as w z = file-as (decided (accept o)) opened ∙ ap (whole (length p)) (sym rest ∙ ap (λ (y : Result Acceptance Stop). verdict_of y after) z)
 
-    pub rest_refused : (f : Refusal) → v ≡ Refused f → file_answer p (length buffer) ≡ decided (refuse f)
-    rest_refused f z = rest-as (Refused f) z
+    pub rest_refused : (f : Refusal) → v ≡ Err (Err (Err (Err (Err (Err (Err (Err (Err (Err (Err (Err (Err (Err (Err (Err (Err (Err (Err (Err (Err (Err (Err (Err (Err (Err (Err (Err (Err (Err (Err (Err (Err (Err (Err (Err (Err (Err (Err (Err (Err (Err (Err (Err (Err (Err (Err (Err (Err (Err (Err (Err (Err (Err (Err (Err (Err (Err (Err (Err (Err (Err (Err (Err (Err (Err (Err (Err (Err (Err (Err (Err (Err (Err (Err (Err (Err (Err (Err (Err (Err (Err (Err (Err (Err (Err (Err (Err (Err (Err (Err (Err (Err (Err (Err (Err (Err (Err (Err (Err (Err (Err (Err (Err (Err (Err (Err (Err (Err (Err (Err (Err (Err (Err (Err (Err (Err (Err (Err (Err (Err (Err (Err (Err (Err (Err (Err (Err (Err (Err (Err (Err (Err (Err (Err (Err (Err (Err (Err (Err (Err (Err (Err (Err (Err (Err (Err (Err (Err (Err (Err (Err (Err (Err (Err (Err (Err (Err (Err (Err (Err (Err (Err (Err (Err (Err (Err (Err (Err (Err (Err (Err (Err (Err (Err (Err (Err (Err (Err (Err (Err (Err (Err (Err (Err (Err (Err (Err (Err (Err (Err (Err (Err (Err (Err (Err (Err (Err (Err (Err (Refused f)))))))))))))))))))))))))))))))))))))))))))))))))))))))))))))))))))))))))))))))))))))))))))))))))))))))))))))))))))))))))))))))))))))))))))))))))))))))))))))))))))))))))))))))))))))))))))))))))))))))) → file_answer p (length buffer) ≡ decided (refuse f)
+    rest_refused f z = rest-as (Err (Err (Err (Err (Err (Err (Err (Err (Err (Err (Err (Err (Err (Err (Err (Err (Err (Err (Err (Err (Err (Err (Err (Err (Err (Err (Err (Err (Err (Err (Err (Err (Err (Err (Err (Err (Err (Err (Err (Err (Err (Err (Err (Err (Err (Err (Err (Err (Err (Err (Err (Err (Err (Err (Err (Err (Err (Err (Err (Err (Err (Err (Err (Err (Err (Err (Err (Err (Err (Err (Err (Err (Err (Err (Err (Err (Err (Err (Err (Err (Err (Err (Err (Err (Err (Err (Err (Err (Err (Err (Err (Err (Err (Err (Err (Err (Err (Err (Err (Err (Err (Err (Err (Err (Err (Err (Err (Err (Err (Err (Err (Err (Err (Err (Err (Err (Err (Err (Err (Err (Err (Err (Err (Err (Err (Err (Err (Err (Err (Err (Err (Err (Err (Err (Err (Err (Err (Err (Err (Err (Err (Err (Err (Err (Err (Err (Err (Err (Err (Err (Err (Err (Err (Err (Err (Err (Err (Err (Err (Err (Err (Err (Err (Err (Err (Err (Err (Err (Err (Err (Err (Err (Err (Err (Err (Err (Err (Err (Err (Err (Err (Err (Err (Err (Err (Err (Err (Err (Err (Err (Err (Err (Err (Err (Err (Err (Err (Err (Err (Err (Refused f))))))))))))))))))))))))))))))))))))))))))))))))))))))))))))))))))))))))))))))))))))))))))))))))))))))))))))))))))))))))))))))))))))))))))))))))))))))))))))))))))))))))))))))))))))))))))))))))))))))))) z
 
-    pub rest_wanted : (k : ℕ) → v ≡ Wanted k → file_answer p (length buffer) ≡ decided (refuse (refusal 16 0 declared_size_at))
-    rest_wanted k z = rest-as (Wanted k) z
+    pub rest_wanted : (k : ℕ) → v ≡ Err (Err (Err (Err (Err (Err (Err (Err (Err (Err (Err (Err (Err (Err (Err (Err (Err (Err (Err (Err (Err (Err (Err (Err (Err (Err (Err (Err (Err (Err (Err (Err (Err (Err (Err (Err (Err (Err (Err (Err (Err (Err (Err (Err (Err (Err (Err (Err (Err (Err (Err (Err (Err (Err (Err (Err (Err (Err (Err (Err (Err (Err (Err (Err (Err (Err (Err (Err (Err (Err (Err (Err (Err (Err (Err (Err (Err (Err (Err (Err (Err (Err (Err (Err (Err (Err (Err (Err (Err (Err (Err (Err (Err (Err (Err (Err (Err (Err (Err (Err (Err (Err (Err (Err (Err (Err (Err (Err (Err (Err (Err (Err (Err (Err (Err (Err (Err (Err (Err (Err (Err (Err (Err (Err (Err (Err (Err (Err (Err (Err (Err (Err (Err (Err (Err (Err (Err (Err (Err (Err (Err (Err (Err (Err (Err (Err (Err (Err (Err (Err (Err (Err (Err (Err (Err (Err (Err (Err (Err (Err (Err (Err (Err (Err (Err (Err (Err (Err (Err (Err (Err (Err (Err (Err (Err (Err (Err (Err (Err (Err (Err (Err (Err (Err (Err (Err (Err (Err (Err (Err (Err (Err (Err (Err (Err (Err (Err (Err (Err (Err (Wanted k)))))))))))))))))))))))))))))))))))))))))))))))))))))))))))))))))))))))))))))))))))))))))))))))))))))))))))))))))))))))))))))))))))))))))))))))))))))))))))))))))))))))))))))))))))))))))))))))))))))))) → file_answer p (length buffer) ≡ decided (refuse (refusal 16 0 declared_size_at))
+    rest_wanted k z = rest-as (Err (Err (Err (Err (Err (Err (Err (Err (Err (Err (Err (Err (Err (Err (Err (Err (Err (Err (Err (Err (Err (Err (Err (Err (Err (Err (Err (Err (Err (Err (Err (Err (Err (Err (Err (Err (Err (Err (Err (Err (Err (Err (Err (Err (Err (Err (Err (Err (Err (Err (Err (Err (Err (Err (Err (Err (Err (Err (Err (Err (Err (Err (Err (Err (Err (Err (Err (Err (Err (Err (Err (Err (Err (Err (Err (Err (Err (Err (Err (Err (Err (Err (Err (Err (Err (Err (Err (Err (Err (Err (Err (Err (Err (Err (Err (Err (Err (Err (Err (Err (Err (Err (Err (Err (Err (Err (Err (Err (Err (Err (Err (Err (Err (Err (Err (Err (Err (Err (Err (Err (Err (Err (Err (Err (Err (Err (Err (Err (Err (Err (Err (Err (Err (Err (Err (Err (Err (Err (Err (Err (Err (Err (Err (Err (Err (Err (Err (Err (Err (Err (Err (Err (Err (Err (Err (Err (Err (Err (Err (Err (Err (Err (Err (Err (Err (Err (Err (Err (Err (Err (Err (Err (Err (Err (Err (Err (Err (Err (Err (Err (Err (Err (Err (Err (Err (Err (Err (Err (Err (Err (Err (Err (Err (Err (Err (Err (Err (Err (Err (Err (Wanted k))))))))))))))))))))))))))))))))))))))))))))))))))))))))))))))))))))))))))))))))))))))))))))))))))))))))))))))))))))))))))))))))))))))))))))))))))))))))))))))))))))))))))))))))))))))))))))))))))))))))) z
 
-    module _ (a : Acceptance) (z : v ≡ Accepted a) where
+    module _ (a : Acceptance) (z : v ≡ Ok a) where
       pub file_short : length p < a.declared_size → file_answer p (length buffer) ≡ decided (refuse (refusal 16 0 declared_size_at))
-      file_short l = rest-as (Accepted a) z ∙ rw (lt-ltb _ _ l)
+      file_short l = rest-as (Ok a) z ∙ rw (lt-ltb _ _ l)
 
       pub file_long : a.declared_size ≤ length p → a.declared_size < length p
           → file_answer p (length buffer) ≡ decided (refuse (refusal 17 0 declared_size_at))
-      file_long l h = rest-as (Accepted a) z ∙ rw (le-ltb _ _ l, lt-ltb _ _ h)
+      file_long l h = rest-as (Ok a) z ∙ rw (le-ltb _ _ l, lt-ltb _ _ h)
 
-      pub file_exact : a.declared_size ≤ length p → length p ≤ a.declared_size → ReadsOpened p buffer (file.Accepted a o) after
+      pub file_exact : a.declared_size ≤ length p → length p ≤ a.declared_size → ReadsOpened p buffer (Ok (a, o)) after
       file_exact l h =
           let answer : file_answer p (length buffer) ≡ decided (accept (record { fields = a; table = after })) =
-          rest-as (Accepted a) z ∙ rw (le-ltb _ _ l, le-ltb _ _ h) in
+          rest-as (Ok a) z ∙ rw (le-ltb _ _ l, le-ltb _ _ h) in
           record {
             reads = rw answer (record { verdict = refl; buffer = refl });
             opens = λ b u y. let same : o ≡ u = cc in rw (← same) opened;
@@ -103,5 +100,5 @@ module _ (p buffer : List ℕ) where
 pub ruleset files = (opened_refused, head_refused, head_wanted, rest_refused, rest_wanted, file_short, file_long, file_exact)
 
 -- the verdict alone
-pub reads_of : (p buffer : List ℕ) (r x : FileVerdict) (after : List ℕ) → ReadsOpened p buffer r after → r ≡ x → ReadsFile p buffer (verdict_in x) after
+pub reads_of : (p buffer : List ℕ) (r x : Result (Acceptance × Opening) Refusal) (after : List ℕ) → ReadsOpened p buffer r after → r ≡ x → ReadsFile p buffer (verdict_in x) after
 reads_of p buffer r x after h e = rw (← e) h.reads

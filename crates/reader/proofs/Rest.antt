@@ -15,7 +15,6 @@ use Rattle.incremental.specs.Decision.{Decision, accept, refuse, fault_of}
 use Rattle.incremental.specs.Plan.{decide, Answer, decided, wants, run, and_then}
 use Rattle.incremental.proofs.Plan.{answer_then, reach_here, check_passed, AnswerHolds, holds_reach, holds_check, holds_then, holds_accept}
 use Rattle.incremental.proofs.Decision.{fault_nothing}
-use Rattle.incremental.specs.declared.Fault.TheVariants.{Nowhere}
 use Rattle.sections.specs.Fields.{declared_size, part, link_count}
 use Rattle.sections.proofs.Cases.{places_enough, entries_fit}
 use Rattle.head.specs.Checks.{open_plan}
@@ -39,6 +38,7 @@ use Rattle.reader.proofs.Stages.{counts_hold}
 use Rattle.reader.proofs.Early.{names_required_low, trace_required_low, volumes_required_low}
 use Rattle.reader.proofs.Free.{Free, free, free_clear}
 use Rattle.reader.proofs.Taken.{links_few, misfit_take, misfit_in, nexts_take, record_take, unsound_take, unsound_in, volumes_take, volumes_in}
+use Rattle.std.specs.Prelude.{None}
 
 pub record RestFacts (m : ℕ) (p : List ℕ) (o : Opening) (x : Acceptable) : Type 0 where
   pub places : link_count o.layout o.head ≤ m
@@ -52,7 +52,7 @@ pub record RestFacts (m : ℕ) (p : List ℕ) (o : Opening) (x : Acceptable) : T
   pub table : x.table ≡ predecessors (nexts_in o p) m
 
 -- the faults of checks 11 to 13 and their decision
-pub links_pass : (at : ℕ → ℕ) (s : List ℕ) → astray_fault at s ≡ Nowhere → shared_fault at s ≡ Nowhere → cyclic_fault at s ≡ Nowhere
+pub links_pass : (at : ℕ → ℕ) (s : List ℕ) → astray_fault at s ≡ None → shared_fault at s ≡ None → cyclic_fault at s ≡ None
     → link_checks at s ≡ accept (chains s)
 unfolding link_checks
 links_pass at s a b c = rw (a, b, c)
@@ -63,12 +63,12 @@ unfolding run
 decision d a p e = cc
 
 module _ (m : ℕ) (p : List ℕ) (o : Opening) (f : OpenFacts p o) where
-  names-found : unsound_in p o f p ≡ Nowhere → (i : ℕ) → i < o.head.metrics.count
+  names-found : unsound_in p o f p ≡ None → (i : ℕ) → i < o.head.metrics.count
       → SoundName (part o.head.strings p) (name_at o.layout (part o.head.metrics p) i) (name_units o.layout (part o.head.metrics p) i)
   unfolding unsound_fault
   names-found e i l = (sound_name _ _ _).0 (not-false _ (first_nothing _ o.head.metrics.count (fault_nothing _ _ e) i l))
 
-  texts-hold : AnswerHolds (λ _. unsound_in p o f p ≡ Nowhere) (run (texts_plan o) p)
+  texts-hold : AnswerHolds (λ _. unsound_in p o f p ≡ None) (run (texts_plan o) p)
   unfolding texts_plan
   texts-hold =
       let k = names_required o.layout o.head in
@@ -105,7 +105,7 @@ module _ (m : ℕ) (p : List ℕ) (o : Opening) (f : OpenFacts p o) where
     where
       accepts : (t : List ℕ)
           → (link_count o.layout o.head ≤ m) × EntriesFit o
-          → unsound_in p o f p ≡ Nowhere
+          → unsound_in p o f p ≡ None
           → (t ≡ nexts_in o p) × (link_checks (link_at o) (nexts_in o p) ≡ accept (chains (nexts_in o p)))
           → volumes_in p o f p ≡ accept tt
           → RestFacts m p o (record { fields = record_of o (take (head_end o.layout) p) (chains t); table = predecessors t m })
@@ -123,13 +123,13 @@ module _ (m : ℕ) (p : List ℕ) (o : Opening) (f : OpenFacts p o) where
 
   module _ (d : declared_size p ≤ length p) (x : Acceptable) (r : RestFacts m p o x) where
     -- a name that is sound fits the strings section, which has all its bytes
-    none-misfit : misfit_in p o f p ≡ Nowhere
+    none-misfit : misfit_in p o f p ≡ None
     unfolding misfit_fault
     none-misfit =
         let e = part_length o.head.strings (head_end o.layout) p (open_shapes p o f).strings_end (le_trans f.strings d) in
         ap (fault_of _) (first_is_nothing _ o.head.metrics.count (λ i l. ap not (le-fits _ _ _ (omega (arith, (r.names i l).inside, e)))))
 
-    none-unsound : unsound_in p o f p ≡ Nowhere
+    none-unsound : unsound_in p o f p ≡ None
     unfolding unsound_fault
     none-unsound = ap (fault_of _) (first_is_nothing _ o.head.metrics.count (λ i l. ap not ((sound_name _ _ _).1 (r.names i l))))
 

@@ -15,12 +15,6 @@ use Rattle.incremental.proofs.Plan.{onward, answer_then, reach_here, reach_short
 use Rattle.incremental.proofs.Plan.{reach_on, check_refused, check_on, decide_it, then_case, run_steps}
 use Rattle.incremental.proofs.Plan.{AnswerHolds, holds_reach, holds_check, holds_accept}
 use Rattle.incremental.specs.declared.Refusal.{Refusal}
-use Rattle.incremental.specs.declared.Fault.{Fault}
-use Rattle.incremental.specs.declared.Fault.TheVariants.{At, Nowhere}
-use Rattle.incremental.specs.declared.Checked.{Checked}
-use Rattle.incremental.specs.declared.Checked.TheVariants as checked
-use Rattle.incremental.specs.declared.Outcome.{Outcome}
-use Rattle.incremental.specs.declared.Outcome.TheVariants as out
 use Rattle.sections.specs.Fields.{part, link_count, entries_fault, places_fault}
 use Rattle.sections.proofs.Cases.{entries_fit, entries_met, places_met}
 use Rattle.head.specs.Opened.{OpenFacts}
@@ -31,23 +25,24 @@ use Rattle.names.specs.Names.{in_metrics, misfit_fault, unsound_fault}
 use Rattle.trace.specs.Links.{nexts, astray_fault, shared_fault, cyclic_fault, link_checks, chains, predecessors, links_of, LinkAnswer, held}
 use Rattle.trace.proofs.Accepted.{trace_room}
 use Rattle.trace.proofs.Steps.{length-nexts}
-use Rattle.trace.specs.declared.Links.{Links}
-use Rattle.trace.specs.declared.Links.TheVariants as links
 use Rattle.volumes.specs.Volumes.{volumes_from, volumes_checks}
 use Rattle.volumes.proofs.Laws.{volumes_room}
-use Rattle.reader.specs.declared.checks.TraceOutcome.{TraceOutcome}
-use Rattle.reader.specs.declared.checks.TraceOutcome.TheVariants as outcome
 use Rattle.reader.specs.declared.verdict.Acceptance.{Acceptance}
 use Rattle.reader.specs.Verdict.{Acceptable}
 use Rattle.reader.specs.Checks.{names_in, trace_required, names_required, volumes_required, link_at, record_of}
 use Rattle.reader.specs.Checks.{counts_plan, fits_plan, texts_plan, trace_plan, volumes_plan, rest_plan}
 use Rattle.reader.specs.Private.{TraceAnswer, EntriesFit}
 use Rattle.lists.proofs.Tests.{never}
+use Rattle.std.specs.Prelude.{Err, None, Ok, Option, Result, Some}
+use Rattle.incremental.specs.declared.Fault.{Fault}
+use Rattle.incremental.specs.declared.Stop.TheVariants.{Refused, Wanted}
+use Rattle.incremental.specs.declared.Stop.{Stop}
+use Rattle.incremental.specs.Decision.{fault}
 
 -- ---- 7 and 8
 
 -- the number of next indexes that a call gave
-pub places_at : (m n k : ℕ) (r : Fault) → r ≡ places_fault m n → n ≡ k → r ≡ places_fault m k
+pub places_at : (m n k : ℕ) (r : Option Fault) → r ≡ places_fault m n → n ≡ k → r ≡ places_fault m k
 places_at m n k r e q = e ∙ ap (places_fault m) q
 
 pub ruleset counts = (run_steps, places_at)
@@ -62,7 +57,7 @@ module _ (m : ℕ) (o : Opening) (p : List ℕ) where
       holds_check _ 8 (entries_fault o.head.volumes.count (volume_entry o.layout) o.head.volumes.len) _ p λ e8.
       holds_accept _ tt p (places_met _ _ _ refl e7, entries_met _ _ _ _ refl e8)
 
-  pub counts_met : (r : Outcome) → outcome_of r ≡ run (counts_plan m o) p → r ≡ out.Passed → (link_count o.layout o.head ≤ m) × EntriesFit o
+  pub counts_met : (r : Result Unit Stop) → outcome_of r ≡ run (counts_plan m o) p → r ≡ Ok tt → (link_count o.layout o.head ≤ m) × EntriesFit o
   counts_met r e q = counts_hold.holds tt (sym e ∙ ap outcome_of q)
 
 -- ---- 9
@@ -71,17 +66,17 @@ module _ (o : Opening) (p : List ℕ) where
   unfolding fits_plan
   fits_short h = reach_wants _ _ p h
 
-  module _ (a : List ℕ) (h : o.head.metrics.end ≤ length p) (e : a ≡ part o.head.metrics (take o.head.metrics.end p)) (r : Fault)
+  module _ (a : List ℕ) (h : o.head.metrics.end ≤ length p) (e : a ≡ part o.head.metrics (take o.head.metrics.end p)) (r : Option Fault)
       (f : r ≡ misfit_fault o.layout o.head.metrics.at (in_metrics o.layout a) o.head.metrics.count o.head.strings.len) where
     misfit : r ≡ misfit_fault o.layout o.head.metrics.at (names_in o (take o.head.metrics.end p)) o.head.metrics.count
         o.head.strings.len
     misfit = rw (← e) f
 
-    pub fits_refused : (i at : ℕ) (x : Refusal) → r ≡ At i at → x ≡ refusal 9 i at → decided (refuse x) ≡ run (fits_plan o) p
+    pub fits_refused : (i at : ℕ) (x : Refusal) → r ≡ Some (fault i at) → x ≡ refusal 9 i at → decided (refuse x) ≡ run (fits_plan o) p
     unfolding fits_plan
     fits_refused i at x q w = reach_on _ _ p _ h (check_refused 9 _ _ p i at r x misfit q w)
 
-    pub fits_pass : r ≡ Nowhere → decided (accept tt) ≡ run (fits_plan o) p
+    pub fits_pass : r ≡ None → decided (accept tt) ≡ run (fits_plan o) p
     unfolding fits_plan
     fits_pass q = reach_on _ _ p _ h (check_on 9 _ _ p r _ misfit q (decide_it _ _ p refl))
 
@@ -100,44 +95,44 @@ module _ (o : Opening) (p : List ℕ) (k : ℕ) (at : k ≡ names_required o.lay
   pub texts_short : length p < k → wants k ≡ run (texts_plan o) p
   texts_short h = texts-are _ (reach_wants k _ p h)
 
-  module _ (a b : List ℕ) (h : k ≤ length p) (e : a ≡ part o.head.metrics (take k p)) (g : b ≡ part o.head.strings (take k p)) (r : Fault)
+  module _ (a b : List ℕ) (h : k ≤ length p) (e : a ≡ part o.head.metrics (take k p)) (g : b ≡ part o.head.strings (take k p)) (r : Option Fault)
       (f : r ≡ unsound_fault o.layout o.head.metrics.at (in_metrics o.layout a) o.head.metrics.count b) where
     unsound : r ≡ unsound_fault o.layout o.head.metrics.at (names_in o (take k p)) o.head.metrics.count
         (part o.head.strings (take k p))
     unsound = rw (← e, ← g) f
 
-    pub texts_refused : (i at : ℕ) (x : Refusal) → r ≡ At i at → x ≡ refusal 10 i at → decided (refuse x) ≡ run (texts_plan o) p
+    pub texts_refused : (i at : ℕ) (x : Refusal) → r ≡ Some (fault i at) → x ≡ refusal 10 i at → decided (refuse x) ≡ run (texts_plan o) p
     texts_refused i at x q w = texts-are _ (reach_on k _ p _ h (check_refused 10 _ _ p i at r x unsound q w))
 
-    pub texts_pass : r ≡ Nowhere → decided (accept tt) ≡ run (texts_plan o) p
+    pub texts_pass : r ≡ None → decided (accept tt) ≡ run (texts_plan o) p
     texts_pass q = texts-are _ (reach_on k _ p _ h (check_on 10 _ _ p r _ unsound q (decide_it _ _ p refl)))
 
 -- ---- 11 to 13
 
 -- the lines of the plan after its bytes have come, and what they decide
-abbrev lines_of : Fault → Fault → Fault → List ℕ → Plan (List ℕ)
+abbrev lines_of : Option Fault → Option Fault → Option Fault → List ℕ → Plan (List ℕ)
 lines_of a b c s = check 11 a >> (check 12 b >> (check 13 c >> done s))
 
-abbrev decides : Fault → Fault → Fault → ℕ → Decision ℕ
+abbrev decides : Option Fault → Option Fault → Option Fault → ℕ → Decision ℕ
 decides a b c n = decision.◌>>◌ (decision.check 11 a) (decision.◌>>◌ (decision.check 12 b) (decision.◌>>◌ (decision.check 13 c) (accept n)))
 
-lines_refuse : (a b c : Fault) (n : ℕ) (s p : List ℕ) (f : Refusal) → decides a b c n ≡ refuse f → run (lines_of a b c s) p ≡ decided (refuse f)
+lines_refuse : (a b c : Option Fault) (n : ℕ) (s p : List ℕ) (f : Refusal) → decides a b c n ≡ refuse f → run (lines_of a b c s) p ≡ decided (refuse f)
 unfolding run and_then check
-lines_refuse (At i at) b c n s p f e = let q : refusal 11 i at ≡ f = cc in ap (λ (x : Refusal). decided (refuse x)) q
-lines_refuse Nowhere (At i at) c n s p f e = let q : refusal 12 i at ≡ f = cc in ap (λ (x : Refusal). decided (refuse x)) q
-lines_refuse Nowhere Nowhere (At i at) n s p f e = let q : refusal 13 i at ≡ f = cc in ap (λ (x : Refusal). decided (refuse x)) q
-lines_refuse Nowhere Nowhere Nowhere n s p f e = never cc
+lines_refuse (Some (fault i at)) b c n s p f e = let q : refusal 11 i at ≡ f = cc in ap (λ (x : Refusal). decided (refuse x)) q
+lines_refuse None (Some (fault i at)) c n s p f e = let q : refusal 12 i at ≡ f = cc in ap (λ (x : Refusal). decided (refuse x)) q
+lines_refuse None None (Some (fault i at)) n s p f e = let q : refusal 13 i at ≡ f = cc in ap (λ (x : Refusal). decided (refuse x)) q
+lines_refuse None None None n s p f e = never cc
 
-lines_accept : (a b c : Fault) (n k : ℕ) (s p : List ℕ) → decides a b c n ≡ accept k → (run (lines_of a b c s) p ≡ decided (accept s)) × (k ≡ n)
+lines_accept : (a b c : Option Fault) (n k : ℕ) (s p : List ℕ) → decides a b c n ≡ accept k → (run (lines_of a b c s) p ≡ decided (accept s)) × (k ≡ n)
 unfolding run and_then check
-lines_accept (At i at) b c n k s p e = never cc
-lines_accept Nowhere (At i at) c n k s p e = never cc
-lines_accept Nowhere Nowhere (At i at) n k s p e = never cc
-lines_accept Nowhere Nowhere Nowhere n k s p e = (refl, cc)
+lines_accept (Some (fault i at)) b c n k s p e = never cc
+lines_accept None (Some (fault i at)) c n k s p e = never cc
+lines_accept None None (Some (fault i at)) n k s p e = never cc
+lines_accept None None None n k s p e = (refl, cc)
 
 -- `k` is the required length and `n` the number of next indexes that calls gave
 module _ (o : Opening) (p : List ℕ) (m k : ℕ) (required : k ≡ trace_required o.layout o.head) where
-  pub trace_short : (buffer : List ℕ) → length p < k → TraceAnswer (run (trace_plan o) p) m (outcome.Wanted k) buffer
+  pub trace_short : (buffer : List ℕ) → length p < k → TraceAnswer (run (trace_plan o) p) m (Err (Wanted k)) buffer
   unfolding trace_plan
   trace_short buffer h =
       record {
@@ -147,7 +142,7 @@ module _ (o : Opening) (p : List ℕ) (m k : ℕ) (required : k ≡ trace_requir
       }
 
   module _ (a : List ℕ) (h : k ≤ length p) (e : a ≡ part o.head.trace (take k p)) (n : ℕ) (count : n ≡ link_count o.layout o.head)
-      (room : link_count o.layout o.head ≤ m) (r : Links) (buffer : List ℕ)
+      (room : link_count o.layout o.head ≤ m) (r : Result ℕ Refusal) (buffer : List ℕ)
       (w : LinkAnswer a [] o.head.trace.at (trace_entry o.layout) n m r buffer) where
     abbrev s : List ℕ
     s = nexts a (trace_entry o.layout) n
@@ -159,7 +154,7 @@ module _ (o : Opening) (p : List ℕ) (m k : ℕ) (required : k ≡ trace_requir
     unfolding trace_plan
     lines-run = reach_here (trace_required o.layout o.head) _ p (rw (← required) h) ∙ rw (← required, ← e, ← count)
 
-    pub trace_refused : (f : Refusal) → r ≡ links.Refused f → TraceAnswer (run (trace_plan o) p) m (outcome.Refused f) buffer
+    pub trace_refused : (f : Refusal) → r ≡ Err f → TraceAnswer (run (trace_plan o) p) m (Err (Refused f)) buffer
     unfolding link_checks
     trace_refused f q =
         record {
@@ -170,7 +165,7 @@ module _ (o : Opening) (p : List ℕ) (m k : ℕ) (required : k ≡ trace_requir
           wanted = λ k z. never cc;
         }
 
-    pub trace_passed : (c : ℕ) → r ≡ links.Chains c → TraceAnswer (run (trace_plan o) p) m (outcome.Chains c) buffer
+    pub trace_passed : (c : ℕ) → r ≡ Ok c → TraceAnswer (run (trace_plan o) p) m (Ok c) buffer
     unfolding link_checks
     trace_passed c q =
         let l = lines_accept (astray_fault (link_at o) s) (shared_fault (link_at o) s) (cyclic_fault (link_at o) s) (chains s) c s p (links_decide ∙ ap links_of q) in
@@ -208,37 +203,37 @@ module _ (o : Opening) (p : List ℕ) (k : ℕ) (at : k ≡ volumes_required o.l
   pub volumes_short : length p < k → wants k ≡ run (volumes_plan o) p
   volumes_short h = volumes-are _ (reach_wants k _ p h)
 
-  module _ (f : OpenFacts p o) (room : EntriesFit o) (a : List ℕ) (h : k ≤ length p) (e : a ≡ part o.head.volumes (take k p)) (r : Checked)
+  module _ (f : OpenFacts p o) (room : EntriesFit o) (a : List ℕ) (h : k ≤ length p) (e : a ≡ part o.head.volumes (take k p)) (r : Result Unit Refusal)
       (c : checked_of r ≡ volumes_checks a o.layout o.head.volumes.at o.head.volumes.count) where
     volumes-decide : volumes_from (part o.head.volumes (take k p)) o.layout o.head.volumes.at o.head.volumes.count 0 ≡ checked_of r
     volumes-decide =
         let n = o.head.volumes.count in
         let b = part o.head.volumes (take k p) in
-        let q : entries_fault n (volume_entry o.layout) (length b) ≡ Nowhere = sym (entries_fit n _ _ (volumes_all p o k f at h room)) in
+        let q : entries_fault n (volume_entry o.layout) (length b) ≡ None = sym (entries_fit n _ _ (volumes_all p o k f at h room)) in
         sym (volumes_room b o.layout _ n _ refl q) ∙ ap (λ (t : List ℕ). volumes_checks t o.layout o.head.volumes.at n) (sym e) ∙ sym c
 
-    pub volumes_pass : r ≡ checked.Passed → decided (accept tt) ≡ run (volumes_plan o) p
+    pub volumes_pass : r ≡ Ok tt → decided (accept tt) ≡ run (volumes_plan o) p
     unfolding run and_then
     volumes_pass q = volumes-are _ (reach_on k _ p _ h (rw (volumes-decide ∙ ap checked_of q)))
 
-    pub volumes_refused : (g : Refusal) → r ≡ checked.Refused g → decided (refuse g) ≡ run (volumes_plan o) p
+    pub volumes_refused : (g : Refusal) → r ≡ Err g → decided (refuse g) ≡ run (volumes_plan o) p
     unfolding run and_then
     volumes_refused g q = volumes-are _ (reach_on k _ p _ h (rw (volumes-decide ∙ ap checked_of q)))
 
 -- ---- one stage after another, for `search` at the returns of their code: `r` is what the call for a stage gave, and `x` its case
-pub stage_then : {B : Type 0} (t : Plan Unit) (g : Unit → Plan B) (p : List ℕ) (r x : Outcome) (v : Answer B) → outcome_of r ≡ run t p → r ≡ x
+pub stage_then : {B : Type 0} (t : Plan Unit) (g : Unit → Plan B) (p : List ℕ) (r x : Result Unit Stop) (v : Answer B) → outcome_of r ≡ run t p → r ≡ x
     → v ≡ onward (outcome_of x) (λ a. run (g a) p) → v ≡ run (and_then t g) p
 stage_then = then_case outcome_of
 
-module _ {B : Type 0} (t : Plan (List ℕ)) (g : List ℕ → Plan B) (p : List ℕ) (m : ℕ) (r : TraceOutcome) (buffer : List ℕ)
+module _ {B : Type 0} (t : Plan (List ℕ)) (g : List ℕ → Plan B) (p : List ℕ) (m : ℕ) (r : Result ℕ Stop) (buffer : List ℕ)
     (a : TraceAnswer (run t p) m r buffer) where
-  pub trace_refuses : (f : Refusal) → r ≡ outcome.Refused f → decided (refuse f) ≡ run (and_then t g) p
+  pub trace_refuses : (f : Refusal) → r ≡ Err (Refused f) → decided (refuse f) ≡ run (and_then t g) p
   trace_refuses f q = answer_then t g p _ (a.refused f q)
 
-  pub trace_wants : (k : ℕ) → r ≡ outcome.Wanted k → wants k ≡ run (and_then t g) p
+  pub trace_wants : (k : ℕ) → r ≡ Err (Wanted k) → wants k ≡ run (and_then t g) p
   trace_wants k q = answer_then t g p _ (a.wanted k q)
 
-  pub trace_on : (n : ℕ) (v : Answer B) (q : r ≡ outcome.Chains n) → v ≡ run (g (a.passed n q).0) p → v ≡ run (and_then t g) p
+  pub trace_on : (n : ℕ) (v : Answer B) (q : r ≡ Ok n) → v ≡ run (g (a.passed n q).0) p → v ≡ run (and_then t g) p
   trace_on n v q h = h ∙ answer_then t g p _ (a.passed n q).1
 
 -- 14 and 15, and the record
@@ -249,9 +244,9 @@ last_plan m o s = do
   done (record { fields = record_of o top (chains s); table = predecessors s m })
 
 -- all before them have passed
-module _ (m : ℕ) (o : Opening) (p : List ℕ) (r : Outcome) (e : outcome_of r ≡ run (counts_plan m o) p) (q8 : r ≡ out.Passed)
-    (s : Outcome) (g : outcome_of s ≡ run (fits_plan o) p) (q9 : s ≡ out.Passed) (t : Outcome) (k : outcome_of t ≡ run (texts_plan o) p) (q10 : t ≡ out.Passed)
-    (u : TraceOutcome) (buffer : List ℕ) (a : TraceAnswer (run (trace_plan o) p) m u buffer) (n : ℕ) (q13 : u ≡ outcome.Chains n) where
+module _ (m : ℕ) (o : Opening) (p : List ℕ) (r : Result Unit Stop) (e : outcome_of r ≡ run (counts_plan m o) p) (q8 : r ≡ Ok tt)
+    (s : Result Unit Stop) (g : outcome_of s ≡ run (fits_plan o) p) (q9 : s ≡ Ok tt) (t : Result Unit Stop) (k : outcome_of t ≡ run (texts_plan o) p) (q10 : t ≡ Ok tt)
+    (u : Result ℕ Stop) (buffer : List ℕ) (a : TraceAnswer (run (trace_plan o) p) m u buffer) (n : ℕ) (q13 : u ≡ Ok n) where
   pub last_stage : (v : Answer Acceptable) → v ≡ run (last_plan m o (a.passed n q13).0) p → v ≡ run (rest_plan m o) p
   unfolding rest_plan
   last_stage v h =
@@ -269,10 +264,10 @@ given_record o top p s m n a after x y z =
     λ i. decided (accept (record { fields = f i; table = z i }))
 
 -- what is known once 7 and 8 have passed
-pub places_room : (m : ℕ) (o : Opening) (p : List ℕ) (r : Outcome) → outcome_of r ≡ run (counts_plan m o) p → r ≡ out.Passed → link_count o.layout o.head ≤ m
+pub places_room : (m : ℕ) (o : Opening) (p : List ℕ) (r : Result Unit Stop) → outcome_of r ≡ run (counts_plan m o) p → r ≡ Ok tt → link_count o.layout o.head ≤ m
 places_room m o p r e q = (counts_met m o p r e q).0
 
-pub entries-room : (m : ℕ) (o : Opening) (p : List ℕ) (r : Outcome) → outcome_of r ≡ run (counts_plan m o) p → r ≡ out.Passed → EntriesFit o
+pub entries-room : (m : ℕ) (o : Opening) (p : List ℕ) (r : Result Unit Stop) → outcome_of r ≡ run (counts_plan m o) p → r ≡ Ok tt → EntriesFit o
 entries-room m o p r e q = (counts_met m o p r e q).1
 
 pub ruleset stages = (stage_then, trace_refuses, trace_wants, places_room, entries-room)

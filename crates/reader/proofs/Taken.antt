@@ -11,7 +11,6 @@ use lib.ListN.{length, take}
 use lib.Seq.{length-take-le}
 use Rattle.lists.specs.First.{first_from}
 use Rattle.lists.specs.Table.{tabulate}
-use Rattle.lists.specs.declared.Found.TheVariants as found
 use Rattle.lists.proofs.Tests.{by_test}
 use Rattle.little_endian.specs.Number.{le}
 use Rattle.little_endian.proofs.Number.{le-take}
@@ -19,7 +18,6 @@ use Rattle.layout.specs.Versions.{head_end, run_time_at, time_count, run_count_a
 use Rattle.layout.specs.Sound.{SoundLayout}
 use Rattle.layout.specs.declared.Layout.{Layout}
 use Rattle.incremental.specs.Decision.{Decision}
-use Rattle.incremental.specs.declared.Fault.{Fault}
 use Rattle.sections.specs.Fields.{head_of, part, name_end, link_count}
 use Rattle.sections.proofs.Name.{ends_at}
 use Rattle.sections.proofs.Cases.{links_low}
@@ -33,6 +31,8 @@ use Rattle.trace.specs.Links.{end, nexts}
 use Rattle.volumes.specs.Volumes.{volumes_from}
 use Rattle.reader.specs.Checks.{names_in, nexts_in, time_at, record_of, trace_required, volumes_required}
 use Rattle.reader.specs.Checks.{names_required, whole}
+use Rattle.incremental.specs.declared.Fault.{Fault}
+use Rattle.std.specs.Prelude.{Option, Some}
 
 fixed_field : (l : Layout) (p : List ℕ) (k : ℕ) → SoundLayout l → k + 4 ≤ 120 → le 4 (take (head_end l) p) k ≡ le 4 p k
 fixed_field l p k s h = le-take 4 (head_end l) p k (omega (arith, s.fixed))
@@ -82,10 +82,10 @@ record_take o p n s =
 unit_take : (p : List ℕ) (k : ℕ) → k < 30 → le 2 (take 76 p) (16 + 2 * k) ≡ le 2 p (16 + 2 * k)
 unit_take p k l = le-take 2 76 p (16 + 2 * k) (omega arith)
 
-pub name_ends : (p : List ℕ) (u : ℕ) → 76 ≤ length p → (name_end (take 76 p) ≡ found.At u) ↔ NameEnds p u
+pub name_ends : (p : List ℕ) (u : ℕ) → 76 ≤ length p → (name_end (take 76 p) ≡ Some u) ↔ NameEnds p u
 name_ends p u whole = (there, back)
   where
-    there : name_end (take 76 p) ≡ found.At u → NameEnds p u
+    there : name_end (take 76 p) ≡ Some u → NameEnds p u
     there e =
         let n = name_law (take 76 p) u e in
         record {
@@ -94,7 +94,7 @@ name_ends p u whole = (there, back)
           before = λ k l z. n.before k l (unit_take p k (omega (arith, n.short)) ∙ z);
         }
 
-    back : NameEnds p u → name_end (take 76 p) ≡ found.At u
+    back : NameEnds p u → name_end (take 76 p) ≡ Some u
     back n =
         let l = length-take-le 76 p whole in
         (ends_at (take 76 p) u).1
@@ -107,10 +107,10 @@ name_ends p u whole = (there, back)
 
 module _ (p : List ℕ) (o : Opening) (f : OpenFacts p o) where
   -- the faults that checks 9, 10, 14 and 15 find in the whole bytes
-  abbrev pub misfit_in : List ℕ → Fault
+  abbrev pub misfit_in : List ℕ → Option Fault
   misfit_in b = misfit_fault o.layout o.head.metrics.at (names_in o b) o.head.metrics.count o.head.strings.len
 
-  abbrev pub unsound_in : List ℕ → Fault
+  abbrev pub unsound_in : List ℕ → Option Fault
   unsound_in b = unsound_fault o.layout o.head.metrics.at (names_in o b) o.head.metrics.count (part o.head.strings b)
 
   abbrev pub volumes_in : List ℕ → Decision Unit

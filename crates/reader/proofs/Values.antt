@@ -6,9 +6,10 @@ use Rattle.incremental.specs.Decision.{accept, refuse}
 use Rattle.incremental.specs.Plan.{Answer, decided, wants}
 use Rattle.incremental.specs.declared.Refusal.{Refusal}
 use Rattle.reader.specs.declared.verdict.Acceptance.{Acceptance}
-use Rattle.reader.specs.declared.verdict.Verdict.{Verdict}
-use Rattle.reader.specs.declared.verdict.Verdict.TheVariants.{Accepted, Refused, Wanted}
 use Rattle.reader.specs.Verdict.{Acceptable, Values, values_of, answer_values, accepted_values, refused_values, wanted_values}
+use Rattle.std.specs.Prelude.{Err, Ok, Result}
+use Rattle.incremental.specs.declared.Stop.TheVariants.{Refused, Wanted}
+use Rattle.incremental.specs.declared.Stop.{Stop}
 
 -- an acceptance is made exactly where the checks make it
 pub accepted_answer : (y : Answer Acceptable) (a : Acceptance) → accepted_values a ≡ answer_values y
@@ -34,15 +35,15 @@ wanted_answer (decided (refuse r)) k e = absurd (omega (arith, ap (λ (w : Value
 wanted_answer (wants j) k e = ap wants (sym (ap (λ (w : Values). w.wanted) e))
 
 -- the verdict that has these values
-abbrev verdict_by : ℕ → Values → Verdict
-verdict_by zero x = Accepted x.fields
-verdict_by (suc zero) x = Refused (record { number = x.number; index = x.index; offset = x.offset })
-verdict_by (suc (suc k)) x = Wanted x.wanted
+abbrev verdict_by : ℕ → Values → Result Acceptance Stop
+verdict_by zero x = Ok x.fields
+verdict_by (suc zero) x = Err (Err (Err (Err (Err (Err (Err (Err (Err (Err (Err (Err (Err (Err (Err (Err (Err (Err (Err (Err (Err (Err (Err (Err (Err (Err (Err (Err (Err (Err (Err (Err (Err (Err (Err (Err (Err (Err (Err (Err (Err (Err (Err (Err (Err (Err (Err (Err (Err (Err (Err (Err (Err (Err (Err (Err (Err (Err (Err (Err (Err (Err (Err (Err (Err (Err (Err (Err (Err (Err (Err (Err (Err (Err (Err (Err (Err (Err (Err (Err (Err (Err (Err (Err (Err (Err (Err (Err (Err (Err (Err (Err (Err (Err (Err (Err (Err (Err (Err (Err (Err (Err (Err (Err (Err (Err (Err (Err (Err (Err (Err (Err (Err (Err (Err (Err (Err (Err (Err (Err (Err (Err (Err (Err (Err (Err (Err (Err (Err (Err (Err (Err (Err (Err (Err (Err (Err (Err (Err (Err (Err (Err (Err (Err (Err (Err (Err (Err (Err (Err (Err (Err (Err (Err (Err (Err (Err (Err (Err (Err (Err (Err (Err (Err (Err (Err (Err (Err (Err (Err (Err (Err (Err (Err (Err (Err (Err (Err (Err (Err (Err (Err (Err (Err (Err (Err (Err (Err (Err (Err (Err (Err (Err (Err (Err (Err (Err (Err (Err (Err (Refused (record { number = x.number; index = x.index; offset = x.offset })))))))))))))))))))))))))))))))))))))))))))))))))))))))))))))))))))))))))))))))))))))))))))))))))))))))))))))))))))))))))))))))))))))))))))))))))))))))))))))))))))))))))))))))))))))))))))))))))))))))))
+verdict_by (suc (suc k)) x = Err (Err (Err (Err (Err (Err (Err (Err (Err (Err (Err (Err (Err (Err (Err (Err (Err (Err (Err (Err (Err (Err (Err (Err (Err (Err (Err (Err (Err (Err (Err (Err (Err (Err (Err (Err (Err (Err (Err (Err (Err (Err (Err (Err (Err (Err (Err (Err (Err (Err (Err (Err (Err (Err (Err (Err (Err (Err (Err (Err (Err (Err (Err (Err (Err (Err (Err (Err (Err (Err (Err (Err (Err (Err (Err (Err (Err (Err (Err (Err (Err (Err (Err (Err (Err (Err (Err (Err (Err (Err (Err (Err (Err (Err (Err (Err (Err (Err (Err (Err (Err (Err (Err (Err (Err (Err (Err (Err (Err (Err (Err (Err (Err (Err (Err (Err (Err (Err (Err (Err (Err (Err (Err (Err (Err (Err (Err (Err (Err (Err (Err (Err (Err (Err (Err (Err (Err (Err (Err (Err (Err (Err (Err (Err (Err (Err (Err (Err (Err (Err (Err (Err (Err (Err (Err (Err (Err (Err (Err (Err (Err (Err (Err (Err (Err (Err (Err (Err (Err (Err (Err (Err (Err (Err (Err (Err (Err (Err (Err (Err (Err (Err (Err (Err (Err (Err (Err (Err (Err (Err (Err (Err (Err (Err (Err (Err (Err (Err (Err (Err (Wanted x.wanted))))))))))))))))))))))))))))))))))))))))))))))))))))))))))))))))))))))))))))))))))))))))))))))))))))))))))))))))))))))))))))))))))))))))))))))))))))))))))))))))))))))))))))))))))))))))))))))))))))))))
 
-values_back : (v : Verdict) → verdict_by (values_of v).kind (values_of v) ≡ v
-values_back (Accepted a) = refl
-values_back (Refused r) = refl
-values_back (Wanted k) = refl
+values_back : (v : Result Acceptance Stop) → verdict_by (values_of v).kind (values_of v) ≡ v
+values_back (Ok a) = refl
+values_back (Err (Err (Err (Err (Err (Err (Err (Err (Err (Err (Err (Err (Err (Err (Err (Err (Err (Err (Err (Err (Err (Err (Err (Err (Err (Err (Err (Err (Err (Err (Err (Err (Err (Err (Err (Err (Err (Err (Err (Err (Err (Err (Err (Err (Err (Err (Err (Err (Err (Err (Err (Err (Err (Err (Err (Err (Err (Err (Err (Err (Err (Err (Err (Err (Err (Err (Err (Err (Err (Err (Err (Err (Err (Err (Err (Err (Err (Err (Err (Err (Err (Err (Err (Err (Err (Err (Err (Err (Err (Err (Err (Err (Err (Err (Err (Err (Err (Err (Err (Err (Err (Err (Err (Err (Err (Err (Err (Err (Err (Err (Err (Err (Err (Err (Err (Err (Err (Err (Err (Err (Err (Err (Err (Err (Err (Err (Err (Err (Err (Err (Err (Err (Err (Err (Err (Err (Err (Err (Err (Err (Err (Err (Err (Err (Err (Err (Err (Err (Err (Err (Err (Err (Err (Err (Err (Err (Err (Err (Err (Err (Err (Err (Err (Err (Err (Err (Err (Err (Err (Err (Err (Err (Err (Err (Err (Err (Err (Err (Err (Err (Err (Err (Err (Err (Err (Err (Err (Err (Err (Err (Err (Err (Err (Err (Err (Err (Err (Err (Err (Err (Refused r))))))))))))))))))))))))))))))))))))))))))))))))))))))))))))))))))))))))))))))))))))))))))))))))))))))))))))))))))))))))))))))))))))))))))))))))))))))))))))))))))))))))))))))))))))))))))))))))))))))))) = refl
+values_back (Err (Err (Err (Err (Err (Err (Err (Err (Err (Err (Err (Err (Err (Err (Err (Err (Err (Err (Err (Err (Err (Err (Err (Err (Err (Err (Err (Err (Err (Err (Err (Err (Err (Err (Err (Err (Err (Err (Err (Err (Err (Err (Err (Err (Err (Err (Err (Err (Err (Err (Err (Err (Err (Err (Err (Err (Err (Err (Err (Err (Err (Err (Err (Err (Err (Err (Err (Err (Err (Err (Err (Err (Err (Err (Err (Err (Err (Err (Err (Err (Err (Err (Err (Err (Err (Err (Err (Err (Err (Err (Err (Err (Err (Err (Err (Err (Err (Err (Err (Err (Err (Err (Err (Err (Err (Err (Err (Err (Err (Err (Err (Err (Err (Err (Err (Err (Err (Err (Err (Err (Err (Err (Err (Err (Err (Err (Err (Err (Err (Err (Err (Err (Err (Err (Err (Err (Err (Err (Err (Err (Err (Err (Err (Err (Err (Err (Err (Err (Err (Err (Err (Err (Err (Err (Err (Err (Err (Err (Err (Err (Err (Err (Err (Err (Err (Err (Err (Err (Err (Err (Err (Err (Err (Err (Err (Err (Err (Err (Err (Err (Err (Err (Err (Err (Err (Err (Err (Err (Err (Err (Err (Err (Err (Err (Err (Err (Err (Err (Err (Err (Wanted k))))))))))))))))))))))))))))))))))))))))))))))))))))))))))))))))))))))))))))))))))))))))))))))))))))))))))))))))))))))))))))))))))))))))))))))))))))))))))))))))))))))))))))))))))))))))))))))))))))))))) = refl
 
-pub same_values : (v w : Verdict) → values_of v ≡ values_of w → v ≡ w
+pub same_values : (v w : Result Acceptance Stop) → values_of v ≡ values_of w → v ≡ w
 same_values v w e = sym (values_back v) ∙ ap (λ (x : Values). verdict_by x.kind x) e ∙ values_back w

@@ -1,10 +1,8 @@
 -- DEMAND 2: a file is accepted exactly when document 01's layout allows it, and then every field is the one that layout gives.
 use Rattle.std.specs.Prelude.{◌≡◌, List, ◌⊎◌, ℕ, ◌*◌, ◌≤◌, ◌<◌, length}
-use Rattle.std.proofs.Math.Option.{some}
 use Rattle.little_endian.specs.Number.{le}
 use Rattle.layout.specs.Versions.{version_of, layout_of, head_end, volume_entry, size_limit}
 use Rattle.layout.specs.Head.{version_at, signature_at}
-use Rattle.layout.specs.declared.KnownVersion.TheVariants.{Known}
 use Rattle.sections.specs.Fields.{declared_size, form_in, link_count, head_of, part}
 use Rattle.head.specs.Rules.{NameEnds, Inside, Apart}
 use Rattle.head.specs.declared.checks.Opening.{Opening}
@@ -13,14 +11,14 @@ use Rattle.trace.specs.Links.{end, after, Cyclic, chains, predecessors}
 use Rattle.volumes.specs.Volumes.{entry_at}
 use Rattle.volumes.specs.SoundVolume.{SoundVolume}
 use Rattle.reader.specs.declared.verdict.Acceptance.{Acceptance}
-use Rattle.reader.specs.declared.verdict.Verdict.{Verdict}
-use Rattle.reader.specs.declared.verdict.Verdict.TheVariants.{Accepted}
 use Rattle.reader.specs.Checks.{nexts_in, record_of}
+use Rattle.std.specs.Prelude.{Ok, Result, Some}
+use Rattle.incremental.specs.declared.Stop.{Stop}
 
 -- what the layout allows of the bytes `p`: the version, its constants, the name's length and the sections are those of `o`
 pub record Allowed (p : List ℕ) (o : Opening) : Type 0 where
   -- 1: the version is 17, 23, 26 or 30
-  pub version : version_of (le 4 p version_at) ≡ Known o.version
+  pub version : version_of (le 4 p version_at) ≡ Some o.version
   -- 2: the signature is 53 43 43 41
   pub signature : le 4 p signature_at ≡ 0x41434353
   -- 3: S is neither below H nor above 67,108,864
@@ -31,7 +29,7 @@ pub record Allowed (p : List ℕ) (o : Opening) : Type 0 where
   -- 4: the name ends within its 30 units
   pub name : NameEnds p o.name_units
   -- 21: the head form is known, and S is not below its H; a version with one form has that one
-  pub form : form_in (layout_of o.version) p ≡ some o.layout
+  pub form : form_in (layout_of o.version) p ≡ Some o.layout
   -- 5: no section of nonzero length starts before H or ends after S
   pub sections : o.head ≡ head_of o.layout p
   pub inside : Inside o.layout o.head
@@ -61,10 +59,10 @@ abbrev pub given_table : Opening → List ℕ → ℕ → List ℕ
 given_table o p m = predecessors (nexts_in o p) m
 
 -- what the whole-file reader's verdict says of the layout
-pub record AcceptedExactly (p buffer : List ℕ) (v : Verdict) (after : List ℕ) : Type 0 where
+pub record AcceptedExactly (p buffer : List ℕ) (v : Result Acceptance Stop) (after : List ℕ) : Type 0 where
   -- what is accepted is allowed, has a working place for each trace entry that has a next index, and every field and place is the one that the layout gives
-  pub sound : (a : Acceptance) → v ≡ Accepted a
+  pub sound : (a : Acceptance) → v ≡ Ok a
       → (o : Opening) × Allowed p o × (link_count o.layout o.head ≤ length buffer) × (a ≡ given_record o p) × (after ≡ given_table o p (length buffer))
   -- what is allowed is accepted, with a working place for each trace entry that has a next index
   pub complete : (o : Opening) → Allowed p o → link_count o.layout o.head ≤ length buffer
-      → (v ≡ Accepted (given_record o p)) × (after ≡ given_table o p (length buffer))
+      → (v ≡ Ok (given_record o p)) × (after ≡ given_table o p (length buffer))

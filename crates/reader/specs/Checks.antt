@@ -19,10 +19,10 @@ use Rattle.trace.specs.Links as links
 use Rattle.volumes.specs.Volumes.{volumes_from}
 use Rattle.reader.specs.declared.verdict.RunTimes.{RunTimes}
 use Rattle.reader.specs.declared.verdict.Acceptance.{Acceptance}
-use Rattle.reader.specs.declared.verdict.Verdict.{Verdict}
-use Rattle.reader.specs.declared.verdict.FileVerdict.{FileVerdict}
-use Rattle.reader.specs.declared.verdict.FileVerdict.TheVariants.{Accepted}
 use Rattle.reader.specs.Verdict.{Acceptable, Reads, verdict_in}
+use Rattle.std.specs.Prelude.{Ok, Result}
+use Rattle.incremental.specs.declared.Refusal.{Refusal}
+use Rattle.incremental.specs.declared.Stop.{Stop}
 
 -- the reach of 10: the greater of metrics end and strings end; with no metrics entry H
 abbrev pub names_required : Layout → Head → ℕ
@@ -167,13 +167,13 @@ abbrev pub file_answer : List ℕ → ℕ → Answer Acceptable
 file_answer p m = whole (length p) (prefix_answer p m)
 
 -- THE PROMISES of the two readers on bytes `p` and a working buffer, whatever it holds: the verdict, and the buffer afterwards
-abbrev pub ReadsPrefix : List ℕ → List ℕ → Verdict → List ℕ → Type 0
+abbrev pub ReadsPrefix : List ℕ → List ℕ → Result Acceptance Stop → List ℕ → Type 0
 ReadsPrefix p buffer v after = Reads (prefix_answer p (length buffer)) (length buffer) v after
 
-abbrev pub ReadsFile : List ℕ → List ℕ → Verdict → List ℕ → Type 0
+abbrev pub ReadsFile : List ℕ → List ℕ → Result Acceptance Stop → List ℕ → Type 0
 ReadsFile p buffer v after = Reads (file_answer p (length buffer)) (length buffer) v after
 
 -- and of the whole-file reader that hands the opening on: an acceptance comes with what checks 1 to 6 give
-pub record ReadsOpened (p buffer : List ℕ) (r : FileVerdict) (after : List ℕ) : Type 0 where
+pub record ReadsOpened (p buffer : List ℕ) (r : Result (Acceptance × Opening) Refusal) (after : List ℕ) : Type 0 where
   pub reads : ReadsFile p buffer (verdict_in r) after
-  pub opens : (a : Acceptance) (o : Opening) → r ≡ Accepted a o → run open_plan p ≡ decided (accept o)
+  pub opens : (a : Acceptance) (o : Opening) → r ≡ Ok (a, o) → run open_plan p ≡ decided (accept o)

@@ -6,10 +6,10 @@ use Rattle.incremental.specs.Plan.{Answer, decided, wants}
 use Rattle.lists.specs.Filled.{filled}
 use Rattle.reader.specs.declared.verdict.RunTimes.{RunTimes}
 use Rattle.reader.specs.declared.verdict.Acceptance.{Acceptance}
-use Rattle.reader.specs.declared.verdict.Verdict.{Verdict}
-use Rattle.reader.specs.declared.verdict.Verdict.TheVariants.{Accepted, Refused, Wanted}
-use Rattle.reader.specs.declared.verdict.FileVerdict.{FileVerdict}
-use Rattle.reader.specs.declared.verdict.FileVerdict.TheVariants as file
+use Rattle.std.specs.Prelude.{Err, Ok, Result}
+use Rattle.head.specs.declared.checks.Opening.{Opening}
+use Rattle.incremental.specs.declared.Stop.TheVariants.{Refused, Wanted}
+use Rattle.incremental.specs.declared.Stop.{Stop}
 
 -- what all checks give: the acceptance record, and the table of predecessors
 pub record Acceptable : Type 0 where
@@ -55,15 +55,15 @@ abbrev pub wanted_values : ℕ → Values
 wanted_values k = record { kind = 2; number = 0; index = 0; offset = 0; wanted = k; fields = no_record }
 
 -- what each case of the verdict says
-abbrev pub values_of : Verdict → Values
-values_of (Accepted a) = accepted_values a
-values_of (Refused r) = refused_values r
-values_of (Wanted k) = wanted_values k
+abbrev pub values_of : Result Acceptance Stop → Values
+values_of (Ok a) = accepted_values a
+values_of (Err (Err (Err (Err (Err (Err (Err (Err (Err (Err (Err (Err (Err (Err (Err (Err (Err (Err (Err (Err (Err (Err (Err (Err (Err (Err (Err (Err (Err (Err (Err (Err (Err (Err (Err (Err (Err (Err (Err (Err (Err (Err (Err (Err (Err (Err (Err (Err (Err (Err (Err (Err (Err (Err (Err (Err (Err (Err (Err (Err (Err (Err (Err (Err (Err (Err (Err (Err (Err (Err (Err (Err (Err (Err (Err (Err (Err (Err (Err (Err (Err (Err (Err (Err (Err (Err (Err (Err (Err (Err (Err (Err (Err (Err (Err (Err (Err (Err (Err (Err (Err (Err (Err (Err (Err (Err (Err (Err (Err (Err (Err (Err (Err (Err (Err (Err (Err (Err (Err (Err (Err (Err (Err (Err (Err (Err (Err (Err (Err (Err (Err (Err (Err (Err (Err (Err (Err (Err (Err (Err (Err (Err (Err (Err (Err (Err (Err (Err (Err (Err (Err (Err (Err (Err (Err (Err (Err (Err (Err (Err (Err (Err (Err (Err (Err (Err (Err (Err (Err (Err (Err (Err (Err (Err (Err (Err (Err (Err (Err (Err (Err (Err (Err (Err (Err (Err (Err (Err (Err (Err (Err (Err (Err (Err (Err (Err (Err (Err (Err (Err (Refused r))))))))))))))))))))))))))))))))))))))))))))))))))))))))))))))))))))))))))))))))))))))))))))))))))))))))))))))))))))))))))))))))))))))))))))))))))))))))))))))))))))))))))))))))))))))))))))))))))))))))) = refused_values r
+values_of (Err (Err (Err (Err (Err (Err (Err (Err (Err (Err (Err (Err (Err (Err (Err (Err (Err (Err (Err (Err (Err (Err (Err (Err (Err (Err (Err (Err (Err (Err (Err (Err (Err (Err (Err (Err (Err (Err (Err (Err (Err (Err (Err (Err (Err (Err (Err (Err (Err (Err (Err (Err (Err (Err (Err (Err (Err (Err (Err (Err (Err (Err (Err (Err (Err (Err (Err (Err (Err (Err (Err (Err (Err (Err (Err (Err (Err (Err (Err (Err (Err (Err (Err (Err (Err (Err (Err (Err (Err (Err (Err (Err (Err (Err (Err (Err (Err (Err (Err (Err (Err (Err (Err (Err (Err (Err (Err (Err (Err (Err (Err (Err (Err (Err (Err (Err (Err (Err (Err (Err (Err (Err (Err (Err (Err (Err (Err (Err (Err (Err (Err (Err (Err (Err (Err (Err (Err (Err (Err (Err (Err (Err (Err (Err (Err (Err (Err (Err (Err (Err (Err (Err (Err (Err (Err (Err (Err (Err (Err (Err (Err (Err (Err (Err (Err (Err (Err (Err (Err (Err (Err (Err (Err (Err (Err (Err (Err (Err (Err (Err (Err (Err (Err (Err (Err (Err (Err (Err (Err (Err (Err (Err (Err (Err (Err (Err (Err (Err (Err (Err (Wanted k))))))))))))))))))))))))))))))))))))))))))))))))))))))))))))))))))))))))))))))))))))))))))))))))))))))))))))))))))))))))))))))))))))))))))))))))))))))))))))))))))))))))))))))))))))))))))))))))))))))))) = wanted_values k
 
 -- the verdict that each case of the whole-file reader's says; an acceptance there has what checks 1 to 6 gave beside it
-abbrev pub verdict_in : FileVerdict → Verdict
-verdict_in (file.Accepted a o) = Accepted a
-verdict_in (file.Refused r) = Refused r
+abbrev pub verdict_in : Result (Acceptance × Opening) Refusal → Result Acceptance Stop
+verdict_in (Ok (a, o)) = Ok a
+verdict_in (Err r) = Err (Err (Err (Err (Err (Err (Err (Err (Err (Err (Err (Err (Err (Err (Err (Err (Err (Err (Err (Err (Err (Err (Err (Err (Err (Err (Err (Err (Err (Err (Err (Err (Err (Err (Err (Err (Err (Err (Err (Err (Err (Err (Err (Err (Err (Err (Err (Err (Err (Err (Err (Err (Err (Err (Err (Err (Err (Err (Err (Err (Err (Err (Err (Err (Err (Err (Err (Err (Err (Err (Err (Err (Err (Err (Err (Err (Err (Err (Err (Err (Err (Err (Err (Err (Err (Err (Err (Err (Err (Err (Err (Err (Err (Err (Err (Err (Err (Err (Err (Err (Err (Err (Err (Err (Err (Err (Err (Err (Err (Err (Err (Err (Err (Err (Err (Err (Err (Err (Err (Err (Err (Err (Err (Err (Err (Err (Err (Err (Err (Err (Err (Err (Err (Err (Err (Err (Err (Err (Err (Err (Err (Err (Err (Err (Err (Err (Err (Err (Err (Err (Err (Err (Err (Err (Err (Err (Err (Err (Err (Err (Err (Err (Err (Err (Err (Err (Err (Err (Err (Err (Err (Err (Err (Err (Err (Err (Err (Err (Err (Err (Err (Err (Err (Err (Err (Err (Err (Err (Err (Err (Err (Err (Err (Err (Err (Err (Err (Err (Err (Refused r)))))))))))))))))))))))))))))))))))))))))))))))))))))))))))))))))))))))))))))))))))))))))))))))))))))))))))))))))))))))))))))))))))))))))))))))))))))))))))))))))))))))))))))))))))))))))))))))))))))))
 
 -- what the checks say
 abbrev pub answer_values : Answer Acceptable → Values
@@ -78,6 +78,6 @@ buffer_after (decided (refuse r)) m = filled m
 buffer_after (wants k) m = filled m
 
 -- THE PROMISE of a reader whose checks answer so: its verdict, and the working buffer of m places afterwards
-pub record Reads (answer : Answer Acceptable) (m : ℕ) (v : Verdict) (after : List ℕ) : Type 0 where
+pub record Reads (answer : Answer Acceptable) (m : ℕ) (v : Result Acceptance Stop) (after : List ℕ) : Type 0 where
   pub verdict : values_of v ≡ answer_values answer
   pub buffer : after ≡ buffer_after answer m

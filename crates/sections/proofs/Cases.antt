@@ -13,42 +13,39 @@ use Rattle.lists.specs.Count.{pick, any_below}
 use Rattle.lists.proofs.Count.{any_more}
 use Rattle.lists.proofs.Tests.{by_test}
 use Rattle.lists.specs.First.{first_from}
-use Rattle.lists.specs.declared.Found.{Found}
-use Rattle.lists.specs.declared.Found.TheVariants as found
 use Rattle.little_endian.specs.Number.{le}
 use Rattle.layout.specs.Versions.{size_limit, head_end, metrics_entry, trace_entry, has_next, form_required, forms, form_at, form_said}
 use Rattle.layout.specs.declared.Layout.{Layout}
-use Rattle.layout.specs.declared.KnownForm.{KnownForm}
-use Rattle.layout.specs.declared.KnownForm.TheVariants as known
 use Rattle.incremental.specs.Decision.{fault_of}
-use Rattle.incremental.specs.declared.Fault.{Fault}
-use Rattle.incremental.specs.declared.Fault.TheVariants.{At, Nowhere}
 use Rattle.sections.specs.declared.Section.{Section}
 use Rattle.sections.specs.declared.Head.{Head}
 use Rattle.sections.specs.Fields.{signature_fault, size_fault, room_for, form_in, link_count, section_of, head_of, size_in, outside}
 use Rattle.sections.specs.Fields.{offset_field_at, shares, numbered, outside_fault, overlap_fault, places_fault, entries_fault}
+use Rattle.incremental.specs.declared.Fault.{Fault}
+use Rattle.std.specs.Prelude.{None, Option, Some}
+use Rattle.incremental.specs.Decision.{fault}
 
 -- the first section that fails a test
-pub pick_hit : (t r : Bool) (x a b : Fault) → r ≡ t → r ≡ true → x ≡ a → x ≡ pick t a b
+pub pick_hit : (t r : Bool) (x a b : Option Fault) → r ≡ t → r ≡ true → x ≡ a → x ≡ pick t a b
 pick_hit t r x a b p q e = rw (sym p ∙ q) e
 
-pub pick_miss : (t r : Bool) (x a b : Fault) → r ≡ t → r ≡ false → x ≡ b → x ≡ pick t a b
+pub pick_miss : (t r : Bool) (x a b : Option Fault) → r ≡ t → r ≡ false → x ≡ b → x ≡ pick t a b
 pick_miss t r x a b p q e = rw (sym p ∙ q) e
 
 pub ruleset picks = (pick_hit, pick_miss)
 
-fault_pick : (at : ℕ → ℕ) (b : Bool) (f g : Found) → fault_of at (pick b f g) ≡ pick b (fault_of at f) (fault_of at g)
+fault_pick : (at : ℕ → ℕ) (b : Bool) (f g : Option ℕ) → fault_of at (pick b f g) ≡ pick b (fault_of at f) (fault_of at g)
 fault_pick at true f g = refl
 fault_pick at false f g = refl
 
 -- 5 by sections, in the order in which the code looks at them
-abbrev pub outside_in_turn : Layout → Head → Fault
+abbrev pub outside_in_turn : Layout → Head → Option Fault
 outside_in_turn l h =
-    pick (outside (head_end l) (size_in h) h.metrics) (At 1 84)
-    (pick (outside (head_end l) (size_in h) h.trace) (At 2 92)
-    (pick (outside (head_end l) (size_in h) h.strings) (At 3 100)
-    (pick (outside (head_end l) (size_in h) h.volumes) (At 4 108)
-    Nowhere)))
+    pick (outside (head_end l) (size_in h) h.metrics) (Some (fault 1 84))
+    (pick (outside (head_end l) (size_in h) h.trace) (Some (fault 2 92))
+    (pick (outside (head_end l) (size_in h) h.strings) (Some (fault 3 100))
+    (pick (outside (head_end l) (size_in h) h.volumes) (Some (fault 4 108))
+    None)))
 
 pub in_turn : (l : Layout) (h : Head) → outside_fault l h ≡ outside_in_turn l h
 unfolding outside_fault first_from
@@ -56,23 +53,23 @@ in_turn l h =
     let o : Section → Bool = λ s. outside (head_end l) (size_in h) s in
     go (o h.metrics) (o h.trace) (o h.strings) (o h.volumes)
   where
-    go : (a b c d : Bool) → fault_of offset_field_at (pick a (found.At 1) (pick b (found.At 2) (pick c (found.At 3) (pick d (found.At 4) found.Nothing))))
-        ≡ pick a (At 1 84) (pick b (At 2 92) (pick c (At 3 100) (pick d (At 4 108) Nowhere)))
+    go : (a b c d : Bool) → fault_of offset_field_at (pick a (Some 1) (pick b (Some 2) (pick c (Some 3) (pick d (Some 4) None))))
+        ≡ pick a (Some (fault 1 84)) (pick b (Some (fault 2 92)) (pick c (Some (fault 3 100)) (pick d (Some (fault 4 108)) None)))
     go a b c d = simp fault_pick
 
-pub by_sections : (l : Layout) (h : Head) (r : Fault) → r ≡ outside_in_turn l h → r ≡ outside_fault l h
+pub by_sections : (l : Layout) (h : Head) (r : Option Fault) → r ≡ outside_in_turn l h → r ≡ outside_fault l h
 by_sections l h r e = e ∙ sym (in_turn l h)
 
 -- 6 by pairs of sections, in the order in which the code compares them
-abbrev pub shared_pairs : Head → Fault
+abbrev pub shared_pairs : Head → Option Fault
 shared_pairs h =
-    pick (shares h.metrics h.trace) (At 2 92)
-    (pick (shares h.metrics h.strings) (At 3 100)
-    (pick (shares h.trace h.strings) (At 3 100)
-    (pick (shares h.metrics h.volumes) (At 4 108)
-    (pick (shares h.trace h.volumes) (At 4 108)
-    (pick (shares h.strings h.volumes) (At 4 108)
-    Nowhere)))))
+    pick (shares h.metrics h.trace) (Some (fault 2 92))
+    (pick (shares h.metrics h.strings) (Some (fault 3 100))
+    (pick (shares h.trace h.strings) (Some (fault 3 100))
+    (pick (shares h.metrics h.volumes) (Some (fault 4 108))
+    (pick (shares h.trace h.volumes) (Some (fault 4 108))
+    (pick (shares h.strings h.volumes) (Some (fault 4 108))
+    None)))))
 
 pick-or : {A : Type 0} (a b : Bool) (x y : A) → pick (a || b) x y ≡ pick a x (pick b x y)
 pick-or true b x y = refl
@@ -98,50 +95,50 @@ pairs_are h =
     rw (some-none (with h.metrics), some_one (with h.trace), some_two (with h.strings), some_three (with h.volumes))
     (simp (fault_pick, pick-or))
 
-pub by_pairs : (h : Head) (r : Fault) → r ≡ shared_pairs h → r ≡ overlap_fault h
+pub by_pairs : (h : Head) (r : Option Fault) → r ≡ shared_pairs h → r ≡ overlap_fault h
 by_pairs h r e = e ∙ sym (pairs_are h)
 
 -- 2
-pub signature_right : (b : List ℕ) (r : ℕ) → r ≡ le 4 b 4 → r ≡ 0x41434353 → Nowhere ≡ signature_fault b
+pub signature_right : (b : List ℕ) (r : ℕ) → r ≡ le 4 b 4 → r ≡ 0x41434353 → None ≡ signature_fault b
 unfolding signature_fault
 signature_right b r e q = rw (eq-eqb _ _ (sym e ∙ q))
 
-pub signature_wrong : (b : List ℕ) (r : ℕ) → r ≡ le 4 b 4 → (r ≡ 0x41434353 → ⊥) → At 0 4 ≡ signature_fault b
+pub signature_wrong : (b : List ℕ) (r : ℕ) → r ≡ le 4 b 4 → (r ≡ 0x41434353 → ⊥) → Some (fault 0 4) ≡ signature_fault b
 unfolding signature_fault
 signature_wrong b r e q = rw (ne_eqb _ _ (λ h. q (e ∙ h)))
 
 -- 3
-pub size_low : (l : Layout) (b : List ℕ) (r : ℕ) → r ≡ le 4 b 12 → r < head_end l → At 0 12 ≡ size_fault l b
+pub size_low : (l : Layout) (b : List ℕ) (r : ℕ) → r ≡ le 4 b 12 → r < head_end l → Some (fault 0 12) ≡ size_fault l b
 unfolding size_fault
 size_low l b r e h = rw (← e, lt-ltb _ _ h)
 
-pub size_high : (l : Layout) (b : List ℕ) (r : ℕ) → r ≡ le 4 b 12 → head_end l ≤ r → size_limit < r → At 0 12 ≡ size_fault l b
+pub size_high : (l : Layout) (b : List ℕ) (r : ℕ) → r ≡ le 4 b 12 → head_end l ≤ r → size_limit < r → Some (fault 0 12) ≡ size_fault l b
 unfolding size_fault
 size_high l b r e h k = rw (← e, le-ltb _ _ h, lt-ltb _ _ k)
 
-pub size_right : (l : Layout) (b : List ℕ) (r : ℕ) → r ≡ le 4 b 12 → head_end l ≤ r → r ≤ size_limit → Nowhere ≡ size_fault l b
+pub size_right : (l : Layout) (b : List ℕ) (r : ℕ) → r ≡ le 4 b 12 → head_end l ≤ r → r ≤ size_limit → None ≡ size_fault l b
 unfolding size_fault
 size_right l b r e h k = rw (← e, le-ltb _ _ h, le-ltb _ _ k)
 
 -- 21: `k` is the form that a call found for the start that another read
-pub form_one : (l : Layout) (b : List ℕ) → form_required l ≡ 0 → form_said (known.Known l) ≡ form_in l b
+pub form_one : (l : Layout) (b : List ℕ) → form_required l ≡ 0 → form_said (Some l) ≡ form_in l b
 unfolding form_in
 form_one l b h = rw (eq-eqb _ _ h)
 
-module _ (l : Layout) (b : List ℕ) (start : ℕ) (k : KnownForm) (several : form_required l ≡ 0 → ⊥) (e : start ≡ le 4 b 84)
+module _ (l : Layout) (b : List ℕ) (start : ℕ) (k : Option Layout) (several : form_required l ≡ 0 → ⊥) (e : start ≡ le 4 b 84)
     (said : form_said k ≡ form_at start forms) where
-  form_known : (x : KnownForm) → k ≡ x → form_in l b ≡ room_for (le 4 b 12) (form_said x)
+  form_known : (x : Option Layout) → k ≡ x → form_in l b ≡ room_for (le 4 b 12) (form_said x)
   unfolding form_in
   form_known x q = rw (ne_eqb _ _ several, ← e, ← said, q)
 
-  pub form_unknown : k ≡ known.Unknown → form_said known.Unknown ≡ form_in l b
+  pub form_unknown : k ≡ None → form_said None ≡ form_in l b
   form_unknown q = sym (form_known _ q)
 
-  module _ (f : Layout) (q : k ≡ known.Known f) (r : ℕ) (size : r ≡ le 4 b 12) where
-    pub form_short : r < head_end f → form_said known.Unknown ≡ form_in l b
+  module _ (f : Layout) (q : k ≡ Some f) (r : ℕ) (size : r ≡ le 4 b 12) where
+    pub form_short : r < head_end f → form_said None ≡ form_in l b
     form_short h = sym (form_known _ q ∙ rw (← size, lt-ltb _ _ h))
 
-    pub form_found : head_end f ≤ r → form_said (known.Known f) ≡ form_in l b
+    pub form_found : head_end f ≤ r → form_said (Some f) ≡ form_in l b
     form_found h = sym (form_known _ q ∙ rw (← size, le-ltb _ _ h))
 
 -- how many next indexes there are
@@ -161,28 +158,28 @@ links_low l h = by_test (has_next l) (λ e. rw e (le_refl _)) (λ e. rw e (omega
 pub ruleset looked = (form_one, form_unknown, form_short, form_found, links_all, links_none)
 
 -- 7 and 8
-pub places_few : (m n : ℕ) → m < n → At 0 96 ≡ places_fault m n
+pub places_few : (m n : ℕ) → m < n → Some (fault 0 96) ≡ places_fault m n
 unfolding places_fault
 places_few m n h = rw (lt-ltb m n h)
 
-pub places_enough : (m n : ℕ) → n ≤ m → Nowhere ≡ places_fault m n
+pub places_enough : (m n : ℕ) → n ≤ m → None ≡ places_fault m n
 unfolding places_fault
 places_enough m n h = rw (le-ltb m n h)
 
-pub entries_crowded : (count entry size : ℕ) → size < count * entry → At 0 112 ≡ entries_fault count entry size
+pub entries_crowded : (count entry size : ℕ) → size < count * entry → Some (fault 0 112) ≡ entries_fault count entry size
 unfolding entries_fault
 entries_crowded count entry size h = rw (lt-ltb size (count * entry) h)
 
-pub entries_fit : (count entry size : ℕ) → count * entry ≤ size → Nowhere ≡ entries_fault count entry size
+pub entries_fit : (count entry size : ℕ) → count * entry ≤ size → None ≡ entries_fault count entry size
 unfolding entries_fault
 entries_fit count entry size h = rw (le-ltb size (count * entry) h)
 
 -- what it means that 7 and 8 pass
-pub places_met : (m n : ℕ) (r : Fault) → r ≡ places_fault m n → r ≡ Nowhere → n ≤ m
+pub places_met : (m n : ℕ) (r : Option Fault) → r ≡ places_fault m n → r ≡ None → n ≤ m
 unfolding places_fault
 places_met m n r e q = ltb-false m n (fault_clear 0 _ _ (sym e ∙ q))
 
-pub entries_met : (count entry size : ℕ) (r : Fault) → r ≡ entries_fault count entry size → r ≡ Nowhere → count * entry ≤ size
+pub entries_met : (count entry size : ℕ) (r : Option Fault) → r ≡ entries_fault count entry size → r ≡ None → count * entry ≤ size
 unfolding entries_fault
 entries_met count entry size r e q = ltb-false size (count * entry) (fault_clear 0 _ _ (sym e ∙ q))
 

@@ -11,13 +11,12 @@ use lib.ListN.{length, take, length-take}
 use lib.Seq.{length-take-le, take-take}
 use borrow.Author.Tests.{lt-ltb, le-ltb, ltb-true, ltb-false}
 use Rattle.lists.specs.First.{first}
-use Rattle.lists.specs.declared.Found.{Found}
-use Rattle.lists.specs.declared.Found.TheVariants.{At, Nothing}
 use Rattle.lists.proofs.First.{first_at, first_is_at, first_is_nothing}
 use Rattle.lists.proofs.Tests.{by_test}
 use Rattle.little_endian.specs.Number.{le, zero_unit}
 use Rattle.little_endian.proofs.Number.{le-take}
 use Rattle.sections.specs.Fields.{name_units_in, name_end}
+use Rattle.std.specs.Prelude.{None, Option, Some}
 
 -- how many units lie whole in n bytes: fewer than 76 bytes have fewer than 30
 pub units-part : (n : ℕ) → n < 76 → (n - 16) / 2 ≡ name_units_in n
@@ -34,7 +33,7 @@ units-none n l = let e : n - 16 ≡ 0 = omega arith in rw (← units-part n (ome
 pub ruleset name_units_lem = (units-none, units-part, units-whole)
 
 -- the search over that many
-pub name_searched : (b : List ℕ) (n : ℕ) (r : Found) → n ≡ name_units_in (length b) → r ≡ first (λ i. zero_unit b (16 + 2 * i)) n → r ≡ name_end b
+pub name_searched : (b : List ℕ) (n : ℕ) (r : Option ℕ) → n ≡ name_units_in (length b) → r ≡ first (λ i. zero_unit b (16 + 2 * i)) n → r ≡ name_end b
 unfolding name_end
 name_searched b n r e q = rw (← e) q
 
@@ -52,17 +51,17 @@ pub record EndsAt (b : List ℕ) (k : ℕ) : Type 0 where
   pub zero_unit_lem : zero_unit b (16 + 2 * k) ≡ true
   pub before : (j : ℕ) → j < k → zero_unit b (16 + 2 * j) ≡ false
 
-pub ends_at : (b : List ℕ) (k : ℕ) → (name_end b ≡ At k) ↔ EndsAt b k
+pub ends_at : (b : List ℕ) (k : ℕ) → (name_end b ≡ Some k) ↔ EndsAt b k
 unfolding name_end
 ends_at b k = (there, back)
   where
-    there : name_end b ≡ At k → EndsAt b k
+    there : name_end b ≡ Some k → EndsAt b k
     there e =
         let r = first_at (λ i. zero_unit b (16 + 2 * i)) (name_units_in (length b)) 0 k e in
         let u = (units_in (length b) k).0 (omega (arith, r.1)) in
         record { short = u.0; whole = u.1; zero_unit_lem = r.2; before = λ j l. r.3 j (omega arith) l }
 
-    back : EndsAt b k → name_end b ≡ At k
+    back : EndsAt b k → name_end b ≡ Some k
     back q = first_is_at (λ i. zero_unit b (16 + 2 * i)) (name_units_in (length b)) k ((units_in (length b) k).1 (q.short, q.whole)) q.zero_unit_lem q.before
 
 -- bytes that agree up to the end of unit k
@@ -82,17 +81,17 @@ ends_same b c k e q =
     }
 
 -- THE SEARCH STOPS at the first zero unit: what lies behind it changes no answer
-pub name_behind : (b c : List ℕ) (k : ℕ) → take (18 + 2 * k) b ≡ take (18 + 2 * k) c → name_end b ≡ At k → name_end c ≡ At k
+pub name_behind : (b c : List ℕ) (k : ℕ) → take (18 + 2 * k) b ≡ take (18 + 2 * k) c → name_end b ≡ Some k → name_end c ≡ Some k
 name_behind b c k e h = (ends_at c k).1 (ends_same b c k e ((ends_at b k).0 h))
 
 -- the whole name ends at k exactly when its first k + 1 units do
-pub name_part : (b : List ℕ) (k : ℕ) → (name_end b ≡ At k) ↔ (name_end (take (18 + 2 * k) b) ≡ At k)
+pub name_part : (b : List ℕ) (k : ℕ) → (name_end b ≡ Some k) ↔ (name_end (take (18 + 2 * k) b) ≡ Some k)
 name_part b k =
     let e : take (18 + 2 * k) (take (18 + 2 * k) b) ≡ take (18 + 2 * k) b = take-take (18 + 2 * k) (18 + 2 * k) b (omega arith) in
     (name_behind b (take (18 + 2 * k) b) k (sym e), name_behind (take (18 + 2 * k) b) b k e)
 
 -- a part without a zero unit gives none
-pub name_none : (b : List ℕ) → ((k : ℕ) → k < 30 → 18 + 2 * k ≤ length b → zero_unit b (16 + 2 * k) ≡ false) → name_end b ≡ Nothing
+pub name_none : (b : List ℕ) → ((k : ℕ) → k < 30 → 18 + 2 * k ≤ length b → zero_unit b (16 + 2 * k) ≡ false) → name_end b ≡ None
 unfolding name_end
 name_none b h = first_is_nothing _ (name_units_in (length b)) (λ k l. let u = (units_in (length b) k).0 l in h k u.0 u.1)
 

@@ -1,22 +1,21 @@
 -- The head's fields and sections, and what each of checks 2 to 8 finds wrong in them (document 01, "Head" and rows 2 to 8; request 107,
 -- 21), with the file offset of the field at fault (request 103).
 use Rattle.std.specs.Prelude.{List, Bool, ◌&&◌, ◌||◌, not, ℕ, ◌+◌, ◌-◌, ◌*◌, ◌/◌, eqb, ltb, length, take, drop}
-use Rattle.std.proofs.Math.Option.{Option, some as form, none}
 use Rattle.lists.specs.First.{first, first_from}
 use Rattle.lists.specs.Count.{pick, any_below}
-use Rattle.lists.specs.declared.Found.{Found}
 use Rattle.little_endian.specs.Number.{le, zero_unit}
 use Rattle.layout.specs.Head.{signature_at, declared_size_at, program_name_at, program_name_units, stored_hash_at, metrics_offset_at, metrics_count_at}
 use Rattle.layout.specs.Head.{trace_offset_at, trace_count_at, strings_offset_at, strings_size_at, volumes_offset_at, volumes_count_at, volumes_size_at}
 use Rattle.layout.specs.Versions.{size_limit, head_end, metrics_entry, trace_entry, has_next, form_required, forms, form_at}
 use Rattle.layout.specs.declared.Layout.{Layout}
 use Rattle.incremental.specs.Decision.{fault_at, fault_of}
-use Rattle.incremental.specs.declared.Fault.{Fault}
 use Rattle.sections.specs.declared.Section.{Section}
 use Rattle.sections.specs.declared.Head.{Head}
+use Rattle.incremental.specs.declared.Fault.{Fault}
+use Rattle.std.specs.Prelude.{None, Option, Some}
 
 -- 2: the signature differs from 53 43 43 41
-unfoldable pub signature_fault : List ℕ → Fault
+unfoldable pub signature_fault : List ℕ → Option Fault
 signature_fault b = fault_at 0 signature_at (not (eqb (le 4 b signature_at) 0x41434353))
 
 -- S: the declared size
@@ -28,7 +27,7 @@ abbrev pub stored_hash : List ℕ → ℕ
 stored_hash b = le 4 b stored_hash_at
 
 -- 3: S below H or above 67,108,864
-unfoldable pub size_fault : Layout → List ℕ → Fault
+unfoldable pub size_fault : Layout → List ℕ → Option Fault
 size_fault l b = fault_at 0 declared_size_at (ltb (declared_size b) (head_end l) || ltb size_limit (declared_size b))
 
 -- how many of the program name's 30 units lie whole in so many bytes
@@ -36,18 +35,18 @@ unfoldable pub name_units_in : ℕ → ℕ
 name_units_in n = pick (ltb n (program_name_at + 2 * program_name_units)) ((n - program_name_at) / 2) program_name_units
 
 -- 4: the first zero unit of those of the program name's 30 that lie whole in the bytes
-unfoldable pub name_end : List ℕ → Found
+unfoldable pub name_end : List ℕ → Option ℕ
 name_end b = first (λ i. zero_unit b (program_name_at + 2 * i)) (name_units_in (length b))
 
 -- a head form, unless the size is below its H
 abbrev pub room_for : ℕ → Option Layout → Option Layout
-room_for size (form l) = pick (ltb size (head_end l)) none (form l)
-room_for size none = none
+room_for size (Some l) = pick (ltb size (head_end l)) None (Some l)
+room_for size None = None
 
 -- 21: a version with one form has that one; of version 30, the form that is known by where the metrics array starts, unless S is below
 -- its H
 unfoldable pub form_in : Layout → List ℕ → Option Layout
-form_in l b = pick (eqb (form_required l) 0) (form l) (room_for (declared_size b) (form_at (le 4 b metrics_offset_at) forms))
+form_in l b = pick (eqb (form_required l) 0) (Some l) (room_for (declared_size b) (form_at (le 4 b metrics_offset_at) forms))
 
 -- a section: its offset, length, count of entries, and its end, which is H where it is empty
 abbrev pub section_of : ℕ → ℕ → ℕ → ℕ → Section
@@ -85,7 +84,7 @@ unfoldable pub outside : ℕ → ℕ → Section → Bool
 outside h size s = not (eqb s.len 0) && (ltb s.at h || ltb size s.end)
 
 -- 5: the first such section, of the four from 1
-unfoldable pub outside_fault : Layout → Head → Fault
+unfoldable pub outside_fault : Layout → Head → Option Fault
 outside_fault l h = fault_of offset_field_at (first_from (λ n. outside (head_end l) (size_in h) (numbered h n)) 4 1)
 
 -- two sections of nonzero length share a byte
@@ -97,7 +96,7 @@ abbrev pub shares_lower : Head → ℕ → Bool
 shares_lower h n = any_below (λ k. shares (numbered h (k + 1)) (numbered h n)) (n - 1)
 
 -- 6: the smallest such section
-unfoldable pub overlap_fault : Head → Fault
+unfoldable pub overlap_fault : Head → Option Fault
 overlap_fault h = fault_of offset_field_at (first_from (shares_lower h) 4 1)
 
 -- how many trace entries have a next index: all of them, or none where the version's entries have no such field (request 107)
@@ -105,9 +104,9 @@ unfoldable pub link_count : Layout → Head → ℕ
 link_count l h = pick (has_next l) h.trace.count 0
 
 -- 7: the working buffer has fewer places than trace entries that have a next index
-unfoldable pub places_fault : ℕ → ℕ → Fault
+unfoldable pub places_fault : ℕ → ℕ → Option Fault
 places_fault places count = fault_at 0 trace_count_at (ltb places count)
 
 -- 8: volume count times entry size exceeds the volumes size
-unfoldable pub entries_fault : ℕ → ℕ → ℕ → Fault
+unfoldable pub entries_fault : ℕ → ℕ → ℕ → Option Fault
 entries_fault count entry size = fault_at 0 volumes_count_at (ltb size (count * entry))

@@ -8,8 +8,6 @@ use native.Mathlib.Omega.{arith}
 use borrow.Author.Tests.{ltb-true, ltb-false, lt-ltb, le-ltb, eqb-true, eqb-false, eq-eqb, ne_eqb, not-false}
 use lib.Dec.{ltb, eqb}
 use lib.ListN.{length}
-use Rattle.lists.specs.declared.Found.{Found}
-use Rattle.lists.specs.declared.Found.TheVariants.{At, Nothing}
 use Rattle.lists.proofs.Tests.{by_test, never}
 use Rattle.lists.specs.First.{first}
 use Rattle.lists.proofs.First.{first_nothing}
@@ -19,6 +17,7 @@ use Rattle.incremental.specs.Decision.{Decision, accept, fault_of, check, ◌>>�
 use Rattle.sections.specs.Fields.{places_fault}
 use Rattle.trace.specs.Links.{end, after, astray, namers, shared, cyclic, chains, link_checks, trace_checks, InRange}
 use Rattle.trace.specs.Private.{Distinct}
+use Rattle.std.specs.Prelude.{None, Option, Some}
 
 -- check 13 passed
 abbrev pub Acyclic : List ℕ → Type 0
@@ -38,13 +37,13 @@ pub astray_yes : (s : List ℕ) (i : ℕ) → (after s i ≡ end → ⊥) → le
 astray_yes s i n l = rw (ne_eqb (after s i) end n, le-ltb (after s i) (length s) l)
 
 -- a check's search that found nothing
-pub sound : (s : List ℕ) → first (astray s) (length s) ≡ Nothing → InRange s
+pub sound : (s : List ℕ) → first (astray s) (length s) ≡ None → InRange s
 sound s e i l = astray_no s i (first_nothing (astray s) (length s) e i l)
 
-pub once : (s : List ℕ) → first (shared s) (length s) ≡ Nothing → (j : ℕ) → j < length s → namers s (length s) j ≤ 1
+pub once : (s : List ℕ) → first (shared s) (length s) ≡ None → (j : ℕ) → j < length s → namers s (length s) j ≤ 1
 once s e j l = ltb-false 1 (namers s (length s) j) (first_nothing (shared s) (length s) e j l)
 
-pub acyclic : (s : List ℕ) → first (cyclic s) (length s) ≡ Nothing → Acyclic s
+pub acyclic : (s : List ℕ) → first (cyclic s) (length s) ≡ None → Acyclic s
 acyclic s e i l = first_nothing (cyclic s) (length s) e i l
 
 pub distinct : (s : List ℕ) → InRange s → ((j : ℕ) → j < length s → namers s (length s) j ≤ 1) → Distinct s
@@ -59,10 +58,10 @@ distinct s h most i j hi hj e n =
     (λ l. absurd (omega (arith, few, count_two named (length s) j i (omega (arith, ltb-false i j l, eqb-false i j q)) hi other mine)))
 
 -- a check of an acceptance found nothing
-passed : {A : Type 0} (n : ℕ) (at : ℕ → ℕ) (f : Found) (later : Decision A) (a : A) → (check n (fault_of at f) >> later) ≡ accept a
-    → (f ≡ Nothing) × (later ≡ accept a)
-passed n at (At i) later a e = never cc
-passed n at Nothing later a e = (refl, e)
+passed : {A : Type 0} (n : ℕ) (at : ℕ → ℕ) (f : Option ℕ) (later : Decision A) (a : A) → (check n (fault_of at f) >> later) ≡ accept a
+    → (f ≡ None) × (later ≡ accept a)
+passed n at (Some i) later a e = never cc
+passed n at None later a e = (refl, e)
 
 pub record Accepted (s : List ℕ) (n : ℕ) : Type 0 where
   pub sound : InRange s

@@ -5,13 +5,9 @@ use mathlib.Core.List.{List}
 use Prim.Native.Nat.{ℕ, ◌≤◌}
 use native.Mathlib.Omega.{arith}
 use lib.ListN.{length}
-use Rattle.lists.specs.declared.Found.{Found}
-use Rattle.lists.specs.declared.Found.TheVariants.{At, Nothing}
 use Rattle.lists.proofs.Tests.{never}
 use Rattle.incremental.specs.Decision.{Decision, accept, refuse, refusal, fault_of, check, ◌>>◌}
 use Rattle.incremental.proofs.Decision.{check_at, check_nowhere}
-use Rattle.trace.specs.declared.Links.{Links}
-use Rattle.trace.specs.declared.Links.TheVariants.{Chains, Refused}
 use Rattle.trace.specs.declared.Pass.{Pass}
 use Rattle.trace.specs.declared.Pass.TheVariants.{Astray, Shared, Clear}
 use Rattle.lists.specs.Filled.{filled}
@@ -19,35 +15,36 @@ use Rattle.trace.specs.Links.{end, predecessors, chains, link_checks, trace_chec
 use Rattle.trace.proofs.Accepted.{sound, once}
 use Rattle.trace.proofs.Chains.{chains_are_ends}
 use Rattle.incremental.specs.declared.Refusal.{Refusal}
-use Rattle.incremental.specs.declared.Fault.{Fault}
-use Rattle.incremental.specs.declared.Fault.TheVariants as fault
 use Rattle.sections.specs.Fields.{places_fault}
 use Rattle.trace.specs.Private.{ends, first_astray, first_shared, first_cyclic, shared_checks, cycle_checks, pass_of, Forward}
 use Rattle.trace.specs.Private.{Passed, TableBuilt, CyclesAnswered, LinksAnswered}
+use Rattle.std.specs.Prelude.{Err, None, Ok, Option, Result, Some}
+use Rattle.incremental.specs.declared.Fault.{Fault}
+use Rattle.incremental.specs.Decision.{fault}
 
-told_astray : (f g : Found) (n i : ℕ) (b : Bool) → pass_of f g n b ≡ Astray i → f ≡ At i
-told_astray (At j) g n i b e = cc
-told_astray Nothing (At j) n i b e = never cc
-told_astray Nothing Nothing n i b e = never cc
+told_astray : (f g : Option ℕ) (n i : ℕ) (b : Bool) → pass_of f g n b ≡ Astray i → f ≡ Some i
+told_astray (Some j) g n i b e = cc
+told_astray None (Some j) n i b e = never cc
+told_astray None None n i b e = never cc
 
-told_shared : (f g : Found) (n i : ℕ) (b : Bool) → pass_of f g n b ≡ Shared i → (f ≡ Nothing) × (g ≡ At i)
-told_shared (At j) g n i b e = never cc
-told_shared Nothing (At j) n i b e = (refl, cc)
-told_shared Nothing Nothing n i b e = never cc
+told_shared : (f g : Option ℕ) (n i : ℕ) (b : Bool) → pass_of f g n b ≡ Shared i → (f ≡ None) × (g ≡ Some i)
+told_shared (Some j) g n i b e = never cc
+told_shared None (Some j) n i b e = (refl, cc)
+told_shared None None n i b e = never cc
 
-told_clear : (f g : Found) (n k : ℕ) (b d : Bool) → pass_of f g n b ≡ Clear k d → (f ≡ Nothing) × (g ≡ Nothing) × (k ≡ n) × (d ≡ b)
-told_clear (At j) g n k b d e = never cc
-told_clear Nothing (At j) n k b d e = never cc
-told_clear Nothing Nothing n k b d e = (refl, refl, cc, cc)
+told_clear : (f g : Option ℕ) (n k : ℕ) (b d : Bool) → pass_of f g n b ≡ Clear k d → (f ≡ None) × (g ≡ None) × (k ≡ n) × (d ≡ b)
+told_clear (Some j) g n k b d e = never cc
+told_clear None (Some j) n k b d e = never cc
+told_clear None None n k b d e = (refl, refl, cc, cc)
 
 -- a check whose search found something, and one whose search found nothing
-pub answer_at : (n i m : ℕ) (at : ℕ → ℕ) (f r : Found) (later : Decision ℕ) (s buffer : List ℕ) (a : Links) → r ≡ f → r ≡ At i
-    → a ≡ Refused (refusal n i (at i)) → buffer ≡ filled m → LinkDecision (check n (fault_of at f) >> later) s m a buffer
+pub answer_at : (n i m : ℕ) (at : ℕ → ℕ) (f r : Option ℕ) (later : Decision ℕ) (s buffer : List ℕ) (a : Result ℕ Refusal) → r ≡ f → r ≡ Some i
+    → a ≡ Err (refusal n i (at i)) → buffer ≡ filled m → LinkDecision (check n (fault_of at f) >> later) s m a buffer
 answer_at n i m at f r later s buffer a e q w h =
     let d = check_at n i (at i) (fault_of at f) (fault_of at r) later _ (ap (fault_of at) e) (ap (fault_of at) q) refl in
     rw w (record { answer = d; holds = h ∙ ap (λ (x : Decision ℕ). held x s m) d })
 
-pub answer_nothing : (n m : ℕ) (at : ℕ → ℕ) (f r : Found) (later : Decision ℕ) (s buffer : List ℕ) (a : Links) → r ≡ f → r ≡ Nothing
+pub answer_nothing : (n m : ℕ) (at : ℕ → ℕ) (f r : Option ℕ) (later : Decision ℕ) (s buffer : List ℕ) (a : Result ℕ Refusal) → r ≡ f → r ≡ None
     → LinkDecision later s m a buffer → LinkDecision (check n (fault_of at f) >> later) s m a buffer
 answer_nothing n m at f r later s buffer a e q h =
     let d = check_nowhere n (fault_of at f) (fault_of at r) later later (ap (fault_of at) e) (ap (fault_of at) q) refl in
@@ -68,14 +65,14 @@ module _ (s : List ℕ) (m : ℕ) {p : Pass} {before : List ℕ} (w : Passed s m
         λ z. w.leads (sym x.3 ∙ z),
       )
 
-  module _ (at : ℕ → ℕ) (buffer : List ℕ) (a : Links) where
-    pub passed_astray : (i : ℕ) → p ≡ Astray i → a ≡ Refused (refusal 11 i (at i)) → buffer ≡ filled m → LinksAnswered at s m a buffer
+  module _ (at : ℕ → ℕ) (buffer : List ℕ) (a : Result ℕ Refusal) where
+    pub passed_astray : (i : ℕ) → p ≡ Astray i → a ≡ Err (refusal 11 i (at i)) → buffer ≡ filled m → LinksAnswered at s m a buffer
     unfolding link_checks
     passed_astray i q r h =
         let x = told_astray (first_astray s) (first_shared s) (ends s) i w.forward (sym w.found ∙ q) in
         answer_at 11 i m at (first_astray s) (first_astray s) (shared_checks at s) s buffer a refl x r h
 
-    pub passed_shared : (i : ℕ) → p ≡ Shared i → a ≡ Refused (refusal 12 i (at i)) → buffer ≡ filled m → LinksAnswered at s m a buffer
+    pub passed_shared : (i : ℕ) → p ≡ Shared i → a ≡ Err (refusal 12 i (at i)) → buffer ≡ filled m → LinksAnswered at s m a buffer
     unfolding link_checks
     passed_shared i q r h =
         let x = told_shared (first_astray s) (first_shared s) (ends s) i w.forward (sym w.found ∙ q) in
@@ -90,21 +87,21 @@ module _ (s : List ℕ) (m : ℕ) {p : Pass} {before : List ℕ} (w : Passed s m
         (answer_nothing 12 m at (first_shared s) (first_shared s) (cycle_checks at s) s buffer a refl x.1 h)
 
 -- check 13 found nothing: there are as many chains as entries that end one
-pub answer_chains : (at : ℕ → ℕ) (s : List ℕ) (m n : ℕ) {before : List ℕ} (r : Found) (buffer : List ℕ) → length s ≤ end → TableBuilt s n before
-    → r ≡ first_cyclic s → r ≡ Nothing → buffer ≡ predecessors s m → CyclesAnswered at s m (Chains n) buffer
+pub answer_chains : (at : ℕ → ℕ) (s : List ℕ) (m n : ℕ) {before : List ℕ} (r : Option ℕ) (buffer : List ℕ) → length s ≤ end → TableBuilt s n before
+    → r ≡ first_cyclic s → r ≡ None → buffer ≡ predecessors s m → CyclesAnswered at s m (Ok n) buffer
 answer_chains at s m n r buffer small t e q h =
-    answer_nothing 13 m at (first_cyclic s) r (accept (chains s)) s buffer (Chains n) e q
+    answer_nothing 13 m at (first_cyclic s) r (accept (chains s)) s buffer (Ok n) e q
     (record { answer = ap accept (t.counted ∙ sym (chains_are_ends s small t.sound t.once)); holds = h })
 
 -- the whole answer on a list of n next indexes: check 7 refuses, or the later checks decide
-module _ (at : ℕ → ℕ) (s : List ℕ) (n m : ℕ) (e : length s ≡ n) (r : Fault) (buffer : List ℕ) (q : r ≡ places_fault m n) where
-  pub answer_few : (i k : ℕ) (x : Refusal) → r ≡ fault.At i k → x ≡ refusal 7 i k → buffer ≡ filled m → LinkListAnswer at s m (Refused x) buffer
+module _ (at : ℕ → ℕ) (s : List ℕ) (n m : ℕ) (e : length s ≡ n) (r : Option Fault) (buffer : List ℕ) (q : r ≡ places_fault m n) where
+  pub answer_few : (i k : ℕ) (x : Refusal) → r ≡ Some (fault i k) → x ≡ refusal 7 i k → buffer ≡ filled m → LinkListAnswer at s m (Err x) buffer
   unfolding trace_checks
   answer_few i k x f w h =
       let d : refuse x ≡ trace_checks at s m = check_at 7 i k _ r _ x (q ∙ ap (places_fault m) (sym e)) f w in
       record { answer = d; holds = h ∙ ap (λ (x : Decision ℕ). held x s m) d }
 
-  pub answer_links : (a : Links) → r ≡ fault.Nowhere → LinksAnswered at s m a buffer → LinkListAnswer at s m a buffer
+  pub answer_links : (a : Result ℕ Refusal) → r ≡ None → LinksAnswered at s m a buffer → LinkListAnswer at s m a buffer
   unfolding trace_checks
   answer_links a f h =
       let d : link_checks at s ≡ trace_checks at s m = check_nowhere 7 _ r _ _ (q ∙ ap (places_fault m) (sym e)) f refl in

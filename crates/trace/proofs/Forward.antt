@@ -14,9 +14,9 @@ use Rattle.lists.specs.First.{first}
 use Rattle.lists.proofs.First.{first_is_nothing}
 use Rattle.lists.proofs.Count.{any_no}
 use Rattle.lists.proofs.Tests.{by_test, never}
-use Rattle.lists.specs.declared.Found.TheVariants.{Nothing}
 use Rattle.trace.specs.Links.{end, after, follow, cyclic, InRange}
 use Rattle.trace.specs.Private.{Forward}
+use Rattle.std.specs.Prelude.{None}
 
 -- each of the first i entries names one above itself: at the start of a pass, and when entry i was looked at too
 abbrev pub LeadsOn : List ℕ → ℕ → Type 0
@@ -44,7 +44,7 @@ module _ (s : List ℕ) (l : length s ≤ end) (sound : InRange s) (f : Forward 
   follow-on zero j h = le_refl j
   follow-on (suc k) j h = let t = step-on j h in le_trans t.0 (follow-on k (after s j) t.1)
 
-  pub forward_acyclic : first (cyclic s) (length s) ≡ Nothing
+  pub forward_acyclic : first (cyclic s) (length s) ≡ None
   unfolding cyclic follow
   forward_acyclic =
       first_is_nothing (cyclic s) (length s) (λ i q.

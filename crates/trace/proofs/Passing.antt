@@ -9,7 +9,6 @@ use native.Mathlib.Numerals.{add-one}
 use lib.Dec.{eqb, ltb}
 use lib.ListN.{length, get_or}
 use borrow.Author.Tests.{lt-ltb}
-use Rattle.lists.specs.declared.Found.TheVariants.{Nothing}
 use Rattle.lists.proofs.First.{Least, first_is_at, first_is_nothing}
 use Rattle.lists.proofs.Count.{count-zero}
 use Rattle.lists.proofs.Tests.{never}
@@ -22,6 +21,7 @@ use Rattle.trace.proofs.Accepted.{astray_yes, astray_below, astray-end}
 use Rattle.trace.proofs.Forward.{LeadsOn, leads_none, leads_more}
 use Rattle.trace.proofs.Predecessors.{namers-same, namers_other}
 use Rattle.trace.proofs.Naming.{shared_by, place, table, table_none, table_end, table_more, least_none, least_end, least_more, none_more}
+use Rattle.std.specs.Prelude.{None}
 
 -- the buffer is the table of the first i entries, none of them astray, `least` is the smallest entry that two of them name, `ends`
 -- is how many of them end a chain, and where `forward` holds each of them names one above itself
@@ -115,7 +115,7 @@ module _ {s : List ℕ} {m : ℕ} {before : List ℕ} {least ends : ℕ} {forwar
     unfolding predecessors
     whole = v.built ∙ ap (table s m) all
 
-    none-astray : first_astray s ≡ Nothing
+    none-astray : first_astray s ≡ None
     none-astray = first_is_nothing (astray s) (length s) (λ k h. v.clear k (omega arith))
 
     of-all : Least (shared s) (length s) least

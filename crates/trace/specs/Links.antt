@@ -8,10 +8,10 @@ use Rattle.lists.specs.Count.{any_below, count, pick}
 use Rattle.little_endian.specs.Number.{le}
 use Rattle.layout.specs.Head.{entry_offset}
 use Rattle.incremental.specs.Decision.{Decision, accept, refuse, fault_of, check, ◌>>◌}
-use Rattle.incremental.specs.declared.Fault.{Fault}
 use Rattle.sections.specs.Fields.{places_fault}
-use Rattle.trace.specs.declared.Links.{Links}
-use Rattle.trace.specs.declared.Links.TheVariants.{Chains, Refused}
+use Rattle.std.specs.Prelude.{Err, Ok, Option, Result}
+use Rattle.incremental.specs.declared.Fault.{Fault}
+use Rattle.incremental.specs.declared.Refusal.{Refusal}
 
 -- the next index that ends a chain; document 01's 4,294,967,295
 abbrev pub end : ℕ
@@ -77,18 +77,18 @@ unfoldable pub predecessors : List ℕ → ℕ → List ℕ
 predecessors s m = tabulate m (λ j. pick (ltb j (length s)) (predecessor s (length s) j) end)
 
 -- what each case of the answer says
-abbrev pub links_of : Links → Decision ℕ
-links_of (Chains n) = accept n
-links_of (Refused r) = refuse r
+abbrev pub links_of : Result ℕ Refusal → Decision ℕ
+links_of (Ok n) = accept n
+links_of (Err r) = refuse r
 
 -- 11, 12, 13: the first such entry; `at` says where in the file each entry starts. The next index is its first field
-abbrev pub astray_fault : (ℕ → ℕ) → List ℕ → Fault
+abbrev pub astray_fault : (ℕ → ℕ) → List ℕ → Option Fault
 astray_fault at s = fault_of at (first (astray s) (length s))
 
-abbrev pub shared_fault : (ℕ → ℕ) → List ℕ → Fault
+abbrev pub shared_fault : (ℕ → ℕ) → List ℕ → Option Fault
 shared_fault at s = fault_of at (first (shared s) (length s))
 
-abbrev pub cyclic_fault : (ℕ → ℕ) → List ℕ → Fault
+abbrev pub cyclic_fault : (ℕ → ℕ) → List ℕ → Option Fault
 cyclic_fault at s = fault_of at (first (cyclic s) (length s))
 
 -- checks 11, 12 and 13 in their order; what passes them has its chain count
@@ -109,14 +109,14 @@ held (accept n) s m = predecessors s m
 held (refuse r) s m = filled m
 
 -- a decision as an answer, and the buffer of m places after it
-pub record LinkDecision (d : Decision ℕ) (s : List ℕ) (m : ℕ) (r : Links) (buffer : List ℕ) : Type 0 where
+pub record LinkDecision (d : Decision ℕ) (s : List ℕ) (m : ℕ) (r : Result ℕ Refusal) (buffer : List ℕ) : Type 0 where
   pub answer : links_of r ≡ d
   pub holds : buffer ≡ held d s m
 
 -- the answer on a list of next indexes
-abbrev pub LinkListAnswer : (ℕ → ℕ) → List ℕ → ℕ → Links → List ℕ → Type 0
+abbrev pub LinkListAnswer : (ℕ → ℕ) → List ℕ → ℕ → Result ℕ Refusal → List ℕ → Type 0
 LinkListAnswer at s m r buffer = LinkDecision (trace_checks at s m) s m r buffer
 
 -- the answer on a section, or the pairs of one, that starts at `start` in the file
-abbrev pub LinkAnswer : List ℕ → List ℕ → ℕ → ℕ → ℕ → ℕ → Links → List ℕ → Type 0
+abbrev pub LinkAnswer : List ℕ → List ℕ → ℕ → ℕ → ℕ → ℕ → Result ℕ Refusal → List ℕ → Type 0
 LinkAnswer section pairs start size entries m r buffer = LinkListAnswer (entry_offset start size) (nexts_from section pairs size entries) m r buffer

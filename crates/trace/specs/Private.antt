@@ -3,16 +3,15 @@ use Rattle.std.specs.Prelude.{◌≡◌, Bool, true, List, ℕ, ◌*◌, ◌<◌
 use Rattle.trace.specs.Links.{end, after, InRange, astray, namers, shared, cyclic, shared_fault, cyclic_fault}
 use Rattle.lists.specs.Filled.{filled}
 use Rattle.trace.specs.Links.{chains, predecessors, link_checks, LinkDecision}
-use Rattle.lists.specs.declared.Found.{Found}
-use Rattle.lists.specs.declared.Found.TheVariants.{At, Nothing}
 use Rattle.lists.specs.First.{first}
 use Rattle.lists.specs.Count.{pick}
 use Rattle.lists.specs.Pairs.{first_of}
 use Rattle.little_endian.specs.Number.{le}
 use Rattle.incremental.specs.Decision.{Decision, accept, check, ◌>>◌}
-use Rattle.trace.specs.declared.Links.{Links}
 use Rattle.trace.specs.declared.Pass.{Pass}
 use Rattle.trace.specs.declared.Pass.TheVariants.{Astray, Shared, Clear}
+use Rattle.std.specs.Prelude.{None, Option, Result, Some}
+use Rattle.incremental.specs.declared.Refusal.{Refusal}
 
 -- the next index of entry i: of pair i, or of the section where the table of pairs is empty
 abbrev pub next_from : List ℕ → List ℕ → ℕ → ℕ → ℕ
@@ -23,13 +22,13 @@ abbrev pub Distinct : List ℕ → Type 0
 Distinct s = (i j : ℕ) → i < length s → j < length s → after s i ≡ after s j → (after s i ≡ end → ⊥) → i ≡ j
 
 -- what checks 11, 12 and 13 look for
-abbrev pub first_astray : List ℕ → Found
+abbrev pub first_astray : List ℕ → Option ℕ
 first_astray s = first (astray s) (length s)
 
-abbrev pub first_shared : List ℕ → Found
+abbrev pub first_shared : List ℕ → Option ℕ
 first_shared s = first (shared s) (length s)
 
-abbrev pub first_cyclic : List ℕ → Found
+abbrev pub first_cyclic : List ℕ → Option ℕ
 first_cyclic s = first (cyclic s) (length s)
 
 -- the checks from 13 on, and from 12 on
@@ -41,10 +40,10 @@ shared_checks at s = check 12 (shared_fault at s) >> cycle_checks at s
 
 -- what one pass for checks 11 and 12 says: f and g are what they look for, n is the number of entries that end a chain, and b
 -- is whether every next index was seen to be above its own
-abbrev pub pass_of : Found → Found → ℕ → Bool → Pass
-pass_of (At i) g n b = Astray i
-pass_of Nothing (At i) n b = Shared i
-pass_of Nothing Nothing n b = Clear n b
+abbrev pub pass_of : Option ℕ → Option ℕ → ℕ → Bool → Pass
+pass_of (Some i) g n b = Astray i
+pass_of None (Some i) n b = Shared i
+pass_of None None n b = Clear n b
 
 -- the buffer has a place for each entry, and check 11 has passed
 pub record LinkedBuffer (s buffer : List ℕ) : Type 0 where
@@ -90,8 +89,8 @@ pub record TableBuilt (s : List ℕ) (n : ℕ) (buffer : List ℕ) : Type 0 wher
   pub table : buffer ≡ predecessors s (length buffer)
 
 -- check 13, and checks 11 to 13, with a buffer of m places
-abbrev pub CyclesAnswered : (ℕ → ℕ) → List ℕ → ℕ → Links → List ℕ → Type 0
+abbrev pub CyclesAnswered : (ℕ → ℕ) → List ℕ → ℕ → Result ℕ Refusal → List ℕ → Type 0
 CyclesAnswered at s m r buffer = LinkDecision (cycle_checks at s) s m r buffer
 
-abbrev pub LinksAnswered : (ℕ → ℕ) → List ℕ → ℕ → Links → List ℕ → Type 0
+abbrev pub LinksAnswered : (ℕ → ℕ) → List ℕ → ℕ → Result ℕ Refusal → List ℕ → Type 0
 LinksAnswered at s m r buffer = LinkDecision (link_checks at s) s m r buffer

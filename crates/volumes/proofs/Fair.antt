@@ -10,13 +10,15 @@ use Rattle.layout.specs.Versions.{volume_entry}
 use Rattle.layout.specs.declared.Layout.{Layout}
 use Rattle.incremental.specs.Decision.{refusal, fault_at}
 use Rattle.incremental.specs.declared.Refusal.{Refusal}
-use Rattle.incremental.specs.declared.Fault.TheVariants.{At}
 use Rattle.incremental.proofs.Each.{Fair, fair_accept, fair_refuse, fair_check, fair_then}
-use Rattle.volumes.specs.declared.Step.{Step}
-use Rattle.volumes.specs.declared.Step.TheVariants.{Next, Past, Unended}
 use Rattle.volumes.specs.Volumes.{entry_at, step_at, on_step, directory_count, directories_at, directory_checks, entry_checks, volume_checks, volumes_from}
 use Rattle.volumes.specs.Volumes.{path_fits, references_fit}
 use Rattle.lists.proofs.Tests.{never}
+use Rattle.volumes.specs.declared.Cursor.{Cursor}
+use Rattle.std.specs.Prelude.{Err, Ok, Result, Some}
+use Rattle.volumes.specs.declared.StepFault.TheVariants.{Past, Unended}
+use Rattle.volumes.specs.declared.StepFault.{StepFault}
+use Rattle.incremental.specs.Decision.{fault}
 
 module _ (Q : Refusal → Type 0) where
   fair-directories : (s : List ℕ) (i place n at : ℕ) → Q (refusal 14 i place) → Q (refusal 15 i place) → Fair Q (directory_checks s i place n at)
@@ -24,12 +26,12 @@ module _ (Q : Refusal → Type 0) where
   fair-directories s i place zero at a b = fair_accept Q tt
   fair-directories s i place (suc n) at a b = go (step_at s at) (λ next. fair-directories s i place n next a b)
     where
-      go : (t : Step) → ((next : ℕ) → Fair Q (directory_checks s i place n next)) → Fair Q (on_step i place t (λ next. directory_checks s i place n next))
-      go (Next c) ih = ih c.at
-      go Past ih = fair_refuse Q (refusal 14 i place) a
-      go Unended ih = fair_refuse Q (refusal 15 i place) b
+      go : (t : Result Cursor StepFault) → ((next : ℕ) → Fair Q (directory_checks s i place n next)) → Fair Q (on_step i place t (λ next. directory_checks s i place n next))
+      go (Ok c) ih = ih c.at
+      go (Err Past) ih = fair_refuse Q (refusal 14 i place) a
+      go (Err Unended) ih = fair_refuse Q (refusal 15 i place) b
 
-  at-fault : (n i place : ℕ) (b : Bool) → Q (refusal n i place) → (j at : ℕ) → fault_at i place b ≡ At j at → Q (refusal n j at)
+  at-fault : (n i place : ℕ) (b : Bool) → Q (refusal n i place) → (j at : ℕ) → fault_at i place b ≡ Some (fault j at) → Q (refusal n j at)
   at-fault n i place true h j at e =
       let x : i ≡ j = cc in
       let y : place ≡ at = cc in

@@ -11,7 +11,6 @@ use lib.Dec.{leb}
 use lib.ListN.{length}
 use borrow.Author.Tests.{le-leb, lt-leb, le-ltb, lt-ltb, eq-eqb, ne_eqb}
 use Rattle.lists.specs.First.{first}
-use Rattle.lists.specs.declared.Found.TheVariants.{At, Nothing}
 use Rattle.lists.proofs.Tests.{never}
 use Rattle.little_endian.specs.Number.{le, zero_unit}
 use Rattle.layout.specs.Head.{entry_offset}
@@ -19,14 +18,16 @@ use Rattle.layout.specs.Versions.{volume_entry}
 use Rattle.layout.specs.declared.Layout.{Layout}
 use Rattle.incremental.specs.Decision.{Decision, accept, refuse, refusal, ◌>>◌}
 use Rattle.incremental.proofs.Decision.{check_at, check_nowhere}
-use Rattle.incremental.specs.declared.Fault.{Fault}
-use Rattle.incremental.specs.declared.Fault.TheVariants as fault
 use Rattle.sections.specs.Fields.{entries_fault}
 use Rattle.incremental.specs.declared.Refusal.{Refusal}
-use Rattle.volumes.specs.declared.Step.{Step}
-use Rattle.volumes.specs.declared.Step.TheVariants.{Next, Past, Unended}
 use Rattle.volumes.specs.Volumes.{path_at, path_count, path_fits, path_units, references_at, references_size, reference_count, references_fit, step_at}
 use Rattle.volumes.specs.Volumes.{entry_at, on_step, directory_count, directories_at, directory_checks, entry_checks, volume_checks, volumes_from, volumes_checks}
+use Rattle.volumes.specs.declared.Cursor.{Cursor}
+use Rattle.std.specs.Prelude.{Err, None, Ok, Option, Result, Some}
+use Rattle.incremental.specs.declared.Fault.{Fault}
+use Rattle.volumes.specs.declared.StepFault.TheVariants.{Past, Unended}
+use Rattle.volumes.specs.declared.StepFault.{StepFault}
+use Rattle.incremental.specs.Decision.{fault}
 
 -- The path
 pub path_none : (s : List ℕ) (e : ℕ) → path_count s e ≡ 0 → true ≡ path_fits s e
@@ -66,22 +67,22 @@ references_inside s e {size} {n} z q h l =
     rw (← z, ← q, ne_eqb size 0 (λ w. omega arith), le-leb 8 size h, le-leb (references_at s e + size) (length s) l)
 
 -- One directory string
-pub step_short : (s : List ℕ) (at : ℕ) → length s < at + 2 → Past ≡ step_at s at
+pub step_short : (s : List ℕ) (at : ℕ) → length s < at + 2 → Err Past ≡ step_at s at
 unfolding step_at
 step_short s at h = rw (lt-ltb (length s) (at + 2) h)
 
-pub step_past : (s : List ℕ) (at : ℕ) → at + 2 ≤ length s → length s < at + 4 + 2 * le 2 s at → Past ≡ step_at s at
+pub step_past : (s : List ℕ) (at : ℕ) → at + 2 ≤ length s → length s < at + 4 + 2 * le 2 s at → Err Past ≡ step_at s at
 unfolding step_at
 step_past s at h l = rw (le-ltb (length s) (at + 2) h, lt-ltb (length s) (at + 4 + 2 * le 2 s at) l)
 
-pub step_unended : (s : List ℕ) (at last : ℕ) → last ≡ at + 2 + 2 * le 2 s at → last + 2 ≤ length s → (le 2 s last ≡ 0 → ⊥) → Unended ≡ step_at s at
+pub step_unended : (s : List ℕ) (at last : ℕ) → last ≡ at + 2 + 2 * le 2 s at → last + 2 ≤ length s → (le 2 s last ≡ 0 → ⊥) → Err Unended ≡ step_at s at
 unfolding step_at
 step_unended s at last d h z =
     let z₁ : le 2 s (at + 2 + 2 * le 2 s at) ≡ 0 → ⊥ = rw (← d) z in
     rw (le-ltb (length s) (at + 2) (omega arith), le-ltb (length s) (at + 4 + 2 * le 2 s at) (omega arith), ne_eqb (le 2 s (at + 2 + 2 * le 2 s at)) 0 z₁)
 
 pub step_next : (s : List ℕ) (at last : ℕ) → last ≡ at + 2 + 2 * le 2 s at → last + 2 ≤ length s → le 2 s last ≡ 0
-    → Next (record { at = last + 2 }) ≡ step_at s at
+    → Ok (record { at = last + 2 }) ≡ step_at s at
 unfolding step_at
 step_next s at last d h z =
     let z₁ : le 2 s (at + 2 + 2 * le 2 s at) ≡ 0 = rw (← d) z in
@@ -92,7 +93,7 @@ step_next s at last d h z =
 pub directories_start : (s : List ℕ) (i place n at : ℕ) → directory_checks s i place n at ≡ directory_checks s i place (n - 0) at
 directories_start s i place n at = rw (sub-zero n)
 
-pub directories_step : (s : List ℕ) (i place n done at : ℕ) (x : Step) → done < n → step_at s at ≡ x
+pub directories_step : (s : List ℕ) (i place n done at : ℕ) (x : Result Cursor StepFault) → done < n → step_at s at ≡ x
     → directory_checks s i place (n - done) at ≡ on_step i place x (λ next. directory_checks s i place (n - (done + 1)) next)
 unfolding directory_checks
 directories_step s i place n done at x l e =
@@ -130,12 +131,12 @@ volumes_end s v start n i l =
     rw d
 
 -- Check 8: where it passes, checks 14 and 15 decide
-pub volumes_crowded : (s : List ℕ) (v : Layout) (start n k at : ℕ) (r : Fault) (x : Refusal) → r ≡ entries_fault n (volume_entry v) (length s)
-    → r ≡ fault.At k at → x ≡ refusal 8 k at → refuse x ≡ volumes_checks s v start n
+pub volumes_crowded : (s : List ℕ) (v : Layout) (start n k at : ℕ) (r : Option Fault) (x : Refusal) → r ≡ entries_fault n (volume_entry v) (length s)
+    → r ≡ Some (fault k at) → x ≡ refusal 8 k at → refuse x ≡ volumes_checks s v start n
 unfolding volumes_checks
 volumes_crowded s v start n k at r x e q h = check_at 8 k at _ r _ x e q h
 
-pub volumes_room : (s : List ℕ) (v : Layout) (start n : ℕ) (r : Fault) → r ≡ entries_fault n (volume_entry v) (length s) → r ≡ fault.Nowhere
+pub volumes_room : (s : List ℕ) (v : Layout) (start n : ℕ) (r : Option Fault) → r ≡ entries_fault n (volume_entry v) (length s) → r ≡ None
     → volumes_checks s v start n ≡ volumes_from s v start n 0
 unfolding volumes_checks
 volumes_room s v start n r e q = sym (check_nowhere 8 _ r _ _ e q refl)
@@ -174,12 +175,12 @@ volumes_each s v start n =
 
 -- The units of a path, by a loop that stops at the first zero unit
 pub units_hit : (s : List ℕ) (e k : ℕ) {start count : ℕ} → start ≡ path_at s e → count ≡ path_count s e
-    → first (λ k. zero_unit s (start + 2 * k)) count ≡ At k → k ≡ path_units s e
+    → first (λ k. zero_unit s (start + 2 * k)) count ≡ Some k → k ≡ path_units s e
 unfolding path_units
 units_hit s e k a n h = rw (← a, ← n, h)
 
 pub units-none : (s : List ℕ) (e : ℕ) {start count : ℕ} → start ≡ path_at s e → count ≡ path_count s e
-    → first (λ k. zero_unit s (start + 2 * k)) count ≡ Nothing → count ≡ path_units s e
+    → first (λ k. zero_unit s (start + 2 * k)) count ≡ None → count ≡ path_units s e
 unfolding path_units
 units-none s e a n h = rw (← a, ← n, h)
 

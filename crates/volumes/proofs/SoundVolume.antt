@@ -14,12 +14,13 @@ use Rattle.little_endian.specs.Number.{le, zero_unit}
 use Rattle.layout.specs.declared.Layout.{Layout}
 use Rattle.incremental.specs.Decision.{Decision, accept, fault_at, check, ◌>>◌}
 use Rattle.volumes.specs.declared.Cursor.{Cursor}
-use Rattle.volumes.specs.declared.Step.{Step}
-use Rattle.volumes.specs.declared.Step.TheVariants.{Next, Past, Unended}
 use Rattle.volumes.specs.Volumes.{entry_at, path_at, path_count, path_fits, references_size, reference_count}
 use Rattle.volumes.specs.Volumes.{references_fit, step_at, on_step, directory_checks, entry_checks, volumes_from}
 use Rattle.volumes.proofs.Laws.{entry_directories, volumes_each}
 use Rattle.volumes.specs.SoundVolume.{SoundReferences, SoundDirectory, directory_at, SoundVolume}
+use Rattle.std.specs.Prelude.{Err, Ok, Result}
+use Rattle.volumes.specs.declared.StepFault.TheVariants.{Past, Unended}
+use Rattle.volumes.specs.declared.StepFault.{StepFault}
 
 -- ---- path and references
 path_is : (s : List ℕ) (e : ℕ) → path_fits s e ≡ true → (path_count s e ≡ 0) ⊎ (path_at s e + 2 * path_count s e ≤ length s)
@@ -50,12 +51,12 @@ is_references s e (inr r) =
 -- ---- directories
 
 -- a step that goes on has passed a directory string
-pub step_is : (s : List ℕ) (at : ℕ) (next : Cursor) → step_at s at ≡ Next next → SoundDirectory s at × (next.at ≡ at + 2 + 2 * le 2 s at + 2)
+pub step_is : (s : List ℕ) (at : ℕ) (next : Cursor) → step_at s at ≡ Ok next → SoundDirectory s at × (next.at ≡ at + 2 + 2 * le 2 s at + 2)
 unfolding step_at
 step_is s at next = go (ltb (length s) (at + 2)) (ltb (length s) (at + 4 + 2 * le 2 s at)) (zero_unit s (at + 2 + 2 * le 2 s at)) refl refl
   where
     go : (a b c : Bool) → ltb (length s) (at + 4 + 2 * le 2 s at) ≡ b → zero_unit s (at + 2 + 2 * le 2 s at) ≡ c
-        → pick a Past (pick b Past (pick c (Next (record { at = at + 4 + 2 * le 2 s at })) Unended)) ≡ Next next
+        → pick a (Err Past) (pick b (Err Past) (pick c (Ok (record { at = at + 4 + 2 * le 2 s at })) (Err Unended))) ≡ Ok next
         → SoundDirectory s at × (next.at ≡ at + 2 + 2 * le 2 s at + 2)
     go false false true q x e =
         let n : at + 4 + 2 * le 2 s at ≡ next.at = ap (λ (c : Cursor). c.at) (cc) in
@@ -65,7 +66,7 @@ step_is s at next = go (ltb (length s) (at + 2)) (ltb (length s) (at + 4 + 2 * l
     go false true c q x e = never cc
     go true b c q x e = never cc
 
-pub is_step : (s : List ℕ) (at : ℕ) → SoundDirectory s at → step_at s at ≡ Next (record { at = at + 2 + 2 * le 2 s at + 2 })
+pub is_step : (s : List ℕ) (at : ℕ) → SoundDirectory s at → step_at s at ≡ Ok (record { at = at + 2 + 2 * le 2 s at + 2 })
 unfolding step_at
 is_step s at d =
     let n : at + 2 + 2 * le 2 s at + 2 ≡ at + 4 + 2 * le 2 s at = omega arith in
@@ -77,13 +78,13 @@ unfolding directory_checks
 directories_are s i place zero at e k l = absurd (omega arith)
 directories_are s i place (suc n) at e k l = go (step_at s at) refl e k l (directories_are s i place n)
   where
-    go : (x : Step) → step_at s at ≡ x → on_step i place x (λ next. directory_checks s i place n next) ≡ accept tt → (k : ℕ) → k < suc n
+    go : (x : Result Cursor StepFault) → step_at s at ≡ x → on_step i place x (λ next. directory_checks s i place n next) ≡ accept tt → (k : ℕ) → k < suc n
         → ((next : ℕ) → directory_checks s i place n next ≡ accept tt → (k : ℕ) → k < n → SoundDirectory s (directory_at s next k))
         → SoundDirectory s (directory_at s at k)
-    go (Next c) q h zero l ih = (step_is s at c q).0
-    go (Next c) q h (suc k) l ih = rw (step_is s at c q).1 at (ih c.at h k (omega arith))
-    go Past q h k l ih = never cc
-    go Unended q h k l ih = never cc
+    go (Ok c) q h zero l ih = (step_is s at c q).0
+    go (Ok c) q h (suc k) l ih = rw (step_is s at c q).1 at (ih c.at h k (omega arith))
+    go (Err Past) q h k l ih = never cc
+    go (Err Unended) q h k l ih = never cc
 
 are_directories : (s : List ℕ) (i place n at : ℕ) → ((k : ℕ) → k < n → SoundDirectory s (directory_at s at k)) → directory_checks s i place n at ≡ accept tt
 unfolding directory_checks

@@ -3,18 +3,18 @@ use Rattle.std.specs.Prelude.{Bool, not, ◌&&◌, ◌||◌, List, [], ◌∷◌
 use Rattle.lists.specs.First.{first}
 use Rattle.lists.specs.Answer.{Said}
 use Rattle.lists.specs.Count.{pick}
-use Rattle.lists.specs.declared.Found.{Found}
-use Rattle.lists.specs.declared.Found.TheVariants.{At, Nothing}
 use Rattle.little_endian.specs.Number.{le, zero_unit}
 use Rattle.layout.specs.Head.{entry_offset}
 use Rattle.layout.specs.Versions.{volume_entry}
 use Rattle.layout.specs.declared.Layout.{Layout}
 use Rattle.incremental.specs.Decision.{Decision, accept, refuse, refusal, fault_at, check, ◌>>◌}
 use Rattle.sections.specs.Fields.{entries_fault}
-use Rattle.volumes.specs.declared.Step.{Step}
-use Rattle.volumes.specs.declared.Step.TheVariants.{Next, Past, Unended}
 use Rattle.volumes.specs.declared.Volume.{Volume}
 use Rattle.volumes.specs.declared.Reference.{Reference}
+use Rattle.volumes.specs.declared.Cursor.{Cursor}
+use Rattle.std.specs.Prelude.{Err, None, Ok, Option, Result, Some}
+use Rattle.volumes.specs.declared.StepFault.TheVariants.{Past, Unended}
+use Rattle.volumes.specs.declared.StepFault.{StepFault}
 
 -- where volume entry i starts in the section
 abbrev pub entry_at : Layout → ℕ → ℕ
@@ -62,25 +62,25 @@ references_fit s e =
     && leb (8 + 8 * reference_count s e) (references_size s e)))
 
 -- the directory string at a position: 2 bytes of length, that many units, a zero unit; then the position after it
-unfoldable pub step_at : List ℕ → ℕ → Step
+unfoldable pub step_at : List ℕ → ℕ → Result Cursor StepFault
 step_at s at =
-    pick (ltb (length s) (at + 2)) Past
-    (pick (ltb (length s) (at + 4 + 2 * le 2 s at)) Past
-    (pick (zero_unit s (at + 2 + 2 * le 2 s at)) (Next (record { at = at + 4 + 2 * le 2 s at }))
-    Unended))
+    pick (ltb (length s) (at + 2)) (Err Past)
+    (pick (ltb (length s) (at + 4 + 2 * le 2 s at)) (Err Past)
+    (pick (zero_unit s (at + 2 + 2 * le 2 s at)) (Ok (record { at = at + 4 + 2 * le 2 s at }))
+    Err Unended))
 
 -- what each case says: 0 and the position after the string, 14 or 15
-abbrev pub step_said : Step → Said
-step_said (Next c) = record { number = 0; values = c.at ∷ [] }
-step_said Past = record { number = 14; values = [] }
-step_said Unended = record { number = 15; values = [] }
+abbrev pub step_said : Result Cursor StepFault → Said
+step_said (Ok c) = record { number = 0; values = c.at ∷ [] }
+step_said (Err Past) = record { number = 14; values = [] }
+step_said (Err Unended) = record { number = 15; values = [] }
 
 -- what a step says of volume i: the later steps decide; 14 for one that runs past the section; 15 for a last unit that isn't zero.
 -- The volume entry starts at `place` in the file: the field at fault of 14 and 15
-abbrev pub on_step : ℕ → ℕ → Step → (ℕ → Decision Unit) → Decision Unit
-on_step i place (Next c) later = later c.at
-on_step i place Past later = refuse (refusal 14 i place)
-on_step i place Unended later = refuse (refusal 15 i place)
+abbrev pub on_step : ℕ → ℕ → Result Cursor StepFault → (ℕ → Decision Unit) → Decision Unit
+on_step i place (Ok c) later = later c.at
+on_step i place (Err Past) later = refuse (refusal 14 i place)
+on_step i place (Err Unended) later = refuse (refusal 15 i place)
 
 -- n directory strings of volume i, one after another from a position
 unfoldable pub directory_checks : List ℕ → ℕ → ℕ → ℕ → ℕ → Decision Unit
@@ -112,9 +112,9 @@ unfoldable pub volumes_checks : List ℕ → Layout → ℕ → ℕ → Decision
 volumes_checks s l start n = check 8 (entries_fault n (volume_entry l) (length s)) >> volumes_from s l start n 0
 
 -- the units of the path before its first zero unit, or all of them
-abbrev pub or_all : Found → ℕ → ℕ
-or_all (At k) n = k
-or_all Nothing n = n
+abbrev pub or_all : Option ℕ → ℕ → ℕ
+or_all (Some k) n = k
+or_all None n = n
 
 unfoldable pub path_units : List ℕ → ℕ → ℕ
 path_units s e = or_all (first (λ k. zero_unit s (path_at s e + 2 * k)) (path_count s e)) (path_count s e)

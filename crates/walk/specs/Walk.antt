@@ -8,7 +8,6 @@ use Rattle.layout.specs.Head.{declared_size_at}
 use Rattle.layout.specs.Versions.{trace_entry}
 use Rattle.incremental.specs.Decision.{Decision, accept, refuse, refusal, fault_at, check, ◌>>=◌, ◌>>◌}
 use Rattle.incremental.specs.Plan.{Answer, decided, wants, run}
-use Rattle.incremental.specs.declared.Fault.{Fault}
 use Rattle.incremental.specs.declared.Refusal.{Refusal}
 use Rattle.sections.specs.Fields.{part, link_count}
 use Rattle.head.specs.Checks.{open_plan}
@@ -17,8 +16,10 @@ use Rattle.lists.specs.Filled.{filled}
 use Rattle.trace.specs.Links.{after, namers}
 use Rattle.reader.specs.Checks.{nexts_in, file_answer}
 use Rattle.reader.specs.Verdict.{Acceptable}
-use Rattle.walk.specs.declared.WalkAnswer.{WalkAnswer}
-use Rattle.walk.specs.declared.WalkAnswer.TheVariants.{Walked, Refused}
+use Rattle.std.specs.Prelude.{Err, Ok, Option, Result}
+use Rattle.incremental.specs.declared.Fault.{Fault}
+use Rattle.walk.specs.declared.Walked.{Walked}
+use Rattle.walk.specs.Walk.{steps_walked}
 
 -- ---- the list, by the next indexes `s`
 
@@ -83,7 +84,7 @@ abbrev pub blocks_of : List ℕ → List ℕ
 blocks_of p = opened (run open_plan p) (λ o. blocks_in o p)
 
 -- 23: there is room for fewer entries than the list has
-abbrev pub room_fault : ℕ → ℕ → Fault
+abbrev pub room_fault : ℕ → ℕ → Option Fault
 room_fault room entries = fault_at 0 0 (ltb room entries)
 
 -- what the walk gives: the list, the total along it, and the working buffer
@@ -122,9 +123,9 @@ abbrev pub refused_values : Refusal → Values
 refused_values r = record { kind = 1; number = r.number; index = r.index; offset = r.offset; steps = 0; total = 0 }
 
 -- what each case of the answer says
-abbrev pub values_of : WalkAnswer → Values
-values_of (Walked n t) = walked_values n t
-values_of (Refused r) = refused_values r
+abbrev pub values_of : Result Walked Refusal → Values
+values_of (Ok (steps_walked n t)) = walked_values n t
+values_of (Err r) = refused_values r
 
 abbrev pub decision_values : Decision Visited → Values
 decision_values (accept v) = walked_values (length v.order) v.total
@@ -140,7 +141,7 @@ abbrev pub buffer_after : Decision Visited → ℕ → List ℕ
 buffer_after (accept v) m = v.table
 buffer_after (refuse r) m = filled m
 
-pub record Walks (p buffer order : List ℕ) (r : WalkAnswer) (buffer' order' : List ℕ) : Type 0 where
+pub record Walks (p buffer order : List ℕ) (r : Result Walked Refusal) (buffer' order' : List ℕ) : Type 0 where
   pub answer : values_of r ≡ decision_values (walked p (length buffer) (length order))
   pub placed : order' ≡ order_after (walked p (length buffer) (length order)) order
   pub held : buffer' ≡ buffer_after (walked p (length buffer) (length order)) (length buffer)

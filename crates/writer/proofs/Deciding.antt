@@ -10,15 +10,9 @@ use Rattle.layout.specs.Versions.{volume_entry, trace_entry}
 use Rattle.layout.specs.declared.Layout.{Layout}
 use Rattle.incremental.specs.Decision.{Decision, accept, refuse, refusal, check, checked_of, ◌>>◌}
 use Rattle.incremental.specs.declared.Refusal.{Refusal}
-use Rattle.incremental.specs.declared.Fault.{Fault}
-use Rattle.incremental.specs.declared.Fault.TheVariants.{At, Nowhere}
-use Rattle.incremental.specs.declared.Checked.{Checked}
-use Rattle.incremental.specs.declared.Checked.TheVariants as checked
 use Rattle.sections.specs.Fields.{places_fault, entries_fault}
 use Rattle.sections.proofs.Cases.{places_enough, entries_fit}
 use Rattle.trace.specs.Links.{firsts, link_checks, trace_checks, links_of, predecessors, held, LinkListAnswer, LinkAnswer}
-use Rattle.trace.specs.declared.Links.{Links}
-use Rattle.trace.specs.declared.Links.TheVariants as links
 use Rattle.trace.proofs.Steps.{length-firsts, from_pairs}
 use Rattle.volumes.specs.Volumes.{volumes_from, volumes_checks}
 use Rattle.writer.specs.declared.Plan.{Plan}
@@ -27,12 +21,15 @@ use Rattle.incremental.proofs.Decision.{check_at, check_nowhere}
 use Rattle.writer.specs.declared.Given.{Given}
 use Rattle.writer.specs.LaidOut.{description_of, metrics_at}
 use Rattle.writer.specs.Private.{name_checks, table_checks, SectionsAnswered, plan_by, section_checks}
+use Rattle.std.specs.Prelude.{Err, None, Ok, Option, Result, Some}
+use Rattle.incremental.specs.declared.Fault.{Fault}
+use Rattle.incremental.specs.Decision.{fault}
 
 -- the last of some checks
-pub last_at : (n i at : ℕ) (f r : Fault) (x : Refusal) → r ≡ f → r ≡ At i at → x ≡ refusal n i at → refuse x ≡ check n f
+pub last_at : (n i at : ℕ) (f r : Option Fault) (x : Refusal) → r ≡ f → r ≡ Some (fault i at) → x ≡ refusal n i at → refuse x ≡ check n f
 last_at n i at f r x e q h = rw (sym e ∙ q, h) refl
 
-pub last_nowhere : (n : ℕ) (f r : Fault) → r ≡ f → r ≡ Nowhere → accept tt ≡ check n f
+pub last_nowhere : (n : ℕ) (f r : Option Fault) → r ≡ f → r ≡ None → accept tt ≡ check n f
 last_nowhere n f r e q = rw (sym e ∙ q) refl
 
 -- 7 and 8 have passed
@@ -51,16 +48,16 @@ module _ (l : Layout) (p : Plan) (count : ℕ) (metrics trace strings volumes : 
   abbrev s : List ℕ
   s = firsts trace p.trace
 
-  none_held : (f : Refusal) (buffer : List ℕ) (n : ℕ) → links.Refused f ≡ links.Chains n → buffer ≡ predecessors s m
+  none_held : (f : Refusal) (buffer : List ℕ) (n : ℕ) → Err f ≡ Ok n → buffer ≡ predecessors s m
   none_held f buffer n e = never cc
 
   -- names
-  module _ (c : Checked) (e : checked_of c ≡ name_checks l metrics strings p.metrics) where
-    pub names_refused : (f : Refusal) (buffer : List ℕ) → c ≡ checked.Refused f → SectionsAnswered all s m (links.Refused f) buffer
+  module _ (c : Result Unit Refusal) (e : checked_of c ≡ name_checks l metrics strings p.metrics) where
+    pub names_refused : (f : Refusal) (buffer : List ℕ) → c ≡ Err f → SectionsAnswered all s m (Err f) buffer
     unfolding table_checks
     names_refused f buffer q = record { answer = rw (sym e ∙ ap checked_of q) refl; holds = none_held f buffer }
 
-    module _ (q : c ≡ checked.Passed) (room : p.trace ≤ m) (k : Links) (buffer : List ℕ)
+    module _ (q : c ≡ Ok tt) (room : p.trace ≤ m) (k : Result ℕ Refusal) (buffer : List ℕ)
         (w : LinkAnswer [] trace p.trace_at (trace_entry l) p.trace m k buffer) where
       a : LinkListAnswer (entry_offset p.trace_at (trace_entry l)) s m k buffer
       a = rw from_pairs at w
@@ -68,17 +65,17 @@ module _ (l : Layout) (p : Plan) (count : ℕ) (metrics trace strings volumes : 
       decided-links : links_of k ≡ link_checks (entry_offset p.trace_at (trace_entry l)) s
       decided-links = a.answer ∙ places_passed _ s m (omega (arith, length-firsts trace p.trace))
 
-      pub links_refused : (f : Refusal) → k ≡ links.Refused f → SectionsAnswered all s m (links.Refused f) buffer
+      pub links_refused : (f : Refusal) → k ≡ Err f → SectionsAnswered all s m (Err f) buffer
       unfolding table_checks
       links_refused f z = record { answer = rw (sym e ∙ ap checked_of q, sym decided-links ∙ ap links_of z) refl; holds = none_held f buffer }
 
       -- volumes
-      module _ (n : ℕ) (z : k ≡ links.Chains n) (fits : count * volume_entry l ≤ length volumes) (v : Checked)
+      module _ (n : ℕ) (z : k ≡ Ok n) (fits : count * volume_entry l ≤ length volumes) (v : Result Unit Refusal)
           (b : checked_of v ≡ volumes_checks volumes l p.volumes_at count) where
         decided-volumes : checked_of v ≡ volumes_from volumes l p.volumes_at count 0
         decided-volumes = b ∙ entries_passed volumes l p.volumes_at count fits
 
-        pub volumes_refused : (f : Refusal) → v ≡ checked.Refused f → SectionsAnswered all s m (links.Refused f) buffer
+        pub volumes_refused : (f : Refusal) → v ≡ Err f → SectionsAnswered all s m (Err f) buffer
         unfolding table_checks
         volumes_refused f y =
             record {
@@ -86,7 +83,7 @@ module _ (l : Layout) (p : Plan) (count : ℕ) (metrics trace strings volumes : 
               holds = none_held f buffer;
             }
 
-        pub all_passed : v ≡ checked.Passed → SectionsAnswered all s m (links.Chains n) buffer
+        pub all_passed : v ≡ Ok tt → SectionsAnswered all s m (Ok n) buffer
         unfolding table_checks
         all_passed y =
             record {
@@ -115,25 +112,25 @@ module _ (l : Layout) (p : Plan) (g : Given) (metrics trace strings volumes : Li
       (ap (λ (d : Decision ℕ). check 7 (places_fault m (length trace / 2)) >> (check 8 (entries_fault g.volume_count (volume_entry l) (length volumes)) >> d))
       (sym (regroup nine ten _)))
 
-  pub too_few : (r : Fault) (i at : ℕ) (x : Refusal) (buffer : List ℕ) → r ≡ places_fault m p.trace → r ≡ At i at → x ≡ refusal 7 i at
-      → SectionsAnswered every (firsts trace p.trace) m (links.Refused x) buffer
+  pub too_few : (r : Option Fault) (i at : ℕ) (x : Refusal) (buffer : List ℕ) → r ≡ places_fault m p.trace → r ≡ Some (fault i at) → x ≡ refusal 7 i at
+      → SectionsAnswered every (firsts trace p.trace) m (Err x) buffer
   too_few r i at x buffer e q h =
       record {
         answer = check_at 7 i at _ r _ x e q h ∙ sym in_turn;
         holds = none_held l p g.volume_count metrics trace strings volumes m x buffer;
       }
 
-  pub too_crowded : (s r : Fault) (i at : ℕ) (x : Refusal) (buffer : List ℕ) → s ≡ places_fault m p.trace → s ≡ Nowhere
-      → r ≡ entries_fault g.volume_count (volume_entry l) (length volumes) → r ≡ At i at → x ≡ refusal 8 i at
-      → SectionsAnswered every (firsts trace p.trace) m (links.Refused x) buffer
+  pub too_crowded : (s r : Option Fault) (i at : ℕ) (x : Refusal) (buffer : List ℕ) → s ≡ places_fault m p.trace → s ≡ None
+      → r ≡ entries_fault g.volume_count (volume_entry l) (length volumes) → r ≡ Some (fault i at) → x ≡ refusal 8 i at
+      → SectionsAnswered every (firsts trace p.trace) m (Err x) buffer
   too_crowded s r i at x buffer a b e q h =
       record {
         answer = check_nowhere 7 _ s _ _ a b (check_at 8 i at _ r _ x e q h) ∙ sym in_turn;
         holds = none_held l p g.volume_count metrics trace strings volumes m x buffer;
       }
 
-  pub tables_decide : (s r : Fault) (k : Links) (buffer : List ℕ) → s ≡ places_fault m p.trace → s ≡ Nowhere
-      → r ≡ entries_fault g.volume_count (volume_entry l) (length volumes) → r ≡ Nowhere
+  pub tables_decide : (s r : Option Fault) (k : Result ℕ Refusal) (buffer : List ℕ) → s ≡ places_fault m p.trace → s ≡ None
+      → r ≡ entries_fault g.volume_count (volume_entry l) (length volumes) → r ≡ None
       → SectionsAnswered (table_checks l p g.volume_count metrics trace strings volumes) (firsts trace p.trace) m k buffer
       → SectionsAnswered every (firsts trace p.trace) m k buffer
   tables_decide s r k buffer a b e q h =

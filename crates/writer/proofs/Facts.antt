@@ -5,7 +5,6 @@ use Prim.Native.Nat.{ℕ, ◌≤◌, ◌<◌, min}
 use lib.Dec.{eqb}
 use lib.ListN.{length, take}
 use Rattle.lists.specs.Count.{pick}
-use Rattle.lists.specs.declared.Found.TheVariants.{At, Nothing}
 use Rattle.lists.specs.Pairs.{first_of, second_of}
 use Rattle.little_endian.specs.Number.{le}
 use Rattle.layout.specs.Head.{version_at, signature_at, declared_size_at, stored_hash_at}
@@ -17,6 +16,7 @@ use Rattle.names.specs.Names.{name_at, name_units}
 use Rattle.trace.specs.Links.{nexts}
 use Rattle.writer.specs.LaidOut.{Description, name_kept, pairs, laid_size}
 use Rattle.writer.specs.Private.{head_for, links_in}
+use Rattle.std.specs.Prelude.{None, Some}
 
 -- what stands before byte 76, whatever the size
 pub record StartFacts (v : Version) (l : Layout) (d : Description) (p : List ℕ) : Type 0 where
@@ -24,7 +24,7 @@ pub record StartFacts (v : Version) (l : Layout) (d : Description) (p : List ℕ
   pub version : le 4 p version_at ≡ version_number v
   pub signature : le 4 p signature_at ≡ 0x41434353
   pub size : le 4 p declared_size_at ≡ min (laid_size l d) 4_294_967_295
-  pub ended : name_end (take 76 p) ≡ pick (eqb (length (name_kept d)) 30) Nothing (At (length (name_kept d)))
+  pub ended : name_end (take 76 p) ≡ pick (eqb (length (name_kept d)) 30) None (Some (length (name_kept d)))
 
 -- and the rest, where the size is within the limit
 pub record LaidFacts (v : Version) (l : Layout) (d : Description) (p : List ℕ) : Type 0 where

@@ -12,7 +12,6 @@ use lib.Seq.{take_at, drop_at, drop-append-add, take_all}
 use Rattle.lists.specs.Count.{pick}
 use Rattle.lists.proofs.Tests.{by_test}
 use Rattle.lists.specs.Pairs.{first_of, second_of}
-use Rattle.lists.specs.declared.Found.TheVariants.{At, Nothing}
 use Rattle.lists.proofs.Table.{tabulate-same}
 use Rattle.lists.proofs.First.{first_is_at, first_is_nothing}
 use Rattle.little_endian.specs.Number.{le, zero_unit}
@@ -34,6 +33,7 @@ use Rattle.writer.proofs.Spread.{field_number, field_at}
 use Rattle.writer.proofs.Entries as entry
 use Rattle.writer.proofs.Name.{carried_most, carried_nonzero}
 use Rattle.writer.proofs.Head as top
+use Rattle.std.specs.Prelude.{None, Some}
 
 -- a part in the middle
 middle : (x y z : List ℕ) (a n : ℕ) → length x ≡ a → length y ≡ n → take n (drop a (x ++ (y ++ z))) ≡ y
@@ -96,7 +96,7 @@ module _ (v : Version) (l : Layout) (d : Description) (w : Writable l) (r : Numb
   units : name_units_in (length (take 76 file)) ≡ 30
   units = sym (units-whole (length (take 76 file)) (omega (arith, length-take 76 file, length_file)))
 
-  pub name_ended : name_end (take 76 file) ≡ pick (eqb (length (name_kept d)) 30) Nothing (At (length (name_kept d)))
+  pub name_ended : name_end (take 76 file) ≡ pick (eqb (length (name_kept d)) 30) None (Some (length (name_kept d)))
   unfolding name_end
   name_ended =
       let n = length (name_kept d) in

@@ -16,9 +16,9 @@ use Rattle.layout.specs.Versions.{first_section, metrics_entry, trace_entry, siz
 use Rattle.layout.specs.declared.Layout.{Layout}
 use Rattle.writer.specs.declared.Plan.{Plan}
 use Rattle.writer.specs.declared.Draft.{Draft}
-use Rattle.writer.specs.declared.write.Planned.TheVariants.{Fits, TooLarge}
 use Rattle.writer.specs.LaidOut.{Description, before_zero}
 use Rattle.writer.specs.Private.{Writable, plan_by, planned, Ready}
+use Rattle.std.specs.Prelude.{None, Some}
 
 -- ---- the plan
 module _ (l : Layout) (w : Writable l) (m t s v : ℕ) where
@@ -31,11 +31,11 @@ module _ (l : Layout) (w : Writable l) (m t s v : ℕ) where
   pub many_links : t / 2 ≤ (plan_by l m t s v).size
   many_links = omega (arith, at_least (t / 2) (trace_entry l) (omega arith))
 
-  pub plan_large : size_limit < (plan_by l m t s v).size → TooLarge ≡ planned l m t s v
-  plan_large h = sym (ap (λ (b : Bool). pick b TooLarge (Fits (plan_by l m t s v))) (lt-ltb _ _ h))
+  pub plan_large : size_limit < (plan_by l m t s v).size → None ≡ planned l m t s v
+  plan_large h = sym (ap (λ (b : Bool). pick b None (Some (plan_by l m t s v))) (lt-ltb _ _ h))
 
-  pub plan_fits : (plan_by l m t s v).size ≤ size_limit → Fits (plan_by l m t s v) ≡ planned l m t s v
-  plan_fits h = sym (ap (λ (b : Bool). pick b TooLarge (Fits (plan_by l m t s v))) (le-ltb _ _ h))
+  pub plan_fits : (plan_by l m t s v).size ≤ size_limit → Some (plan_by l m t s v) ≡ planned l m t s v
+  plan_fits h = sym (ap (λ (b : Bool). pick b None (Some (plan_by l m t s v))) (le-ltb _ _ h))
 
   -- no sum wraps
   pub plan_low : m / 2 ≤ size_limit → t / 2 ≤ size_limit → s ≤ size_limit → v ≤ size_limit → (plan_by l m t s v).size ≤ 4294967296

@@ -9,19 +9,15 @@ use native.Mathlib.Omega.{arith}
 use lib.ListN.{length, take}
 use borrow.Author.Tests.{eq-eqb, le-ltb}
 use Rattle.lists.specs.First.{first_from}
-use Rattle.lists.specs.declared.Found.TheVariants.{Nothing}
 use Rattle.little_endian.specs.Number.{le}
 use Rattle.little_endian.proofs.Number.{le-take}
 use Rattle.layout.specs.Head.{version_at, declared_size_at, program_name_at}
 use Rattle.layout.specs.Versions.{version_number, version_of, layout_of, head_end, run_time_at, volume_entry, size_limit}
 use Rattle.layout.specs.declared.Version.{Version}
 use Rattle.layout.specs.declared.Layout.{Layout}
-use Rattle.layout.specs.declared.KnownVersion.TheVariants.{Known}
 use Rattle.incremental.specs.Decision.{Decision, accept, refuse, refusal, fault_of, check as check_now, ◌>>=◌, ◌>>◌}
 use Rattle.incremental.specs.Plan.{Plan, decide, decided, run, and_then, reach, check, given, done}
 use Rattle.incremental.specs.declared.Refusal.{Refusal}
-use Rattle.incremental.specs.declared.Fault.{Fault}
-use Rattle.incremental.specs.declared.Fault.TheVariants.{At, Nowhere}
 use Rattle.incremental.proofs.Plan.{onward, run_then, answer_then, run_decide, reach_here, check_passed, check_fault, given_some, given_none}
 use Rattle.sections.specs.Fields.{declared_size, signature_fault, part, link_count, places_fault, entries_fault}
 use Rattle.sections.proofs.Cases.{signature_right, size_high, size_right, links_all}
@@ -42,6 +38,9 @@ use Rattle.writer.specs.LaidOut.{Description, name_kept, pairs, metrics_at, volu
 use Rattle.writer.specs.Private.{Writable, head_for, links_in, section_checks, record_for, acceptable_for, described}
 use Rattle.writer.proofs.Facts.{StartFacts, LaidFacts}
 use Rattle.writer.proofs.Sections.{size_stands, opens}
+use Rattle.incremental.specs.declared.Fault.{Fault}
+use Rattle.std.specs.Prelude.{None, Option, Some}
+use Rattle.incremental.specs.Decision.{fault}
 
 -- ---- a run, by what its lines decide
 
@@ -61,33 +60,33 @@ last_decides (accept tt) p = refl
 last_decides (refuse r) p = refl
 
 -- checks 7 and 8
-counted_lines : (a b : Fault) (p : List ℕ) → run (and_then (check 7 a) λ _. and_then (check 8 b) λ _. done tt) p ≡ decided (check_now 7 a >> check_now 8 b)
+counted_lines : (a b : Option Fault) (p : List ℕ) → run (and_then (check 7 a) λ _. and_then (check 8 b) λ _. done tt) p ≡ decided (check_now 7 a >> check_now 8 b)
 unfolding run and_then check
-counted_lines (At i at) b p = refl
-counted_lines Nowhere (At i at) p = refl
-counted_lines Nowhere Nowhere p = refl
+counted_lines (Some (fault i at)) b p = refl
+counted_lines None (Some (fault i at)) p = refl
+counted_lines None None p = refl
 
-counts_then : {C : Type 0} (t : Plan Unit) (g : Unit → Plan C) (p : List ℕ) (a b : Fault) (later : Decision ℕ) (k : ℕ → Decision C)
+counts_then : {C : Type 0} (t : Plan Unit) (g : Unit → Plan C) (p : List ℕ) (a b : Option Fault) (later : Decision ℕ) (k : ℕ → Decision C)
     → run t p ≡ decided (check_now 7 a >> check_now 8 b) → run (g tt) p ≡ decided (later >>= k)
     → run (and_then t g) p ≡ decided ((check_now 7 a >> (check_now 8 b >> later)) >>= k)
 counts_then t g p a b later k e h = run_then t g p ∙ ap (λ x. onward x (λ u. run (g u) p)) e ∙ go a b
   where
-    go : (a b : Fault) → onward (decided (check_now 7 a >> check_now 8 b)) (λ u. run (g u) p) ≡ decided ((check_now 7 a >> (check_now 8 b >> later)) >>= k)
-    go (At i at) b = refl
-    go Nowhere (At i at) = refl
-    go Nowhere Nowhere = h
+    go : (a b : Option Fault) → onward (decided (check_now 7 a >> check_now 8 b)) (λ u. run (g u) p) ≡ decided ((check_now 7 a >> (check_now 8 b >> later)) >>= k)
+    go (Some (fault i at)) b = refl
+    go None (Some (fault i at)) = refl
+    go None None = h
 
 -- checks 11 to 13, and what they hand on: the next indexes in the plan, the chain count in the decision
-abbrev linked : {A : Type 0} → Fault → Fault → Fault → A → Decision A
+abbrev linked : {A : Type 0} → Option Fault → Option Fault → Option Fault → A → Decision A
 linked a b c x = check_now 11 a >> (check_now 12 b >> (check_now 13 c >> accept x))
 
-linked_lines : (a b c : Fault) (s p : List ℕ)
+linked_lines : (a b c : Option Fault) (s p : List ℕ)
     → run (and_then (check 11 a) λ _. and_then (check 12 b) λ _. and_then (check 13 c) λ _. done s) p ≡ decided (linked a b c s)
 unfolding run and_then check
-linked_lines (At i at) b c s p = refl
-linked_lines Nowhere (At i at) c s p = refl
-linked_lines Nowhere Nowhere (At i at) s p = refl
-linked_lines Nowhere Nowhere Nowhere s p = refl
+linked_lines (Some (fault i at)) b c s p = refl
+linked_lines None (Some (fault i at)) c s p = refl
+linked_lines None None (Some (fault i at)) s p = refl
+linked_lines None None None s p = refl
 
 -- where `at` says at which place in the file each entry starts
 abbrev linked_in : (ℕ → ℕ) → List ℕ → Decision (List ℕ)
@@ -99,11 +98,11 @@ unfolding link_checks
 links_decide t g p at s f k e h =
     run_then t g p ∙ ap (λ x. onward x (λ a. run (g a) p)) e ∙ go (astray_fault at s) (shared_fault at s) (cyclic_fault at s)
   where
-    go : (a b c : Fault) → onward (decided (linked a b c s)) (λ a. run (g a) p) ≡ decided ((linked a b c (chains s) >>= f) >>= k)
-    go (At i at) b c = refl
-    go Nowhere (At i at) c = refl
-    go Nowhere Nowhere (At i at) = refl
-    go Nowhere Nowhere Nowhere = h
+    go : (a b c : Option Fault) → onward (decided (linked a b c s)) (λ a. run (g a) p) ≡ decided ((linked a b c (chains s) >>= f) >>= k)
+    go (Some (fault i at)) b c = refl
+    go None (Some (fault i at)) c = refl
+    go None None (Some (fault i at)) = refl
+    go None None None = h
 
 -- tests that agree find the same index first
 first-same : (f g : ℕ → Bool) (n i : ℕ) → ((k : ℕ) → i ≤ k → k < i + n → f k ≡ g k) → first_from f n i ≡ first_from g n i
@@ -112,7 +111,7 @@ first-same f g zero i h = refl
 first-same f g (suc n) i h = rw (h i (omega arith) (omega arith), first-same f g n (suc i) (λ k a b. h k (omega arith) (omega arith)))
 
 module _ (v : Version) (l : Layout) (d : Description) (p : List ℕ) (m : ℕ) (laid : l ≡ layout_of v) (w : Writable l)
-    (known : version_of (version_number v) ≡ Known v) where
+    (known : version_of (version_number v) ≡ Some v) where
   -- ---- checks 1 to 4, whatever the size
   module _ (s : StartFacts v l d p) where
     long-head : (132 ≤ head_end l) × (head_end l ≤ 240) × (head_end l ≤ laid_size l d) × (head_end l ≤ length p)
@@ -156,7 +155,7 @@ module _ (v : Version) (l : Layout) (d : Description) (p : List ℕ) (m : ℕ) (
         ∙ reach_here 16 _ p (omega arith)
         ∙ check_passed 3 _ _ p (sym (size_right (layout_of v) _ _ size-reads (rw (← laid) (omega arith)) (omega arith)))
         ∙ reach_here 76 _ p (omega arith)
-        ∙ given_none 4 _ _ _ p (ap units {y = Nothing} (s.ended ∙ rw (eq-eqb (length (name_kept d)) 30 e))))
+        ∙ given_none 4 _ _ _ p (ap units {y = None} (s.ended ∙ rw (eq-eqb (length (name_kept d)) 30 e))))
 
   -- ---- the other checks, where the size is within the limit and the name ends
   module _ (f : LaidFacts v l d p) (short : length (name_kept d) < 30) where
@@ -197,21 +196,21 @@ module _ (v : Version) (l : Layout) (d : Description) (p : List ℕ) (m : ℕ) (
     unfolding counts_plan
     counts-decide =
         let fit = entries_fault d.volume_count (volume_entry l) (length d.volumes) in
-        reach_here (head_end l) _ p open_facts.whole ∙ counted_lines _ fit p ∙ ap (λ (x : Fault). decided (check_now 7 x >> check_now 8 fit)) places_same
+        reach_here (head_end l) _ p open_facts.whole ∙ counted_lines _ fit p ∙ ap (λ (x : Option Fault). decided (check_now 7 x >> check_now 8 fit)) places_same
 
     fits-decides : run (fits_plan o) p ≡ decided (check_now 9 (misfit_fault l (metrics_at l) (in_pairs d.metrics) (pairs d.metrics) (length d.strings)))
     unfolding fits_plan check
     fits-decides =
         reach_here (head_for l d).metrics.end _ p (reached _ open_facts.metrics)
         ∙ last_decides _ p
-        ∙ ap (λ (x : Fault). decided (check_now 9 x)) (misfit_take p o open_facts ∙ misfit-same)
+        ∙ ap (λ (x : Option Fault). decided (check_now 9 x)) (misfit_take p o open_facts ∙ misfit-same)
 
     texts-decide : run (texts_plan o) p ≡ decided (check_now 10 (unsound_fault l (metrics_at l) (in_pairs d.metrics) (pairs d.metrics) d.strings))
     unfolding texts_plan check
     texts-decide =
         reach_here (names_required l (head_for l d)) _ p (reached _ (names_required_low p o open_facts))
         ∙ last_decides _ p
-        ∙ ap (λ (x : Fault). decided (check_now 10 x)) (unsound_take p o open_facts ∙ unsound-same)
+        ∙ ap (λ (x : Option Fault). decided (check_now 10 x)) (unsound_take p o open_facts ∙ unsound-same)
 
     trace-decides : run (trace_plan o) p ≡ decided (linked_in (link_at o) (links_in d))
     unfolding trace_plan

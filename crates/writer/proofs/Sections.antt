@@ -11,8 +11,6 @@ use Rattle.lists.proofs.Tests.{by_test}
 use Rattle.layout.specs.Versions.{version_number, version_of, layout_of, head_end, metrics_entry, trace_entry}
 use Rattle.layout.specs.declared.Version.{Version}
 use Rattle.layout.specs.declared.Layout.{Layout}
-use Rattle.layout.specs.declared.KnownVersion.TheVariants.{Known}
-use Rattle.incremental.specs.declared.Fault.TheVariants.{Nowhere}
 use Rattle.sections.specs.Fields.{declared_size, section_of, outside_fault, overlap_fault}
 use Rattle.sections.proofs.Cases.{signature_right, form_one}
 use Rattle.head.specs.Rules.{Inside, Apart}
@@ -22,6 +20,7 @@ use Rattle.reader.specs.Checks.{opening}
 use Rattle.writer.specs.LaidOut.{Description, name_kept, pairs, metrics_at, trace_at, strings_at, volumes_at, laid_size}
 use Rattle.writer.specs.Private.{Writable, head_for}
 use Rattle.writer.proofs.Facts.{LaidFacts}
+use Rattle.std.specs.Prelude.{None, Some}
 
 -- a section ends within what H and its bytes are within
 ends_by : (h at len count size : ℕ) → h ≤ size → at + len ≤ size → (section_of h at len count).end ≤ size
@@ -62,7 +61,7 @@ module _ (l : Layout) (d : Description) (w : Writable l) where
       }
 
   -- CHECKS 5 AND 6 cannot fail
-  pub never_outside : (outside_fault l (head_for l d) ≡ Nowhere) × (overlap_fault (head_for l d) ≡ Nowhere)
+  pub never_outside : (outside_fault l (head_for l d) ≡ None) × (overlap_fault (head_for l d) ≡ None)
   never_outside = ((outside_law l (head_for l d)).1 inside, (shares_law (head_for l d)).1 apart)
 
 pub size_stands : (v : Version) (l : Layout) (d : Description) (p : List ℕ) → LaidFacts v l d p → declared_size p ≡ laid_size l d
@@ -70,7 +69,7 @@ size_stands v l d p f = f.start.size ∙ omega (arith, f.small)
 
 -- what checks 1 to 6 accept
 module _ (v : Version) (l : Layout) (d : Description) (p : List ℕ) (laid : l ≡ layout_of v) (w : Writable l)
-    (known : version_of (version_number v) ≡ Known v) (f : LaidFacts v l d p) where
+    (known : version_of (version_number v) ≡ Some v) (f : LaidFacts v l d p) where
   pub opens : length (name_kept d) < 30 → OpenFacts p (opening v l (length (name_kept d)) (head_for l d))
   opens h =
       let e = size_stands v l d p f in

@@ -1,6 +1,5 @@
 -- What only private contracts need: how the bytes come into the place, and the checks on a description in place of its file.
 use Rattle.std.specs.Prelude.{◌≡◌, true, List, [], ◌∷◌, ◌++◌, ℕ, ◌+◌, ◌-◌, ◌*◌, ◌/◌, ◌≤◌, ltb, length, replicate}
-use Rattle.std.proofs.Math.Option.{Option, some, none}
 use Rattle.std.proofs.lemmas.List.Edits.{sets}
 use Rattle.lists.specs.Count.{pick}
 use Rattle.layout.specs.Head.{version_at, signature_at, declared_size_at, program_name_at, stored_hash_at, metrics_offset_at, metrics_count_at, entry_offset}
@@ -8,8 +7,6 @@ use Rattle.layout.specs.Head.{trace_offset_at, trace_count_at, strings_offset_at
 use Rattle.layout.specs.Versions.{version_number, head_end, time_count, run_time_at, run_count_at, metrics_entry, name_offset_at, name_length_at, volume_entry, trace_entry}
 use Rattle.layout.specs.Versions.{has_next, first_section, form_required, size_limit}
 use Rattle.layout.specs.Versions.{layout_of, version_of}
-use Rattle.layout.specs.declared.KnownVersion.{KnownVersion}
-use Rattle.layout.specs.declared.KnownVersion.TheVariants.{Known, Unknown}
 use Rattle.layout.specs.declared.Version.{Version}
 use Rattle.layout.specs.declared.Layout.{Layout}
 use Rattle.incremental.specs.Decision.{Decision, accept, check, ◌>>=◌, ◌>>◌}
@@ -17,8 +14,6 @@ use Rattle.sections.specs.declared.Head.{Head}
 use Rattle.sections.specs.Fields.{section_of, places_fault, entries_fault}
 use Rattle.names.specs.Names.{in_pairs, misfit_fault, unsound_fault}
 use Rattle.trace.specs.Links.{link_checks, predecessors, links_of}
-use Rattle.trace.specs.declared.Links.{Links}
-use Rattle.trace.specs.declared.Links.TheVariants.{Chains}
 use Rattle.trace.specs.Links.{firsts}
 use Rattle.volumes.specs.Volumes.{volumes_from}
 use Rattle.reader.specs.declared.verdict.Acceptance.{Acceptance}
@@ -27,12 +22,12 @@ use Rattle.reader.specs.Verdict.{Acceptable}
 use Rattle.writer.specs.declared.Plan.{Plan}
 use Rattle.writer.specs.declared.Given.{Given}
 use Rattle.writer.specs.declared.Draft.{Draft}
-use Rattle.writer.specs.declared.write.Planned.{Planned}
-use Rattle.writer.specs.declared.write.Planned.TheVariants.{Fits, TooLarge}
-use Rattle.reader.specs.declared.verdict.Verdict.{Verdict}
 use Rattle.writer.specs.Writes.{placed_answer, Lays}
 use Rattle.writer.specs.LaidOut.{Field, number, unit_bytes, spread, Description, Numbers, laid_by, name_kept, pairs, metrics_at, trace_at, strings_at}
 use Rattle.writer.specs.LaidOut.{volumes_at, laid_size}
+use Rattle.std.specs.Prelude.{None, Ok, Option, Result, Some}
+use Rattle.incremental.specs.declared.Refusal.{Refusal}
+use Rattle.incremental.specs.declared.Stop.{Stop}
 
 -- ---- bytes into the place
 
@@ -92,14 +87,14 @@ abbrev pub plan_for : Layout → Description → Plan
 plan_for l d = plan_by l (length d.metrics) (length d.trace) (length d.strings) (length d.volumes)
 
 -- 3 where the size exceeds the limit
-abbrev pub planned : Layout → ℕ → ℕ → ℕ → ℕ → Planned
+abbrev pub planned : Layout → ℕ → ℕ → ℕ → ℕ → Option Plan
 planned l metrics trace strings volumes =
-    pick (ltb size_limit (plan_by l metrics trace strings volumes).size) TooLarge (Fits (plan_by l metrics trace strings volumes))
+    pick (ltb size_limit (plan_by l metrics trace strings volumes).size) None (Some (plan_by l metrics trace strings volumes))
 
 -- a plan within the limit, for a description by a version's layout, and the length of its name
 pub record Ready (w : Draft) (d : Description) : Type 0 where
   pub laid : w.layout ≡ layout_of w.version
-  pub known : version_of (version_number w.version) ≡ Known w.version
+  pub known : version_of (version_number w.version) ≡ Some w.version
   pub writable : Writable w.layout
   pub numbers : Numbers d
   pub plan : w.plan ≡ plan_for w.layout d
@@ -107,9 +102,9 @@ pub record Ready (w : Draft) (d : Description) : Type 0 where
   pub named : w.units ≡ length (name_kept d)
 
 -- the version of a number as the promise has it
-abbrev pub known_is : KnownVersion → Option Version
-known_is (Known v) = some v
-known_is Unknown = none
+abbrev pub known_is : Option Version → Option Version
+known_is (Some v) = Some v
+known_is None = None
 
 -- the head by a plan: the fields behind the program name, and all of it
 abbrev pub fields_behind : Layout → Plan → Given → List Field
@@ -209,9 +204,9 @@ record_by version p g units n =
     }
 
 -- what the checks of the sections answer, and the buffer where they pass
-pub record SectionsAnswered (c : Decision ℕ) (s : List ℕ) (m : ℕ) (r : Links) (buffer : List ℕ) : Type 0 where
+pub record SectionsAnswered (c : Decision ℕ) (s : List ℕ) (m : ℕ) (r : Result ℕ Refusal) (buffer : List ℕ) : Type 0 where
   pub answer : links_of r ≡ c
-  pub holds : (n : ℕ) → r ≡ Chains n → buffer ≡ predecessors s m
+  pub holds : (n : ℕ) → r ≡ Ok n → buffer ≡ predecessors s m
 
 -- checks 9 and 10, and 9 to 15
 abbrev pub name_checks : Layout → List ℕ → List ℕ → ℕ → Decision Unit
@@ -227,6 +222,6 @@ table_checks l p count metrics trace strings volumes = do
   accept n
 
 -- the writer's promise, by a version's layout
-abbrev pub LaysBy : Version → Layout → Description → List ℕ → List ℕ → Verdict → List ℕ → List ℕ → Type 0
+abbrev pub LaysBy : Version → Layout → Description → List ℕ → List ℕ → Result Acceptance Stop → List ℕ → List ℕ → Type 0
 LaysBy v l d buffer output r buffer' output' =
     Lays (placed_answer (laid_by v l d) (length buffer) (length output)) (laid_by v l d) buffer output r buffer' output'

@@ -5,11 +5,12 @@ use native.Mathlib.Nat.{sub-zero}
 use native.Mathlib.Omega.{arith}
 use lib.ListN.{length-set}
 use Rattle.lists.proofs.Pairs.{laid_start, laid_size, laid_more, laid_all, laid_full}
-use Rattle.volumes.specs.declared.Step.TheVariants.{Next, Past, Unended}
 use Rattle.volumes.proofs.SoundVolume.{step_is}
 use Rattle.query.specs.Contents.{directory_pairs}
 use Rattle.query.proofs.Listed.{directories_step, directories_end}
 use Rattle.query.proofs.contents.list_directories.Goals as goal
+use Rattle.std.specs.Prelude.{Err, Ok}
+use Rattle.volumes.specs.declared.StepFault.TheVariants.{Past, Unended}
 
 pub shape_of-pairs : goal.shape_of-pairs
 shape_of-pairs c = laid_size _ _ c.loop-k.invariant.1
@@ -29,7 +30,7 @@ pub returns-in-Unended : goal.returns-in-Unended
 returns-in-Unended c =
     let a = c.args in
     let rest = directory_pairs a.section.now a.base (a.count - c.loop-k.k) c.loop-k.cursor.at in
-    let e : rest ≡ [] = directories_step _ _ _ _ _ Unended (omega arith) (sym c.step.ensures.answer ∙ c.in-Unended.is) in
+    let e : rest ≡ [] = directories_step _ _ _ _ _ (Err Unended) (omega arith) (sym c.step.ensures.answer ∙ c.in-Unended.is) in
     laid_all _ _ e c.loop-k.invariant.1
 
 pub returns-then-room-i : goal.returns-then-room-i
@@ -48,7 +49,7 @@ pub returns-in-Past : goal.returns-in-Past
 returns-in-Past c =
     let a = c.args in
     let rest = directory_pairs a.section.now a.base (a.count - c.loop-k.k) c.loop-k.cursor.at in
-    let e : rest ≡ [] = directories_step _ _ _ _ _ Past (omega arith) (sym c.step.ensures.answer ∙ c.in-Past.is) in
+    let e : rest ≡ [] = directories_step _ _ _ _ _ (Err Past) (omega arith) (sym c.step.ensures.answer ∙ c.in-Past.is) in
     laid_all _ _ e c.loop-k.invariant.1
 
 pub overflow_cast-pairs : goal.overflow_cast-pairs
@@ -63,7 +64,7 @@ loop-k-preserved c =
     let next = c.in-Next.next in
     let later = directory_pairs s a.base (a.count - (c.loop-k.k + 1)) next.at in
     let e : directory_pairs s a.base (a.count - c.loop-k.k) here ≡ (a.base + here + 2) ∷ c.u16_at.result ∷ later =
-    directories_step s a.base a.count c.loop-k.k here (Next next) (omega arith)
+    directories_step s a.base a.count c.loop-k.k here (Ok next) (omega arith)
     (sym c.step.ensures.answer ∙ c.in-Next.is)
     ∙ ap (λ (n : ℕ). (a.base + here + 2) ∷ n ∷ later) (sym c.u16_at.ensures) in
     (omega arith, laid_more _ _ e (omega arith) c.loop-k.invariant.1)

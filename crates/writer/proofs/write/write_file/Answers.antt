@@ -1,20 +1,19 @@
 -- A version that is written, and 1 for any other number.
 use mathlib.Core.Path.{◌≡◌, refl, sym, ap, ◌∙◌}
-use mathlib.Core.Option.{some}
 use Prim.Native.Nat.{ℕ}
 use Rattle.layout.specs.declared.Version.{Version}
-use Rattle.layout.specs.declared.KnownVersion.{KnownVersion}
 use Rattle.writer.specs.LaidOut.{Description, laid_out}
 use Rattle.writer.specs.Writes.{writable, placed_answer, answer_for}
 use Rattle.writer.specs.Private.{known_is}
 use Rattle.writer.proofs.Answering.{written_known, writes_known, writes_other}
 use Rattle.writer.proofs.write.write_file.Goals as goal
+use Rattle.std.specs.Prelude.{Option, Some}
 
-written : (n : ℕ) (a b : KnownVersion) → known_is a ≡ writable n → a ≡ b → writable n ≡ known_is b
+written : (n : ℕ) (a b : Option Version) → known_is a ≡ writable n → a ≡ b → writable n ≡ known_is b
 written n a b e q = sym e ∙ ap known_is q
 
 -- no check comes before the reader's
-reader-answers : (v : Version) (d : Description) (m n : ℕ) → answer_for (some v) d m n ≡ placed_answer (laid_out v d) m n
+reader-answers : (v : Version) (d : Description) (m n : ℕ) → answer_for (Some v) d m n ≡ placed_answer (laid_out v d) m n
 reader-answers v d m n = refl
 
 pub returns-in_default : goal.returns-in_default
