@@ -67,7 +67,7 @@ module _ (test : ℕ → ℕ → Bool) (m : ℕ) where
   there-none e = go (least_pair test m) refl
     where
       go : (x : Option PathEntry) → least_pair test m ≡ x → least_pair test m ≡ None
-      go (Some (path_entry i n)) q = absurd (omega (arith, (first-there i n q).inside, ap length e))
+      go (Some w) q = absurd (omega (arith, (first-there w.index w.number q).inside, ap length e))
       go None q = q
 
 -- ---- on a file

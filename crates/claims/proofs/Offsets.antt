@@ -258,7 +258,7 @@ module _ (p : List ℕ) (m : ℕ) where
   each-whole n (decided (refuse r)) k = each_refuse Any Right r (k.refuses r refl).0
   each-whole n (wants j) k = each_refuse Any Right _ refl
 
-refused_by : (x : Answer Acceptable) (m : ℕ) (v : Result Acceptance Stop) (after : List ℕ) (r : Refusal) → Reads x m v after → v ≡ Err (Err (Err (Err (Err (Err (Err (Err (Err (Err (Err (Err (Err (Err (Err (Err (Err (Err (Err (Err (Err (Err (Err (Err (Err (Err (Err (Err (Err (Err (Err (Err (Err (Err (Err (Err (Err (Err (Err (Err (Err (Err (Err (Err (Err (Err (Err (Err (Err (Err (Err (Err (Err (Err (Err (Err (Err (Err (Err (Err (Err (Err (Err (Err (Err (Err (Err (Err (Err (Err (Err (Err (Err (Err (Err (Err (Err (Err (Err (Err (Err (Err (Err (Err (Err (Err (Err (Err (Err (Err (Err (Err (Err (Err (Err (Err (Err (Err (Err (Err (Err (Err (Err (Err (Err (Err (Err (Err (Err (Err (Err (Err (Err (Err (Err (Err (Err (Err (Err (Err (Err (Err (Err (Err (Err (Err (Err (Err (Err (Err (Err (Err (Err (Err (Err (Err (Err (Err (Err (Err (Err (Err (Err (Err (Err (Err (Err (Err (Err (Err (Err (Err (Err (Err (Err (Err (Err (Err (Err (Err (Err (Err (Err (Err (Err (Err (Err (Err (Err (Err (Err (Err (Err (Err (Err (Err (Err (Err (Err (Err (Err (Err (Err (Err (Err (Err (Err (Err (Err (Err (Err (Err (Err (Err (Err (Err (Err (Err (Err (Err (Refused r)))))))))))))))))))))))))))))))))))))))))))))))))))))))))))))))))))))))))))))))))))))))))))))))))))))))))))))))))))))))))))))))))))))))))))))))))))))))))))))))))))))))))))))))))))))))))))))))))))))))) → x ≡ decided (refuse r)
+refused_by : (x : Answer Acceptable) (m : ℕ) (v : Result Acceptance Stop) (after : List ℕ) (r : Refusal) → Reads x m v after → v ≡ Err (Refused r) → x ≡ decided (refuse r)
 refused_by x m v after r h q = refused_answer x r (ap values_of (sym q) ∙ h.verdict)
 
 pub offsets : Offsets

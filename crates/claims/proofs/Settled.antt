@@ -12,17 +12,17 @@ use Rattle.lists.specs.Part.{IsPart}
 use Rattle.text.specs.Put.{Put}
 use Rattle.layout.specs.Versions.{form_said}
 use Rattle.layout.specs.declared.Layout.{Layout}
-use Rattle.incremental.specs.Decision.{Decision, accept, refuse, refusal, checked_of}
+use Rattle.incremental.specs.Decision.{Decision, accept, refuse, refusal, decision_of}
 use Rattle.incremental.specs.Plan.{Answer, decided, wants, run}
 use Rattle.catalogue.specs.Line.{LineAnswer, read_answer, written_number}
 use Rattle.catalogue.specs.declared.ReadLine.{ReadLine}
 use Rattle.catalogue.specs.declared.ReadLine.TheVariants as read_line
 use Rattle.catalogue.specs.declared.WrittenLine.{WrittenLine}
 use Rattle.catalogue.specs.declared.WrittenLine.TheVariants as written_line
-use Rattle.head.specs.Checks.{start_of, open_of, open_plan}
+use Rattle.head.specs.Checks.{start_of, answer_of, open_plan}
 use Rattle.head.specs.declared.checks.Start.{Start}
 use Rattle.head.specs.declared.checks.Opening.{Opening}
-use Rattle.trace.specs.Links.{links_of}
+use Rattle.trace.specs.Links.{decision_of}
 use Rattle.reader.specs.declared.verdict.Acceptance.{Acceptance}
 use Rattle.reader.specs.Verdict.{Acceptable, Reads, verdict_in}
 use Rattle.reader.specs.Checks.{ReadsOpened}
@@ -69,7 +69,7 @@ open_back (decided (accept x)) = Ok x
 open_back (decided (refuse x)) = Err (Refused x)
 open_back (wants k) = Err (Wanted k)
 
-opening : (r : Result Opening Stop) → open_back (open_of r) ≡ r
+opening : (r : Result Opening Stop) → open_back (answer_of r) ≡ r
 opening (Ok x) = refl
 opening (Err (Refused x)) = refl
 opening (Err (Wanted x)) = refl
@@ -78,7 +78,7 @@ abbrev check_back : Decision Unit → Result Unit Refusal
 check_back (accept x) = Ok tt
 check_back (refuse x) = Err x
 
-check : (r : Result Unit Refusal) → check_back (checked_of r) ≡ r
+check : (r : Result Unit Refusal) → check_back (decision_of r) ≡ r
 check (Ok tt) = refl
 check (Err x) = refl
 
@@ -86,7 +86,7 @@ abbrev link_back : Decision ℕ → Result ℕ Refusal
 link_back (accept x) = Ok x
 link_back (refuse x) = Err x
 
-link : (r : Result ℕ Refusal) → link_back (links_of r) ≡ r
+link : (r : Result ℕ Refusal) → link_back (decision_of r) ≡ r
 link (Ok x) = refl
 link (Err x) = refl
 
@@ -95,7 +95,7 @@ walk_back v =
     pick (eqb v.kind 0) (Ok (steps_walked v.steps v.total)) (Err (refusal v.number v.index v.offset))
 
 walk : (r : Result Walked Refusal) → walk_back (values_of r) ≡ r
-walk (Ok (steps_walked n t)) = refl
+walk (Ok w) = refl
 walk (Err x) = refl
 
 abbrev replay_back : Said → ReplayAnswer
@@ -174,10 +174,10 @@ settled =
       layout_of_form = λ n r s p q. told form_said form_back known_form r s (p ∙ sym q);
       sections_find_form = λ l b r s p q. told form_said form_back known_form r s (p ∙ sym q);
       head_read_start = λ bytes r s p q. told start_of start_back start r s (p ∙ sym q);
-      head_read_open = λ bytes r s p q. told open_of open_back opening r s (p ∙ sym q);
-      trace_check_links = λ section table at size entries m r s a b p q. (told links_of link_back link r s (p.answer ∙ sym q.answer), cc);
-      volumes_check_volume = λ section l at i r s p q. told checked_of check_back check r s (p ∙ sym q);
-      volumes_check_volumes = λ section l at count r s p q. told checked_of check_back check r s (p ∙ sym q);
+      head_read_open = λ bytes r s p q. told answer_of open_back opening r s (p ∙ sym q);
+      trace_check_links = λ section table at size entries m r s a b p q. (told decision_of link_back link r s (p.answer ∙ sym q.answer), cc);
+      volumes_check_volume = λ section l at i r s p q. told decision_of check_back check r s (p ∙ sym q);
+      volumes_check_volumes = λ section l at count r s p q. told decision_of check_back check r s (p ∙ sym q);
       reader_read_prefix = λ bytes buffer. reads _ _;
       reader_read_file = λ bytes buffer. reads _ _;
       reader_read_opened = opened;

@@ -89,7 +89,7 @@ accepted_walked p m n x e q =
 
 -- an answer is known by its values
 same_answer : (r : Result Walked Refusal) (n t : ℕ) → values_of r ≡ walked_values n t → r ≡ Ok (steps_walked n t)
-same_answer (Ok (steps_walked a b)) n t e = λ i. Ok (steps_walked (ap (λ (w : Values). w.steps) e i) (ap (λ (w : Values). w.total) e i))
+same_answer (Ok w) n t e = λ i. Ok (steps_walked (ap (λ (w : Values). w.steps) e i) (ap (λ (w : Values). w.total) e i))
 same_answer (Err f) n t e = never (ap (λ (w : Values). w.kind) (sym e))
 
 nothing : walk [] ≡ []

@@ -43,7 +43,6 @@ use Rattle.reader.proofs.Values.{same_values}
 use Rattle.claims.specs.WithoutNext.{SameOutside, WithoutNext}
 use Rattle.incremental.specs.declared.Fault.{Fault}
 use Rattle.std.specs.Prelude.{None, Option, Some}
-use Rattle.incremental.specs.Decision.{fault}
 
 -- ---- no next index
 no_links : (o : Opening) → has_next o.layout ≡ false → link_count o.layout o.head ≡ 0
@@ -183,7 +182,7 @@ module _ (p q : List ℕ) (o : Opening) (f : OpenFacts p o) (h : SameOutside o.h
   check-same : (n : ℕ) (a b : Option Fault) → a ≡ b
       → ◌≡◌ {A = Answer Unit} (run (and_then (check n a) (λ _. done tt)) p) (run (and_then (check n b) (λ _. done tt)) q)
   unfolding check and_then run
-  check-same n (Some (fault i at)) b e = rw (← e)
+  check-same n (Some w) b e = rw (← e)
   check-same n None b e = rw (← e)
 
   decide-same : (a b : Decision Unit) → a ≡ b

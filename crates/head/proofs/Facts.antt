@@ -16,7 +16,6 @@ use Rattle.little_endian.proofs.Number.{le-take}
 use Rattle.layout.specs.Versions.{version_of, layout_of, head_end, metrics_entry, trace_entry, form_required, forms, form_at}
 use Rattle.layout.specs.Sound.{SoundLayout}
 use Rattle.layout.proofs.Laws.{layout_sound, form_sound, form_required_lem}
-use Rattle.layout.specs.declared.Version.{Version}
 use Rattle.layout.specs.declared.Layout.{Layout}
 use Rattle.incremental.specs.Decision.{accept}
 use Rattle.incremental.specs.Plan.{decided, run}
@@ -26,7 +25,8 @@ use Rattle.sections.specs.declared.Head.{Head}
 use Rattle.sections.specs.Fields.{signature_fault, declared_size, size_fault, name_end, room_for, form_in, head_of, outside_fault, overlap_fault}
 use Rattle.head.specs.declared.checks.Start.{Start}
 use Rattle.head.specs.declared.checks.Opening.{Opening}
-use Rattle.head.specs.Checks.{version, units, start_plan, form_plan, section_plan, open_plan, start_of, open_of}
+use Rattle.head.specs.Checks.{start_plan, form_plan, section_plan, open_plan}
+use Rattle.incremental.specs.Plan.{answer_of}
 use Rattle.head.specs.Opened.{start_in, StartFacts, OpenFacts}
 use Rattle.head.proofs.Rules.{size_law, none-outside, section_end}
 use Rattle.std.specs.Prelude.{None, Ok, Option, Result, Some}
@@ -73,36 +73,27 @@ form_facts l k p e s h = go (eqb (form_required l) 0) e
 version-take : (p : List ℕ) → version_of (le 4 (take 4 p) 0) ≡ version_of (le 4 p 0)
 version-take p = rw (le-take 4 4 p 0 (omega arith))
 
--- what checks 1 and 4 found
-version-some : (k : Option Version) (v : Version) → version k ≡ Some v → k ≡ Some v
-version-some (Some w) v e = let q : w ≡ v = cc in ap (λ (x : Version). Some x) q
-version-some None v e = never cc
-
-units-some : (f : Option ℕ) (n : ℕ) → units f ≡ Some n → f ≡ Some n
-units-some (Some m) n e = let q : m ≡ n = cc in ap (λ (x : ℕ). Some x) q
-units-some None n e = never cc
-
 -- ---- checks 1 to 4
 
 pub start_facts : (p : List ℕ) → AnswerHolds (StartFacts p) (run start_plan p)
 unfolding start_plan
 start_facts p =
     holds_reach 4 _ p _ λ _.
-    holds_given _ 1 0 (version (version_of (le 4 (take 4 p) 0))) _ p λ v k.
+    holds_given _ 1 0 (version_of (le 4 (take 4 p) 0)) _ p λ v k.
     holds_reach 8 _ p _ λ _.
     holds_check _ 2 (signature_fault (take 8 p)) _ p λ g.
     holds_reach 16 _ p _ λ _.
     holds_check _ 3 (size_fault (layout_of v) (take 16 p)) _ p λ z.
     holds_reach 76 _ p _ λ w.
-    holds_given _ 4 16 (units (name_end (take 76 p))) _ p λ n e.
+    holds_given _ 4 16 (name_end (take 76 p)) _ p λ n e.
     let s = (size_law (layout_of v) p).0 (sym (size_take (layout_of v) p) ∙ z) in
     holds_accept (StartFacts p) _ p
     (record {
       laid = refl;
       least = s.0;
       most = s.1;
-      known = sym (version-take p) ∙ version-some _ v k;
-      ended = units-some _ n e;
+      known = sym (version-take p) ∙ k;
+      ended = e;
       named = w;
       signed = sym (signature_take p) ∙ g;
     })
@@ -113,17 +104,17 @@ start_complete p s f =
     let v = s.version in
     let l : head_end (layout_of v) ≤ declared_size p = rw (← f.laid) f.least in
     reach_here 4 _ p (omega (arith, f.named))
-    ∙ given_some 1 _ _ _ p v (ap version (version-take p ∙ f.known))
+    ∙ given_some 1 _ _ _ p v (version-take p ∙ f.known)
     ∙ reach_here 8 _ p (omega (arith, f.named))
     ∙ check_passed 2 _ _ p (signature_take p ∙ f.signed)
     ∙ reach_here 16 _ p (omega (arith, f.named))
     ∙ check_passed 3 _ _ p (size_take (layout_of v) p ∙ (size_law (layout_of v) p).1 (l, f.most))
     ∙ reach_here 76 _ p f.named
-    ∙ given_some 4 _ _ _ p s.name_units (ap units f.ended)
+    ∙ given_some 4 _ _ _ p s.name_units f.ended
     ∙ rw (← f.laid)
 
-pub start_met : (p : List ℕ) (r : Result Start Stop) (s : Start) → start_of r ≡ run start_plan p → r ≡ Ok s → StartFacts p s
-start_met p r s e q = (start_facts p).holds s (sym e ∙ ap start_of q)
+pub start_met : (p : List ℕ) (r : Result Start Stop) (s : Start) → answer_of r ≡ run start_plan p → r ≡ Ok s → StartFacts p s
+start_met p r s e q = (start_facts p).holds s (sym e ∙ ap answer_of q)
 
 -- ---- checks 1 to 6
 
@@ -209,8 +200,8 @@ open_complete p o f =
     ∙ answer_then (form_plan (start_in o)) section_plan p _ form
     ∙ answer_then start_plan _ p _ (start_complete p (start_in o) f.start))
 
-pub open_met : (p : List ℕ) (r : Result Opening Stop) (o : Opening) → open_of r ≡ run open_plan p → r ≡ Ok o → OpenFacts p o
-open_met p r o e q = (open_facts p).holds o (sym e ∙ ap open_of q)
+pub open_met : (p : List ℕ) (r : Result Opening Stop) (o : Opening) → answer_of r ≡ run open_plan p → r ≡ Ok o → OpenFacts p o
+open_met p r o e q = (open_facts p).holds o (sym e ∙ ap answer_of q)
 
 pub open_sound : (p : List ℕ) (o : Opening) → OpenFacts p o → SoundLayout o.layout
 open_sound p o f =
@@ -246,14 +237,14 @@ pub decided_start : (p : List ℕ) → 16 ≤ length p → declared_size p ≤ l
 unfolding start_plan
 decided_start p h d =
     decided_reach 4 _ p (omega arith)
-    (decided_given 1 0 (version (version_of (le 4 (take 4 p) 0))) _ p λ v _.
+    (decided_given 1 0 (version_of (le 4 (take 4 p) 0)) _ p λ v _.
     decided_reach 8 _ p (omega arith)
     (decided_check 2 (signature_fault (take 8 p)) _ p λ _.
     decided_reach 16 _ p h
     (decided_check 3 (size_fault (layout_of v) (take 16 p)) _ p λ z.
     let l = ((size_law (layout_of v) p).0 (sym (size_take (layout_of v) p) ∙ z)).0 in
     decided_reach 76 _ p (omega (arith, l, (layout_sound v).fixed))
-    (decided_given 4 16 (units (name_end (take 76 p))) _ p λ n _. decided_decide _ p))))
+    (decided_given 4 16 (name_end (take 76 p)) _ p λ n _. decided_decide _ p))))
 
 decided_form : (p : List ℕ) (s : Start) → StartFacts p s → declared_size p ≤ length p → Decided (run (form_plan s) p)
 unfolding form_plan

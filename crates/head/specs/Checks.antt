@@ -1,39 +1,24 @@
 -- Checks 1 to 6 of document 01's table in their order, and 21 of request 107 directly after 4: required length (document 01: reach),
 -- number, fault with its file offset.
-use Rattle.std.specs.Prelude.{ℕ}
 use Rattle.little_endian.specs.Number.{le}
 use Rattle.layout.specs.Head.{version_at, program_name_at, metrics_offset_at}
 use Rattle.layout.specs.Versions.{version_of, layout_of, head_end, form_required}
-use Rattle.layout.specs.declared.Version.{Version}
-use Rattle.incremental.specs.Decision.{accept, refuse}
-use Rattle.incremental.specs.Plan.{Plan, Answer, decided, wants, reach, check, given, done, ◌>>=◌, ◌>>◌}
+use Rattle.incremental.specs.Plan.{Plan, reach, check, given, done, ◌>>=◌, ◌>>◌}
 use Rattle.sections.specs.Fields.{signature_fault, size_fault, name_end, form_in, head_of, outside_fault, overlap_fault}
 use Rattle.head.specs.declared.checks.Start.{Start}
 use Rattle.head.specs.declared.checks.Opening.{Opening}
-use Rattle.std.specs.Prelude.{Err, None, Ok, Option, Result, Some}
-use Rattle.incremental.specs.declared.Stop.TheVariants.{Refused, Wanted}
-use Rattle.incremental.specs.declared.Stop.{Stop}
-
--- what checks 1 and 4 have to find: a version, the number of name units before the first zero
-abbrev pub version : Option Version → Option Version
-version (Some v) = Some v
-version None = None
-
-abbrev pub units : Option ℕ → Option ℕ
-units (Some n) = Some n
-units None = None
 
 -- CHECKS 1 TO 4
 unfoldable pub start_plan : Plan Start
 start_plan = do
   b ← reach 4
-  v ← given 1 version_at (version (version_of (le 4 b version_at)))
+  v ← given 1 version_at (version_of (le 4 b version_at))
   b ← reach 8
   check 2 (signature_fault b)
   b ← reach 16
   check 3 (size_fault (layout_of v) b)
   b ← reach 76
-  n ← given 4 program_name_at (units (name_end b))
+  n ← given 4 program_name_at (name_end b)
   done (record { version = v; layout = layout_of v; name_units = n })
 
 -- CHECK 21, where 1 to 4 gave `s`: the layout becomes that of the head form
@@ -58,14 +43,3 @@ open_plan = do
   s ← start_plan
   formed ← form_plan s
   section_plan formed
-
--- what each case of the answers says
-abbrev pub start_of : Result Start Stop → Answer Start
-start_of (Ok s) = decided (accept s)
-start_of (Err (Refused r)) = decided (refuse r)
-start_of (Err (Wanted k)) = wants k
-
-abbrev pub open_of : Result Opening Stop → Answer Opening
-open_of (Ok o) = decided (accept o)
-open_of (Err (Refused r)) = decided (refuse r)
-open_of (Err (Wanted k)) = wants k

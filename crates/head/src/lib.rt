@@ -3,4 +3,4 @@
 
 mod checks;
 
-pub use checks::{OpenAnswer, Opening, Start, StartAnswer, read_open, read_start};
+pub use checks::{Opening, Start, read_open, read_start};

@@ -28,7 +28,7 @@ module _ (Q : Refusal → Type 0) where
 
   pub fair_check : {A : Type 0} (n : ℕ) (f : Option Fault) (later : Decision A) → ((i at : ℕ) → f ≡ Some (fault i at) → Q (refusal n i at)) → Fair Q later
       → Fair Q (check_now n f then later)
-  fair_check n (Some (fault i at)) later h k = fair_refuse (refusal n i at) (h i at refl)
+  fair_check n (Some w) later h k = fair_refuse (refusal n w.index w.offset) (h w.index w.offset refl)
   fair_check n None later h k = k
 
   pub fair_then : {A : Type 0} (d : Decision Unit) (later : Decision A) → Fair Q d → Fair Q later → Fair Q (d then later)
@@ -74,7 +74,7 @@ module _ {B : Type 0} (P : B → Type 0) (Q : Refusal → Type 0) where
   pub each_check : (n : ℕ) (f : Option Fault) (g : Unit → Plan B) (p : List ℕ) → ((i at : ℕ) → f ≡ Some (fault i at) → Q (refusal n i at))
       → (f ≡ None → Each P Q (run (g tt) p)) → Each P Q (run (and_then (check n f) g) p)
   unfolding check and_then run
-  each_check n (Some (fault i at)) g p h k = each_refuse P Q (refusal n i at) (h i at refl)
+  each_check n (Some w) g p h k = each_refuse P Q (refusal n w.index w.offset) (h w.index w.offset refl)
   each_check n None g p h k = k refl
 
   pub each_found : {A : Type 0} (n at : ℕ) (o : Option A) (g : A → Plan B) (p : List ℕ) → (o ≡ None → Q (refusal n 0 at))

@@ -10,12 +10,18 @@ use lib.ListN.{length, take, length-take}
 use lib.Seq.{take-take}
 use borrow.Author.Tests.{leb-true, leb-false, le-leb, lt-leb}
 use Rattle.lists.proofs.Tests.{by_test, never}
-use Rattle.incremental.specs.Decision.{Decision, accept, refuse, refusal}
+use Rattle.incremental.specs.Decision.{Decision, accept, refuse, refusal, check as check_now, given as given_now}
 use Rattle.incremental.specs.declared.Refusal.{Refusal}
 use Rattle.incremental.specs.Plan.{Plan, decide, await, Answer, decided, wants, run, and_then, reach, check, given, Stands}
 use Rattle.incremental.specs.declared.Fault.{Fault}
 use Rattle.std.specs.Prelude.{None, Option, Some}
 use Rattle.incremental.specs.Decision.{fault}
+use Rattle.std.specs.Prelude.{Result, Err}
+use Rattle.std.specs.Result.{IsErrAnd}
+use Rattle.std.proofs.lemmas.Result.{err_from_is_err_and}
+use Rattle.incremental.specs.declared.Stop.{Stop}
+use Rattle.incremental.specs.declared.Stop.TheVariants.{Refused, Wanted}
+use Rattle.incremental.specs.Plan.{answer_of}
 
 -- the same of answers
 abbrev pub onward : {A B : Type 0} → Answer A → (A → Answer B) → Answer B
@@ -151,12 +157,12 @@ module _ {B : Type 0} (k : ℕ) (f : List ℕ → Plan B) (p : List ℕ) where
   pub decided_reach : k ≤ length p → Decided (run (f (take k p)) p) → Decided (run (and_then (reach k) f) p)
   decided_reach h d = rw (reach_here h) d
 
-  -- for `search` at a function's returns
+  -- for `search` at a function's returns: `b` is what a call for the bytes gave
   pub reach_wants : length p < k → wants k ≡ run (and_then (reach k) f) p
   reach_wants h = sym (reach_short h)
 
-  pub reach_on : (v : Answer B) → k ≤ length p → v ≡ run (f (take k p)) p → v ≡ run (and_then (reach k) f) p
-  reach_on v h e = rw (reach_here h) e
+  pub reach_on : (b : List ℕ) (v : Answer B) → k ≤ length p → b ≡ take k p → v ≡ run (f b) p → v ≡ run (and_then (reach k) f) p
+  reach_on b v h q e = rw (reach_here h, ← q) e
 
 module _ {B : Type 0} (n : ℕ) (f : Option Fault) (g : Unit → Plan B) (p : List ℕ) where
   pub check_fault : (i at : ℕ) → f ≡ Some (fault i at) → run (and_then (check n f) g) p ≡ decided (refuse (refusal n i at))
@@ -167,24 +173,25 @@ module _ {B : Type 0} (n : ℕ) (f : Option Fault) (g : Unit → Plan B) (p : Li
   unfolding check and_then run
   check_passed e = rw e
 
-  -- for `search` at a function's returns: `r` is the fault that a call gave, on which the code has matched, and `x` the refusal made
-  pub check_refused : (i at : ℕ) (r : Option Fault) (x : Refusal) → r ≡ f → r ≡ Some (fault i at) → x ≡ refusal n i at
-      → decided (refuse x) ≡ run (and_then (check n f) g) p
-  check_refused i at r x e q h = rw h (sym (check_fault i at (sym e ∙ q)))
+  -- for `search` at a function's returns: `d` is what a call for the fault gave, and the check of that refused or passed
+  pub check_refused : (d : Option Fault) (r : Refusal) → refuse r ≡ check_now n d → d ≡ f → decided (refuse r) ≡ run (and_then (check n f) g) p
+  unfolding check and_then run
+  check_refused d r e q = rw (← q, ← e)
 
-  pub check_on : (r : Option Fault) (v : Answer B) → r ≡ f → r ≡ None → v ≡ run (g tt) p → v ≡ run (and_then (check n f) g) p
-  check_on r v e q h = rw (check_passed (sym e ∙ q)) h
+  pub check_on : (d : Option Fault) (t : Unit) (v : Answer B) → accept t ≡ check_now n d → d ≡ f → v ≡ run (g tt) p → v ≡ run (and_then (check n f) g) p
+  unfolding check and_then run
+  check_on d t v e q h = rw (← q, ← e) h
 
 pub holds_check : {B : Type 0} (P : B → Type 0) (n : ℕ) (f : Option Fault) (g : Unit → Plan B) (p : List ℕ)
     → (f ≡ None → AnswerHolds P (run (g tt) p)) → AnswerHolds P (run (and_then (check n f) g) p)
 unfolding check and_then
-holds_check P n (Some (fault i at)) g p h = holds_refuse P (refusal n i at) p
+holds_check P n (Some w) g p h = holds_refuse P (refusal n w.index w.offset) p
 holds_check P n None g p h = h refl
 
 pub decided_check : {B : Type 0} (n : ℕ) (f : Option Fault) (g : Unit → Plan B) (p : List ℕ)
     → (f ≡ None → Decided (run (g tt) p)) → Decided (run (and_then (check n f) g) p)
 unfolding check and_then
-decided_check n (Some (fault i at)) g p h = decided_decide (refuse (refusal n i at)) p
+decided_check n (Some w) g p h = decided_decide (refuse (refusal n w.index w.offset)) p
 decided_check n None g p h = h refl
 
 -- what has to be there is, or is not
@@ -196,6 +203,16 @@ module _ {A B : Type 0} (n at : ℕ) (o : Option A) (g : A → Plan B) (p : List
   pub given_none : o ≡ None → run (and_then (given n at o) g) p ≡ decided (refuse (refusal n 0 at))
   unfolding given and_then run
   given_none e = rw e
+
+-- the same of what has to be there
+module _ {A B : Type 0} (n at : ℕ) (o : Option A) (g : A → Plan B) (p : List ℕ) where
+  pub given_refused : (d : Option A) (r : Refusal) → refuse r ≡ given_now n at d → d ≡ o → decided (refuse r) ≡ run (and_then (given n at o) g) p
+  unfolding given and_then run
+  given_refused d r e q = rw (← q, ← e)
+
+  pub given_on : (d : Option A) (a : A) (v : Answer B) → accept a ≡ given_now n at d → d ≡ o → v ≡ run (g a) p → v ≡ run (and_then (given n at o) g) p
+  unfolding given and_then run
+  given_on d a v e q h = rw (← q, ← e) h
 
 pub holds_given : {A B : Type 0} (P : B → Type 0) (n at : ℕ) (o : Option A) (g : A → Plan B) (p : List ℕ)
     → ((a : A) → o ≡ Some a → AnswerHolds P (run (g a) p)) → AnswerHolds P (run (and_then (given n at o) g) p)
@@ -214,9 +231,23 @@ pub decide_it : {A : Type 0} (d e : Decision A) (p : List ℕ) → d ≡ e → d
 unfolding run
 decide_it d e p q = ap decided q
 
-pub ruleset run_steps = (reach_wants, reach_on, check_refused, check_on, decide_it)
+-- the way out of a `?`: `r` is what the function returns there, by a refusal or a stop that a call gave
+pub exit_stop : {A : Type 0} (s : Stop) (r : Result A Stop) (v : Answer A) → IsErrAnd r (λ y. y ≡ s) → answer_of {A = A} (Err s) ≡ v → answer_of r ≡ v
+exit_stop s r v e h = let q = err_from_is_err_and r e in rw (q.1, q.2) h
 
--- plans that follow others: `r` is what a call for the first gave, and `x` its case
-pub then_case : {R A B : Type 0} (of : R → Answer A) (t : Plan A) (f : A → Plan B) (p : List ℕ) (r x : R) (v : Answer B)
-    → of r ≡ run t p → r ≡ x → v ≡ onward (of x) (λ a. run (f a) p) → v ≡ run (and_then t f) p
-then_case of t f p r x v e q h = rw (run_then t f p, ← e, q) h
+pub exit_wanted : {A : Type 0} (s : Stop) (k : ℕ) (r : Result A Stop) (v : Answer A) → IsErrAnd r (λ y. y ≡ s) → s ≡ Wanted k → wants k ≡ v → answer_of r ≡ v
+exit_wanted s k r v e q h = exit_stop s r v e (rw q h)
+
+pub exit_refused : {A : Type 0} (f : Refusal) (r : Result A Stop) (v : Answer A) → IsErrAnd r (λ y. y ≡ Refused f) → decided (refuse f) ≡ v → answer_of r ≡ v
+exit_refused f r v e h = exit_stop (Refused f) r v e h
+
+pub ruleset run_steps = (reach_wants, reach_on, check_refused, check_on, given_refused, given_on, decide_it, exit_wanted, exit_refused)
+
+-- plans that follow others: a call for the first was stopped, or gave `a`
+module _ {A B : Type 0} (t : Plan A) (f : A → Plan B) (p : List ℕ) where
+  pub then_stops : (s : Stop) → answer_of (Err s) ≡ run t p → answer_of (Err s) ≡ run (and_then t f) p
+  then_stops (Refused r) e = answer_then t f p _ (sym e)
+  then_stops (Wanted k) e = answer_then t f p _ (sym e)
+
+  pub then_on : (a : A) (v : Answer B) → decided (accept a) ≡ run t p → v ≡ run (f a) p → v ≡ run (and_then t f) p
+  then_on a v e h = h ∙ answer_then t f p _ (sym e)

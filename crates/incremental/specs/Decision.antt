@@ -1,13 +1,15 @@
 -- What checks find and decide: a fault with its index and the file offset of its field, an acceptance or a refusal (document 01,
 -- "Refusal numbers and the order of checks").
-use Rattle.std.specs.Prelude.{Bool, ℕ}
+use Rattle.std.specs.Prelude.{Bool, ℕ, Option, Some, None, Result, Ok, Err}
 use Rattle.lists.specs.Count.{pick}
 use Rattle.incremental.specs.declared.Refusal.{Refusal}
-use Rattle.std.specs.Prelude.{Err, None, Ok, Option, Result, Some}
 use Rattle.incremental.specs.declared.Fault.{Fault}
-use Rattle.incremental.specs.Decision.{fault}
 
--- a fault at an index, in the field at a file offset, where the test holds
+-- a fault at an index, in the field at a file offset
+abbrev pub fault : ℕ → ℕ → Fault
+fault i at = record { index = i; offset = at }
+
+-- where the test holds
 abbrev pub fault_at : ℕ → ℕ → Bool → Option Fault
 fault_at i at test = pick test (Some (fault i at)) None
 
@@ -26,8 +28,13 @@ refusal n i at = record { number = n; index = i; offset = at }
 
 -- CHECK n: a fault is refused with its index and file offset, and else nothing stands in the way
 abbrev pub check : ℕ → Option Fault → Decision Unit
-check n (Some (fault i at)) = refuse (refusal n i at)
+check n (Some f) = refuse (refusal n f.index f.offset)
 check n None = accept tt
+
+-- check n on what has to be there, which is handed on: where there is none, refused with index 0 and the field's file offset
+abbrev pub given : {A : Type 0} → ℕ → ℕ → Option A → Decision A
+given n at (Some a) = accept a
+given n at None = refuse (refusal n 0 at)
 
 -- one decision after another: the first that refuses answers
 infixl 10 ◌>>=◌
@@ -39,7 +46,7 @@ infixl 10 ◌>>◌
 abbrev pub ◌>>◌ : {A : Type 0} → Decision Unit → Decision A → Decision A
 ◌>>◌ d later = d >>= λ _. later
 
--- what each case of `Checked` says
-abbrev pub checked_of : Result Unit Refusal → Decision Unit
-checked_of (Ok tt) = accept tt
-checked_of (Err r) = refuse r
+-- what each case of an answer says
+abbrev pub decision_of : {A : Type 0} → Result A Refusal → Decision A
+decision_of (Ok a) = accept a
+decision_of (Err r) = refuse r

@@ -1,9 +1,8 @@
 -- A plan of checks over a prefix (document 01, "Refusal numbers and the order of checks"). A check sees the bytes up to its required
 -- length and no others, so what a plan decides early stands, whatever its checks are.
-use Rattle.std.specs.Prelude.{◌≡◌, List, ℕ, ◌<◌, leb, length, take}
+use Rattle.std.specs.Prelude.{◌≡◌, List, ℕ, ◌<◌, leb, length, take, Option, Result, Ok, Err}
 use Rattle.lists.specs.Count.{pick}
-use Rattle.incremental.specs.Decision.{Decision, accept, refuse, refusal, check as check_now}
-use Rattle.std.specs.Prelude.{Err, None, Ok, Option, Result, Some}
+use Rattle.incremental.specs.Decision.{Decision, accept, refuse, check as check_now, given as given_now}
 use Rattle.incremental.specs.declared.Fault.{Fault}
 use Rattle.incremental.specs.declared.Stop.TheVariants.{Refused, Wanted}
 use Rattle.incremental.specs.declared.Stop.{Stop}
@@ -46,18 +45,17 @@ check n f = decide (check_now n f)
 
 -- check n on what has to be there, which is handed on: where there is none, refused with index 0 and the field's file offset
 unfoldable pub given : {A : Type 0} → ℕ → ℕ → Option A → Plan A
-given n at (Some a) = decide (accept a)
-given n at None = decide (refuse (refusal n 0 at))
+given n at o = decide (given_now n at o)
 
 -- all checks are passed
 abbrev pub done : {A : Type 0} → A → Plan A
 done a = decide (accept a)
 
--- what each case of `Outcome` says
-abbrev pub outcome_of : Result Unit Stop → Answer Unit
-outcome_of (Ok tt) = decided (accept tt)
-outcome_of (Err (Err (Err (Err (Err (Err (Err (Err (Err (Err (Err (Err (Err (Err (Err (Err (Err (Err (Err (Err (Err (Err (Err (Err (Err (Err (Err (Err (Err (Err (Err (Err (Err (Err (Err (Err (Err (Err (Err (Err (Err (Err (Err (Err (Err (Err (Err (Err (Err (Err (Err (Err (Err (Err (Err (Err (Err (Err (Err (Err (Err (Err (Err (Err (Err (Err (Err (Err (Err (Err (Err (Err (Err (Err (Err (Err (Err (Err (Err (Err (Err (Err (Err (Err (Err (Err (Err (Err (Err (Err (Err (Err (Err (Err (Err (Err (Err (Err (Err (Err (Err (Err (Err (Err (Err (Err (Err (Err (Err (Err (Err (Err (Err (Err (Err (Err (Err (Err (Err (Err (Err (Err (Err (Err (Err (Err (Err (Err (Err (Err (Err (Err (Err (Err (Err (Err (Err (Err (Err (Err (Err (Err (Err (Err (Err (Err (Err (Err (Err (Err (Err (Err (Err (Err (Err (Err (Err (Err (Err (Err (Err (Err (Err (Err (Err (Err (Err (Err (Err (Err (Err (Err (Err (Err (Err (Err (Err (Err (Err (Err (Err (Err (Err (Err (Err (Err (Err (Err (Err (Err (Err (Err (Err (Err (Err (Err (Err (Err (Err (Err (Refused r))))))))))))))))))))))))))))))))))))))))))))))))))))))))))))))))))))))))))))))))))))))))))))))))))))))))))))))))))))))))))))))))))))))))))))))))))))))))))))))))))))))))))))))))))))))))))))))))))))))))) = decided (refuse r)
-outcome_of (Err (Err (Err (Err (Err (Err (Err (Err (Err (Err (Err (Err (Err (Err (Err (Err (Err (Err (Err (Err (Err (Err (Err (Err (Err (Err (Err (Err (Err (Err (Err (Err (Err (Err (Err (Err (Err (Err (Err (Err (Err (Err (Err (Err (Err (Err (Err (Err (Err (Err (Err (Err (Err (Err (Err (Err (Err (Err (Err (Err (Err (Err (Err (Err (Err (Err (Err (Err (Err (Err (Err (Err (Err (Err (Err (Err (Err (Err (Err (Err (Err (Err (Err (Err (Err (Err (Err (Err (Err (Err (Err (Err (Err (Err (Err (Err (Err (Err (Err (Err (Err (Err (Err (Err (Err (Err (Err (Err (Err (Err (Err (Err (Err (Err (Err (Err (Err (Err (Err (Err (Err (Err (Err (Err (Err (Err (Err (Err (Err (Err (Err (Err (Err (Err (Err (Err (Err (Err (Err (Err (Err (Err (Err (Err (Err (Err (Err (Err (Err (Err (Err (Err (Err (Err (Err (Err (Err (Err (Err (Err (Err (Err (Err (Err (Err (Err (Err (Err (Err (Err (Err (Err (Err (Err (Err (Err (Err (Err (Err (Err (Err (Err (Err (Err (Err (Err (Err (Err (Err (Err (Err (Err (Err (Err (Err (Err (Err (Err (Err (Err (Wanted k))))))))))))))))))))))))))))))))))))))))))))))))))))))))))))))))))))))))))))))))))))))))))))))))))))))))))))))))))))))))))))))))))))))))))))))))))))))))))))))))))))))))))))))))))))))))))))))))))))))))) = wants k
+-- what each case of an answer says
+abbrev pub answer_of : {A : Type 0} → Result A Stop → Answer A
+answer_of (Ok a) = decided (accept a)
+answer_of (Err (Refused r)) = decided (refuse r)
+answer_of (Err (Wanted k)) = wants k
 
 -- what the answer `x` on a prefix `p` says of the answer `y` on a prefix `q` that `p` begins
 pub record Stands {A : Type 0} (p q : List ℕ) (x y : Answer A) : Type 0 where

@@ -1,11 +1,10 @@
 -- Document 01's table of versions, with version 30 (request 107): every version has its own constants, kept together.
-use Rattle.std.specs.Prelude.{Bool, true, false, List, [], ◌∷◌, ℕ, eqb}
+use Rattle.std.specs.Prelude.{Bool, true, false, List, [], ◌∷◌, ℕ, eqb, Option, Some, None}
 use Rattle.lists.specs.Answer.{Said}
 use Rattle.lists.specs.Count.{pick}
 use Rattle.layout.specs.declared.Version.{Version}
 use Rattle.layout.specs.declared.Version.TheVariants.{V17, V23, V26, V30}
 use Rattle.layout.specs.declared.Layout.{Layout}
-use Rattle.std.specs.Prelude.{None, Option, Some}
 
 -- the greatest declared size
 abbrev pub size_limit : ℕ
@@ -88,11 +87,6 @@ forms = layout_of V30 ∷ []
 abbrev pub form_at : ℕ → List Layout → Option Layout
 form_at start [] = None
 form_at start (l ∷ ls) = pick (eqb start (first_section l)) (Some l) (form_at start ls)
-
--- what each case says: the form's constants, or none
-abbrev pub form_said : Option Layout → Option Layout
-form_said (Some l) = Some l
-form_said None = None
 
 -- the number that the file has for a version
 abbrev pub version_number : Version → ℕ

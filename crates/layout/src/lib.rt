@@ -4,7 +4,8 @@
 ghost use Rattle.std.specs.Prelude.{◌≡◌, ◌<◌, ◌^◌};
 ghost use Rattle.lists.specs.Answer.{Answers};
 ghost use Rattle.layout.specs.Head.{entry_offset};
-ghost use Rattle.layout.specs.Versions.{layout_of, forms, form_at, form_said, version_number, version_of, known_said};
+ghost use Rattle.std.specs.Result.{result_ok};
+ghost use Rattle.layout.specs.Versions.{layout_of, forms, form_at, version_number, version_of, known_said};
 
 // Offsets in the head.
 pub const VERSION_AT: usize = 0;
@@ -44,7 +45,7 @@ pub const SIGNATURE: u32 = 0x41434353;
 // The greatest declared size.
 pub const SIZE_LIMIT: u32 = 67_108_864;
 
-#[derive(Clone, Copy)]
+#[derive(Clone, Copy, Debug, PartialEq, Eq)]
 pub enum Version {
     V17,
     V23,
@@ -52,16 +53,13 @@ pub enum Version {
     V30,
 }
 
-// The version that a number names, if any.
-#[derive(Clone, Copy)]
-pub enum KnownVersion {
-    Known(Version),
-    Unknown,
-}
+// A number that is no version's.
+#[derive(Clone, Copy, Debug, PartialEq, Eq)]
+pub struct UnknownVersion(pub u32);
 
 // Where a version keeps its fields, and how long its entries are, in bytes. Each is a small number, so that no product of one with a
 // 32-bit count wraps.
-#[derive(Clone, Copy)]
+#[derive(Clone, Copy, Debug, PartialEq, Eq)]
 pub struct Layout {
     // Where the latest run time stands, and how many there are one after another, each of 8 bytes.
     pub run_time_at: u16,
@@ -83,13 +81,6 @@ pub struct Layout {
     pub form_required: u16,
     // The place of the file reference in a metrics entry; 0 where the version has none.
     pub file_reference_at: u16,
-}
-
-// The layout of a head form, if it is known.
-#[derive(Clone, Copy)]
-pub enum KnownForm {
-    Known(Layout),
-    Unknown,
 }
 
 impl Layout {
@@ -170,41 +161,45 @@ impl Layout {
         }
     }
 
-    // The head form of version 30 whose metrics array starts there.
-    pub fn of_form(start: u32) -> KnownForm
-        ensures { form_said result ≡ form_at start forms }
+    // The head form of version 30 whose metrics array starts there, if it is known.
+    pub fn of_form(start: u32) -> Option<Layout>
+        ensures { result ≡ form_at start forms }
     {
         if start == Layout::V30.first_section as u32 {
-            return KnownForm::Known(Layout::V30);
+            return Some(Layout::V30);
         }
-        KnownForm::Unknown
+        None
     }
 }
 
-impl Version {
-    // The number that stands in a file of this version.
-    pub fn number(self) -> u32
-        ensures { result ≡ version_number self }
-    {
-        match self {
+// The number that stands in a file of a version.
+impl From<Version> for u32 {
+    ghost from_gives = { λ v n. n ≡ version_number v };
+
+    fn from(version: Version) -> u32 {
+        match version {
             Version::V17 => 17,
             Version::V23 => 23,
             Version::V26 => 26,
             Version::V30 => 30,
         }
     }
+}
 
-    // The version of such a number, where it is one of the four.
+// The version of a number, where it is one of the four.
+impl TryFrom<u32> for Version {
+    type Error = UnknownVersion;
+
+    ghost try_from_gives = { λ n r. Answers known_said (version_of n) (result_ok r) };
+
     #[tactic(auto, unfolding(crate::specs::Versions::version_of))]
-    pub fn of(number: u32) -> KnownVersion
-        ensures { Answers known_said (version_of number) result }
-    {
+    fn try_from(number: u32) -> Result<Self, UnknownVersion> {
         match number {
-            17 => KnownVersion::Known(Version::V17),
-            23 => KnownVersion::Known(Version::V23),
-            26 => KnownVersion::Known(Version::V26),
-            30 => KnownVersion::Known(Version::V30),
-            _ => KnownVersion::Unknown,
+            17 => Ok(Version::V17),
+            23 => Ok(Version::V23),
+            26 => Ok(Version::V26),
+            30 => Ok(Version::V30),
+            _ => Err(UnknownVersion(number)),
         }
     }
 }

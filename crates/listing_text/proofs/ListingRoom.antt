@@ -28,7 +28,6 @@ use Rattle.incremental.proofs.Each.{Each}
 use Rattle.listing_text.proofs.Bounds.{Bytes, SmallRefusal, SmallFields, low_counts, small_answer}
 use Rattle.std.specs.Prelude.{None, Option, Some}
 use Rattle.path_search.specs.declared.PathEntry.{PathEntry}
-use Rattle.path_search.specs.Search.{path_entry}
 
 two_digits : (n : ℕ) → n < 100 → length (decimal n) ≤ 2
 two_digits n l = decimal_short 1 n l
@@ -38,7 +37,7 @@ ten_digits n l = decimal_short 9 n (omega arith)
 
 module _ (p : List ℕ) (h : Bytes p) where
   path_found_lem : (o : Opening) (r : Option PathEntry) → path_found p ≡ r → run open_plan p ≡ decided (accept o) → length (path_text r) ≤ 12
-  path_found_lem o (Some (path_entry i n)) e q =
+  path_found_lem o (Some w) e q =
       let f = path_found_law o p i n q e in
       let b = (low_counts p o h ((open_facts p).holds o q)).metrics in
       simp length-append (omega (arith, ten_digits i (omega (arith, f.below)), decimal_short 0 n (omega (arith, f.number))))

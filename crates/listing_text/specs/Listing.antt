@@ -17,7 +17,6 @@ use Rattle.reader.specs.declared.verdict.Acceptance.{Acceptance}
 use Rattle.path_search.specs.Search.{path_found}
 use Rattle.std.specs.Prelude.{None, Option, Some}
 use Rattle.path_search.specs.declared.PathEntry.{PathEntry}
-use Rattle.path_search.specs.Search.{path_entry}
 
 -- the words
 abbrev pub version·word : List ℕ
@@ -63,7 +62,7 @@ shown_name p units = tabulate units (λ k. shown_unit (le 2 p (program_name_at +
 
 -- the entry's index, a blank and its number (request 105), or `none`
 abbrev pub path_text : Option PathEntry → List ℕ
-path_text (Some (path_entry i n)) = decimal i ++ (32 ∷ decimal n)
+path_text (Some w) = decimal w.index ++ (32 ∷ decimal w.number)
 path_text None = ascii "none"
 
 -- the eight lines

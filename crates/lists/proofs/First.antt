@@ -87,38 +87,3 @@ pub least_first : (test : ℕ → Bool) (n r : ℕ) → Least test n r → found
 least_first test n r q =
     by_test (ltb r n) (λ e. rw e (sym (first_is_at test n r (ltb-true r n e) (q.here (ltb-true r n e)) q.below)))
     (λ e. rw e (sym (first_is_nothing test n (λ k h. q.below k (omega (arith, ltb-false r n e))))))
-
--- the same search by a loop that goes on until `end`: n until an index passes the test, then that index
-pub record Ending (test : ℕ → Bool) (n end k : ℕ) : Type 0 where
-  pub most : end ≤ n
-  pub passed : k ≤ n
-  pub below : (j : ℕ) → j < k → j < end → test j ≡ false
-  pub here : end < n → (end < k) × (test end ≡ true)
-
-pub ending_start : (test : ℕ → Bool) (n : ℕ) → Ending test n n 0
-ending_start test n =
-    record { most = omega arith; passed = omega arith; below = λ j l m. absurd (omega arith); here = λ l. absurd (omega arith) }
-
-pub ending_hit : (test : ℕ → Bool) (n end k : ℕ) → Ending test n end k → k < end → test k ≡ true → Ending test n k (k + 1)
-ending_hit test n end k q l e =
-    record {
-      most = omega (arith, q.most);
-      passed = omega (arith, q.most);
-      below = λ j h m. q.below j m (omega arith);
-      here = λ h. (omega arith, e);
-    }
-
-pub ending_miss : (test : ℕ → Bool) (n end k : ℕ) → Ending test n end k → k < end → test k ≡ false → Ending test n end (k + 1)
-ending_miss test n end k q l e =
-    record {
-      most = q.most;
-      passed = omega (arith, q.most);
-      below = λ j h m. ⊎_elim (λ i. ap test i ∙ e) (λ i. q.below j i m) (eq-or-lt_of_le (omega arith));
-      here = λ h. (omega (arith, (q.here h).0), (q.here h).1);
-    }
-
-pub ending_at : (test : ℕ → Bool) (n end k : ℕ) → Ending test n end k → end ≤ k → end < n → Some end ≡ first test n
-ending_at test n end k q l m = sym (first_is_at test n end m (q.here m).1 (λ j h. q.below j (omega arith) h))
-
-pub ending_none : (test : ℕ → Bool) (n end k : ℕ) → Ending test n end k → end ≤ k → n ≤ end → None ≡ first test n
-ending_none test n end k q l m = sym (first_is_nothing test n (λ j h. q.below j (omega arith) (omega arith)))

@@ -44,12 +44,10 @@ fn units_sound(strings: &[u8], at: usize, units: usize) -> bool
     requires { at + 2 * units + 2 ≤ length strings.now }
     ensures { result ≡ sound_text strings.now at units }
 {
-    let mut k = 0;
-    while k < units {
+    for k in 0..units {
         if zero_unit(strings, at + 2 * k) {
             return false;
         }
-        k += 1;
     }
     zero_unit(strings, at + 2 * units)
 }
@@ -135,19 +133,20 @@ pub fn misfit_fault(
     start: u32,
     entries: u32,
     size: usize,
-) -> Fault
+) -> Option<Fault>
     ensures { result ≡ misfit_fault l start (names_from l metrics.now pairs.now) entries size }
 {
-    let mut i = 0;
-    while i < entries {
+    for i in 0..entries {
         let at = offset_from(metrics, pairs, l, i);
         let units = units_from(metrics, pairs, l, i);
         if !name_fits(size, at, units) {
-            return Fault::At(i as usize, name_field_at(l, start, i));
+            return Some(Fault {
+                index: i as usize,
+                offset: name_field_at(l, start, i),
+            });
         }
-        i += 1;
     }
-    Fault::Nowhere
+    None
 }
 
 // Check 10: the first entry whose name is not sound.
@@ -158,17 +157,18 @@ pub fn unsound_fault(
     start: u32,
     entries: u32,
     strings: &[u8],
-) -> Fault
+) -> Option<Fault>
     ensures { result ≡ unsound_fault l start (names_from l metrics.now pairs.now) entries strings.now }
 {
-    let mut i = 0;
-    while i < entries {
+    for i in 0..entries {
         let at = offset_from(metrics, pairs, l, i);
         let units = units_from(metrics, pairs, l, i);
         if !name_sound(strings, at, units) {
-            return Fault::At(i as usize, name_field_at(l, start, i));
+            return Some(Fault {
+                index: i as usize,
+                offset: name_field_at(l, start, i),
+            });
         }
-        i += 1;
     }
-    Fault::Nowhere
+    None
 }

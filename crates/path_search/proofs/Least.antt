@@ -92,7 +92,7 @@ least_same t u m w l same past = go (least_pair u w) refl
     fails n i h b f = by_test (ltb i w) (λ c. let l = ltb-true i w c in same n i h l ∙ f l) (λ c. past n i h (ltb-false i w c) b)
 
     go : (x : Option PathEntry) → least_pair u w ≡ x → least_pair t m ≡ least_pair u w
-    go (Some (path_entry i n)) e =
+    go (Some w) e =
         let q = least_is u w i n e in
         least_at t m i n
         (record {

@@ -15,7 +15,6 @@ use Rattle.head.specs.declared.checks.Opening.{Opening}
 use Rattle.query.specs.Queries.{asked, bytes_at, entry_shown, name_place}
 use Rattle.std.specs.Prelude.{None, Option, Some}
 use Rattle.path_search.specs.declared.PathEntry.{PathEntry}
-use Rattle.path_search.specs.Search.{path_entry}
 
 -- the numbers that a name gives to the hash (request 102): its bytes, low byte first, two for each unit, each from 0 to 255. The bytes
 -- are those of the file as they stand.
@@ -85,7 +84,7 @@ ListsPaths p before r after = PairsListed (path_pairs p) before r after
 
 -- what each case says: 1 for an entry, with its index and number, or 0 for none, with zeros
 abbrev pub path_said : Option PathEntry → Said
-path_said (Some (path_entry i n)) = record { number = 1; values = i ∷ n ∷ [] }
+path_said (Some w) = record { number = 1; values = w.index ∷ w.number ∷ [] }
 path_said None = record { number = 0; values = 0 ∷ 0 ∷ [] }
 
 -- ---- WHAT A FOUND PATH IS

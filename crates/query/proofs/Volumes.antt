@@ -17,7 +17,7 @@ use Rattle.little_endian.specs.Number.{zero_unit}
 use Rattle.layout.specs.Versions.{volume_entry, size_limit}
 use Rattle.layout.specs.Sound.{SoundLayout}
 use Rattle.layout.specs.declared.Layout.{Layout}
-use Rattle.incremental.specs.Decision.{Decision, accept, refuse, checked_of}
+use Rattle.incremental.specs.Decision.{Decision, accept, refuse, decision_of}
 use Rattle.incremental.specs.declared.Refusal.{Refusal}
 use Rattle.sections.specs.Fields.{part, entries_fault}
 use Rattle.sections.proofs.Cases.{entries_met, entries_fit}
@@ -55,7 +55,7 @@ module _ (s : Section) (v : Layout) (b : List ℕ) (i : ℕ) {y : Option Fault} 
     unfolding section_shown
     section_cut c = rw (← e, h, lt-ltb _ _ n, lt-leb _ _ c)
 
-    module _ {r : Result Unit Refusal} (c : s.len ≤ length b) (a : checked_of r ≡ volume_checks b v s.at i) where
+    module _ {r : Result Unit Refusal} (c : s.len ≤ length b) (a : decision_of r ≡ volume_checks b v s.at i) where
       pub section_refused : {x : Refusal} → r ≡ Err x → false ≡ section_shown s v b i
       unfolding section_shown
       section_refused q = rw (← e, h, lt-ltb _ _ n, le-leb _ _ c, ← a, q)
@@ -74,7 +74,7 @@ pub record SectionShown (s : Section) (v : Layout) (b : List ℕ) (i : ℕ) : Ty
   pub sound : SoundVolume b (entry_at v i)
 
 clear-true : (f : Option Fault) → clear f ≡ true → f ≡ None
-clear-true (Some (fault i at)) e = never cc
+clear-true (Some w) e = never cc
 clear-true None e = refl
 
 accepted : (d : Decision Unit) → accepts d ≡ true → d ≡ accept tt

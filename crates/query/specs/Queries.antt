@@ -88,7 +88,7 @@ entry_place p i =
 -- ---- volume i
 -- no fault
 abbrev pub clear : Option Fault → Bool
-clear (Some (fault i at)) = false
+clear (Some w) = false
 clear None = true
 
 abbrev pub accepts : Decision Unit → Bool

@@ -9,8 +9,8 @@ use lib.ListN.{length, take, length-take}
 use borrow.Author.Tests.{ne_eqb}
 use Rattle.layout.specs.Versions.{head_end, volume_entry, trace_entry}
 use Rattle.incremental.specs.Decision as decision
-use Rattle.incremental.specs.Decision.{Decision, accept, refuse, refusal, checked_of}
-use Rattle.incremental.specs.Plan.{Plan, decide, Answer, decided, wants, run, and_then, reach, check, done, outcome_of, ◌>>=◌, ◌>>◌}
+use Rattle.incremental.specs.Decision.{Decision, accept, refuse, refusal, decision_of}
+use Rattle.incremental.specs.Plan.{Plan, decide, Answer, decided, wants, run, and_then, reach, check, done, answer_of, ◌>>=◌, ◌>>◌}
 use Rattle.incremental.proofs.Plan.{onward, answer_then, reach_here, reach_short, reach_wants}
 use Rattle.incremental.proofs.Plan.{reach_on, check_refused, check_on, decide_it, then_case, run_steps}
 use Rattle.incremental.proofs.Plan.{AnswerHolds, holds_reach, holds_check, holds_accept}
@@ -22,7 +22,7 @@ use Rattle.head.proofs.Rules.{part_length}
 use Rattle.head.proofs.Facts.{open_shapes}
 use Rattle.head.specs.declared.checks.Opening.{Opening}
 use Rattle.names.specs.Names.{in_metrics, misfit_fault, unsound_fault}
-use Rattle.trace.specs.Links.{nexts, astray_fault, shared_fault, cyclic_fault, link_checks, chains, predecessors, links_of, LinkAnswer, held}
+use Rattle.trace.specs.Links.{nexts, astray_fault, shared_fault, cyclic_fault, link_checks, chains, predecessors, decision_of, LinkAnswer, held}
 use Rattle.trace.proofs.Accepted.{trace_room}
 use Rattle.trace.proofs.Steps.{length-nexts}
 use Rattle.volumes.specs.Volumes.{volumes_from, volumes_checks}
@@ -57,8 +57,8 @@ module _ (m : ℕ) (o : Opening) (p : List ℕ) where
       holds_check _ 8 (entries_fault o.head.volumes.count (volume_entry o.layout) o.head.volumes.len) _ p λ e8.
       holds_accept _ tt p (places_met _ _ _ refl e7, entries_met _ _ _ _ refl e8)
 
-  pub counts_met : (r : Result Unit Stop) → outcome_of r ≡ run (counts_plan m o) p → r ≡ Ok tt → (link_count o.layout o.head ≤ m) × EntriesFit o
-  counts_met r e q = counts_hold.holds tt (sym e ∙ ap outcome_of q)
+  pub counts_met : (r : Result Unit Stop) → answer_of r ≡ run (counts_plan m o) p → r ≡ Ok tt → (link_count o.layout o.head ≤ m) × EntriesFit o
+  counts_met r e q = counts_hold.holds tt (sym e ∙ ap answer_of q)
 
 -- ---- 9
 module _ (o : Opening) (p : List ℕ) where
@@ -118,16 +118,16 @@ decides a b c n = decision.◌>>◌ (decision.check 11 a) (decision.◌>>◌ (de
 
 lines_refuse : (a b c : Option Fault) (n : ℕ) (s p : List ℕ) (f : Refusal) → decides a b c n ≡ refuse f → run (lines_of a b c s) p ≡ decided (refuse f)
 unfolding run and_then check
-lines_refuse (Some (fault i at)) b c n s p f e = let q : refusal 11 i at ≡ f = cc in ap (λ (x : Refusal). decided (refuse x)) q
-lines_refuse None (Some (fault i at)) c n s p f e = let q : refusal 12 i at ≡ f = cc in ap (λ (x : Refusal). decided (refuse x)) q
-lines_refuse None None (Some (fault i at)) n s p f e = let q : refusal 13 i at ≡ f = cc in ap (λ (x : Refusal). decided (refuse x)) q
+lines_refuse (Some w) b c n s p f e = let q : refusal 11 w.index w.offset ≡ f = cc in ap (λ (x : Refusal). decided (refuse x)) q
+lines_refuse None (Some w) c n s p f e = let q : refusal 12 w.index w.offset ≡ f = cc in ap (λ (x : Refusal). decided (refuse x)) q
+lines_refuse None None (Some w) n s p f e = let q : refusal 13 w.index w.offset ≡ f = cc in ap (λ (x : Refusal). decided (refuse x)) q
 lines_refuse None None None n s p f e = never cc
 
 lines_accept : (a b c : Option Fault) (n k : ℕ) (s p : List ℕ) → decides a b c n ≡ accept k → (run (lines_of a b c s) p ≡ decided (accept s)) × (k ≡ n)
 unfolding run and_then check
-lines_accept (Some (fault i at)) b c n k s p e = never cc
-lines_accept None (Some (fault i at)) c n k s p e = never cc
-lines_accept None None (Some (fault i at)) n k s p e = never cc
+lines_accept (Some w) b c n k s p e = never cc
+lines_accept None (Some w) c n k s p e = never cc
+lines_accept None None (Some w) n k s p e = never cc
 lines_accept None None None n k s p e = (refl, cc)
 
 -- `k` is the required length and `n` the number of next indexes that calls gave
@@ -147,7 +147,7 @@ module _ (o : Opening) (p : List ℕ) (m k : ℕ) (required : k ≡ trace_requir
     abbrev s : List ℕ
     s = nexts a (trace_entry o.layout) n
 
-    links_decide : link_checks (link_at o) s ≡ links_of r
+    links_decide : link_checks (link_at o) s ≡ decision_of r
     links_decide = sym (w.answer ∙ trace_room (link_at o) s m (rw (length-nexts a (trace_entry o.layout) n, count) room))
 
     lines-run : run (trace_plan o) p ≡ run (lines_of (astray_fault (link_at o) s) (shared_fault (link_at o) s) (cyclic_fault (link_at o) s) s) p
@@ -161,15 +161,15 @@ module _ (o : Opening) (p : List ℕ) (m k : ℕ) (required : k ≡ trace_requir
           passed = λ n z. never cc;
           refused = λ g z.
               let i : f ≡ g = cc in
-              lines-run ∙ lines_refuse _ _ _ (chains s) s p g (links_decide ∙ ap links_of q ∙ ap (λ (x : Refusal). refuse x) i);
+              lines-run ∙ lines_refuse _ _ _ (chains s) s p g (links_decide ∙ ap decision_of q ∙ ap (λ (x : Refusal). refuse x) i);
           wanted = λ k z. never cc;
         }
 
     pub trace_passed : (c : ℕ) → r ≡ Ok c → TraceAnswer (run (trace_plan o) p) m (Ok c) buffer
     unfolding link_checks
     trace_passed c q =
-        let l = lines_accept (astray_fault (link_at o) s) (shared_fault (link_at o) s) (cyclic_fault (link_at o) s) (chains s) c s p (links_decide ∙ ap links_of q) in
-        let t : buffer ≡ predecessors s m = w.holds ∙ ap (λ (d : Decision ℕ). held d s m) (sym w.answer ∙ ap links_of q) in
+        let l = lines_accept (astray_fault (link_at o) s) (shared_fault (link_at o) s) (cyclic_fault (link_at o) s) (chains s) c s p (links_decide ∙ ap decision_of q) in
+        let t : buffer ≡ predecessors s m = w.holds ∙ ap (λ (d : Decision ℕ). held d s m) (sym w.answer ∙ ap decision_of q) in
         record {
           passed = λ j z. let i : c ≡ j = cc in (s, lines-run ∙ l.0, sym i ∙ l.1, t);
           refused = λ f z. never cc;
@@ -204,8 +204,8 @@ module _ (o : Opening) (p : List ℕ) (k : ℕ) (at : k ≡ volumes_required o.l
   volumes_short h = volumes-are _ (reach_wants k _ p h)
 
   module _ (f : OpenFacts p o) (room : EntriesFit o) (a : List ℕ) (h : k ≤ length p) (e : a ≡ part o.head.volumes (take k p)) (r : Result Unit Refusal)
-      (c : checked_of r ≡ volumes_checks a o.layout o.head.volumes.at o.head.volumes.count) where
-    volumes-decide : volumes_from (part o.head.volumes (take k p)) o.layout o.head.volumes.at o.head.volumes.count 0 ≡ checked_of r
+      (c : decision_of r ≡ volumes_checks a o.layout o.head.volumes.at o.head.volumes.count) where
+    volumes-decide : volumes_from (part o.head.volumes (take k p)) o.layout o.head.volumes.at o.head.volumes.count 0 ≡ decision_of r
     volumes-decide =
         let n = o.head.volumes.count in
         let b = part o.head.volumes (take k p) in
@@ -214,16 +214,16 @@ module _ (o : Opening) (p : List ℕ) (k : ℕ) (at : k ≡ volumes_required o.l
 
     pub volumes_pass : r ≡ Ok tt → decided (accept tt) ≡ run (volumes_plan o) p
     unfolding run and_then
-    volumes_pass q = volumes-are _ (reach_on k _ p _ h (rw (volumes-decide ∙ ap checked_of q)))
+    volumes_pass q = volumes-are _ (reach_on k _ p _ h (rw (volumes-decide ∙ ap decision_of q)))
 
     pub volumes_refused : (g : Refusal) → r ≡ Err g → decided (refuse g) ≡ run (volumes_plan o) p
     unfolding run and_then
-    volumes_refused g q = volumes-are _ (reach_on k _ p _ h (rw (volumes-decide ∙ ap checked_of q)))
+    volumes_refused g q = volumes-are _ (reach_on k _ p _ h (rw (volumes-decide ∙ ap decision_of q)))
 
 -- ---- one stage after another, for `search` at the returns of their code: `r` is what the call for a stage gave, and `x` its case
-pub stage_then : {B : Type 0} (t : Plan Unit) (g : Unit → Plan B) (p : List ℕ) (r x : Result Unit Stop) (v : Answer B) → outcome_of r ≡ run t p → r ≡ x
-    → v ≡ onward (outcome_of x) (λ a. run (g a) p) → v ≡ run (and_then t g) p
-stage_then = then_case outcome_of
+pub stage_then : {B : Type 0} (t : Plan Unit) (g : Unit → Plan B) (p : List ℕ) (r x : Result Unit Stop) (v : Answer B) → answer_of r ≡ run t p → r ≡ x
+    → v ≡ onward (answer_of x) (λ a. run (g a) p) → v ≡ run (and_then t g) p
+stage_then = then_case answer_of
 
 module _ {B : Type 0} (t : Plan (List ℕ)) (g : List ℕ → Plan B) (p : List ℕ) (m : ℕ) (r : Result ℕ Stop) (buffer : List ℕ)
     (a : TraceAnswer (run t p) m r buffer) where
@@ -244,8 +244,8 @@ last_plan m o s = do
   done (record { fields = record_of o top (chains s); table = predecessors s m })
 
 -- all before them have passed
-module _ (m : ℕ) (o : Opening) (p : List ℕ) (r : Result Unit Stop) (e : outcome_of r ≡ run (counts_plan m o) p) (q8 : r ≡ Ok tt)
-    (s : Result Unit Stop) (g : outcome_of s ≡ run (fits_plan o) p) (q9 : s ≡ Ok tt) (t : Result Unit Stop) (k : outcome_of t ≡ run (texts_plan o) p) (q10 : t ≡ Ok tt)
+module _ (m : ℕ) (o : Opening) (p : List ℕ) (r : Result Unit Stop) (e : answer_of r ≡ run (counts_plan m o) p) (q8 : r ≡ Ok tt)
+    (s : Result Unit Stop) (g : answer_of s ≡ run (fits_plan o) p) (q9 : s ≡ Ok tt) (t : Result Unit Stop) (k : answer_of t ≡ run (texts_plan o) p) (q10 : t ≡ Ok tt)
     (u : Result ℕ Stop) (buffer : List ℕ) (a : TraceAnswer (run (trace_plan o) p) m u buffer) (n : ℕ) (q13 : u ≡ Ok n) where
   pub last_stage : (v : Answer Acceptable) → v ≡ run (last_plan m o (a.passed n q13).0) p → v ≡ run (rest_plan m o) p
   unfolding rest_plan
@@ -264,10 +264,10 @@ given_record o top p s m n a after x y z =
     λ i. decided (accept (record { fields = f i; table = z i }))
 
 -- what is known once 7 and 8 have passed
-pub places_room : (m : ℕ) (o : Opening) (p : List ℕ) (r : Result Unit Stop) → outcome_of r ≡ run (counts_plan m o) p → r ≡ Ok tt → link_count o.layout o.head ≤ m
+pub places_room : (m : ℕ) (o : Opening) (p : List ℕ) (r : Result Unit Stop) → answer_of r ≡ run (counts_plan m o) p → r ≡ Ok tt → link_count o.layout o.head ≤ m
 places_room m o p r e q = (counts_met m o p r e q).0
 
-pub entries-room : (m : ℕ) (o : Opening) (p : List ℕ) (r : Result Unit Stop) → outcome_of r ≡ run (counts_plan m o) p → r ≡ Ok tt → EntriesFit o
+pub entries-room : (m : ℕ) (o : Opening) (p : List ℕ) (r : Result Unit Stop) → answer_of r ≡ run (counts_plan m o) p → r ≡ Ok tt → EntriesFit o
 entries-room m o p r e q = (counts_met m o p r e q).1
 
 pub ruleset stages = (stage_then, trace_refuses, trace_wants, places_room, entries-room)

@@ -13,9 +13,9 @@ use Rattle.incremental.specs.declared.Stop.{Stop}
 pub record EarlyStands (p q : List ℕ) (v w : Result Acceptance Stop) (after after' : List ℕ) : Type 0 where
   -- an acceptance or refusal is given again, the same in every field, number and index, and the working buffers end equal
   pub accepted : (a : Acceptance) → v ≡ Ok a → (w ≡ Ok a) × (after ≡ after')
-  pub refused : (r : Refusal) → v ≡ Err (Err (Err (Err (Err (Err (Err (Err (Err (Err (Err (Err (Err (Err (Err (Err (Err (Err (Err (Err (Err (Err (Err (Err (Err (Err (Err (Err (Err (Err (Err (Err (Err (Err (Err (Err (Err (Err (Err (Err (Err (Err (Err (Err (Err (Err (Err (Err (Err (Err (Err (Err (Err (Err (Err (Err (Err (Err (Err (Err (Err (Err (Err (Err (Err (Err (Err (Err (Err (Err (Err (Err (Err (Err (Err (Err (Err (Err (Err (Err (Err (Err (Err (Err (Err (Err (Err (Err (Err (Err (Err (Err (Err (Err (Err (Err (Err (Err (Err (Err (Err (Err (Err (Err (Err (Err (Err (Err (Err (Err (Err (Err (Err (Err (Err (Err (Err (Err (Err (Err (Err (Err (Err (Err (Err (Err (Err (Err (Err (Err (Err (Err (Err (Err (Err (Err (Err (Err (Err (Err (Err (Err (Err (Err (Err (Err (Err (Err (Err (Err (Err (Err (Err (Err (Err (Err (Err (Err (Err (Err (Err (Err (Err (Err (Err (Err (Err (Err (Err (Err (Err (Err (Err (Err (Err (Err (Err (Err (Err (Err (Err (Err (Err (Err (Err (Err (Err (Err (Err (Err (Err (Err (Err (Err (Err (Err (Err (Err (Err (Err (Refused r)))))))))))))))))))))))))))))))))))))))))))))))))))))))))))))))))))))))))))))))))))))))))))))))))))))))))))))))))))))))))))))))))))))))))))))))))))))))))))))))))))))))))))))))))))))))))))))))))))))))) → (w ≡ Refused r) × (after ≡ after')
+  pub refused : (r : Refusal) → v ≡ Err (Refused r) → (w ≡ Err (Refused r)) × (after ≡ after')
   -- a request exceeds the prefix, and the second prefix gets it exactly when it is shorter
-  pub asks_more : (k : ℕ) → v ≡ Err (Err (Err (Err (Err (Err (Err (Err (Err (Err (Err (Err (Err (Err (Err (Err (Err (Err (Err (Err (Err (Err (Err (Err (Err (Err (Err (Err (Err (Err (Err (Err (Err (Err (Err (Err (Err (Err (Err (Err (Err (Err (Err (Err (Err (Err (Err (Err (Err (Err (Err (Err (Err (Err (Err (Err (Err (Err (Err (Err (Err (Err (Err (Err (Err (Err (Err (Err (Err (Err (Err (Err (Err (Err (Err (Err (Err (Err (Err (Err (Err (Err (Err (Err (Err (Err (Err (Err (Err (Err (Err (Err (Err (Err (Err (Err (Err (Err (Err (Err (Err (Err (Err (Err (Err (Err (Err (Err (Err (Err (Err (Err (Err (Err (Err (Err (Err (Err (Err (Err (Err (Err (Err (Err (Err (Err (Err (Err (Err (Err (Err (Err (Err (Err (Err (Err (Err (Err (Err (Err (Err (Err (Err (Err (Err (Err (Err (Err (Err (Err (Err (Err (Err (Err (Err (Err (Err (Err (Err (Err (Err (Err (Err (Err (Err (Err (Err (Err (Err (Err (Err (Err (Err (Err (Err (Err (Err (Err (Err (Err (Err (Err (Err (Err (Err (Err (Err (Err (Err (Err (Err (Err (Err (Err (Err (Err (Err (Err (Err (Err (Wanted k)))))))))))))))))))))))))))))))))))))))))))))))))))))))))))))))))))))))))))))))))))))))))))))))))))))))))))))))))))))))))))))))))))))))))))))))))))))))))))))))))))))))))))))))))))))))))))))))))))))))) → length p < k
-  pub asks_again : (k : ℕ) → v ≡ Err (Err (Err (Err (Err (Err (Err (Err (Err (Err (Err (Err (Err (Err (Err (Err (Err (Err (Err (Err (Err (Err (Err (Err (Err (Err (Err (Err (Err (Err (Err (Err (Err (Err (Err (Err (Err (Err (Err (Err (Err (Err (Err (Err (Err (Err (Err (Err (Err (Err (Err (Err (Err (Err (Err (Err (Err (Err (Err (Err (Err (Err (Err (Err (Err (Err (Err (Err (Err (Err (Err (Err (Err (Err (Err (Err (Err (Err (Err (Err (Err (Err (Err (Err (Err (Err (Err (Err (Err (Err (Err (Err (Err (Err (Err (Err (Err (Err (Err (Err (Err (Err (Err (Err (Err (Err (Err (Err (Err (Err (Err (Err (Err (Err (Err (Err (Err (Err (Err (Err (Err (Err (Err (Err (Err (Err (Err (Err (Err (Err (Err (Err (Err (Err (Err (Err (Err (Err (Err (Err (Err (Err (Err (Err (Err (Err (Err (Err (Err (Err (Err (Err (Err (Err (Err (Err (Err (Err (Err (Err (Err (Err (Err (Err (Err (Err (Err (Err (Err (Err (Err (Err (Err (Err (Err (Err (Err (Err (Err (Err (Err (Err (Err (Err (Err (Err (Err (Err (Err (Err (Err (Err (Err (Err (Err (Err (Err (Err (Err (Err (Wanted k)))))))))))))))))))))))))))))))))))))))))))))))))))))))))))))))))))))))))))))))))))))))))))))))))))))))))))))))))))))))))))))))))))))))))))))))))))))))))))))))))))))))))))))))))))))))))))))))))))))))) → (w ≡ Wanted k ↔ length q < k)
+  pub asks_more : (k : ℕ) → v ≡ Err (Wanted k) → length p < k
+  pub asks_again : (k : ℕ) → v ≡ Err (Wanted k) → (w ≡ Err (Wanted k) ↔ length q < k)
   -- sixteen bytes, and as many as the declared size, get no request
-  pub asks_no_more : 16 ≤ length p → declared_size p ≤ length p → (k : ℕ) → v ≡ Err (Err (Err (Err (Err (Err (Err (Err (Err (Err (Err (Err (Err (Err (Err (Err (Err (Err (Err (Err (Err (Err (Err (Err (Err (Err (Err (Err (Err (Err (Err (Err (Err (Err (Err (Err (Err (Err (Err (Err (Err (Err (Err (Err (Err (Err (Err (Err (Err (Err (Err (Err (Err (Err (Err (Err (Err (Err (Err (Err (Err (Err (Err (Err (Err (Err (Err (Err (Err (Err (Err (Err (Err (Err (Err (Err (Err (Err (Err (Err (Err (Err (Err (Err (Err (Err (Err (Err (Err (Err (Err (Err (Err (Err (Err (Err (Err (Err (Err (Err (Err (Err (Err (Err (Err (Err (Err (Err (Err (Err (Err (Err (Err (Err (Err (Err (Err (Err (Err (Err (Err (Err (Err (Err (Err (Err (Err (Err (Err (Err (Err (Err (Err (Err (Err (Err (Err (Err (Err (Err (Err (Err (Err (Err (Err (Err (Err (Err (Err (Err (Err (Err (Err (Err (Err (Err (Err (Err (Err (Err (Err (Err (Err (Err (Err (Err (Err (Err (Err (Err (Err (Err (Err (Err (Err (Err (Err (Err (Err (Err (Err (Err (Err (Err (Err (Err (Err (Err (Err (Err (Err (Err (Err (Err (Err (Err (Err (Err (Err (Err (Wanted k)))))))))))))))))))))))))))))))))))))))))))))))))))))))))))))))))))))))))))))))))))))))))))))))))))))))))))))))))))))))))))))))))))))))))))))))))))))))))))))))))))))))))))))))))))))))))))))))))))))))) → ⊥
+  pub asks_no_more : 16 ≤ length p → declared_size p ≤ length p → (k : ℕ) → v ≡ Err (Wanted k) → ⊥

@@ -16,8 +16,8 @@ use Rattle.incremental.specs.declared.Stop.{Stop}
 -- what the code answers to checks 11 to 13, and the buffer of m places afterwards: the table where they pass
 pub record TraceAnswer (x : Answer (List ℕ)) (m : ℕ) (r : Result ℕ Stop) (buffer : List ℕ) : Type 0 where
   pub passed : (n : ℕ) → r ≡ Ok n → (s : List ℕ) × (x ≡ decided (accept s)) × (n ≡ chains s) × (buffer ≡ predecessors s m)
-  pub refused : (f : Refusal) → r ≡ Err (Err (Err (Err (Err (Err (Err (Err (Err (Err (Err (Err (Err (Err (Err (Err (Err (Err (Err (Err (Err (Err (Err (Err (Err (Err (Err (Err (Err (Err (Err (Err (Err (Err (Err (Err (Err (Err (Err (Err (Err (Err (Err (Err (Err (Err (Err (Err (Err (Err (Err (Err (Err (Err (Err (Err (Err (Err (Err (Err (Err (Err (Err (Err (Err (Err (Err (Err (Err (Err (Err (Err (Err (Err (Err (Err (Err (Err (Err (Err (Err (Err (Err (Err (Err (Err (Err (Err (Err (Err (Err (Err (Err (Err (Err (Err (Err (Err (Err (Err (Err (Err (Err (Err (Err (Err (Err (Err (Err (Err (Err (Err (Err (Err (Err (Err (Err (Err (Err (Err (Err (Err (Err (Err (Err (Err (Err (Err (Err (Err (Err (Err (Err (Err (Err (Err (Err (Err (Err (Err (Err (Err (Err (Err (Err (Err (Err (Err (Err (Err (Err (Err (Err (Err (Err (Err (Err (Err (Err (Err (Err (Err (Err (Err (Err (Err (Err (Err (Err (Err (Err (Err (Err (Err (Err (Err (Err (Err (Err (Err (Err (Err (Err (Err (Err (Err (Err (Err (Err (Err (Err (Err (Err (Err (Err (Err (Err (Err (Err (Err (Refused f)))))))))))))))))))))))))))))))))))))))))))))))))))))))))))))))))))))))))))))))))))))))))))))))))))))))))))))))))))))))))))))))))))))))))))))))))))))))))))))))))))))))))))))))))))))))))))))))))))))))) → x ≡ decided (refuse f)
-  pub wanted : (k : ℕ) → r ≡ Err (Err (Err (Err (Err (Err (Err (Err (Err (Err (Err (Err (Err (Err (Err (Err (Err (Err (Err (Err (Err (Err (Err (Err (Err (Err (Err (Err (Err (Err (Err (Err (Err (Err (Err (Err (Err (Err (Err (Err (Err (Err (Err (Err (Err (Err (Err (Err (Err (Err (Err (Err (Err (Err (Err (Err (Err (Err (Err (Err (Err (Err (Err (Err (Err (Err (Err (Err (Err (Err (Err (Err (Err (Err (Err (Err (Err (Err (Err (Err (Err (Err (Err (Err (Err (Err (Err (Err (Err (Err (Err (Err (Err (Err (Err (Err (Err (Err (Err (Err (Err (Err (Err (Err (Err (Err (Err (Err (Err (Err (Err (Err (Err (Err (Err (Err (Err (Err (Err (Err (Err (Err (Err (Err (Err (Err (Err (Err (Err (Err (Err (Err (Err (Err (Err (Err (Err (Err (Err (Err (Err (Err (Err (Err (Err (Err (Err (Err (Err (Err (Err (Err (Err (Err (Err (Err (Err (Err (Err (Err (Err (Err (Err (Err (Err (Err (Err (Err (Err (Err (Err (Err (Err (Err (Err (Err (Err (Err (Err (Err (Err (Err (Err (Err (Err (Err (Err (Err (Err (Err (Err (Err (Err (Err (Err (Err (Err (Err (Err (Err (Wanted k)))))))))))))))))))))))))))))))))))))))))))))))))))))))))))))))))))))))))))))))))))))))))))))))))))))))))))))))))))))))))))))))))))))))))))))))))))))))))))))))))))))))))))))))))))))))))))))))))))))))) → x ≡ wants k
+  pub refused : (f : Refusal) → r ≡ Err (Refused f) → x ≡ decided (refuse f)
+  pub wanted : (k : ℕ) → r ≡ Err (Wanted k) → x ≡ wants k
 
 -- 8 has passed
 abbrev pub EntriesFit : Opening → Type 0
@@ -26,8 +26,8 @@ EntriesFit o = o.head.volumes.count * volume_entry o.layout ≤ o.head.volumes.l
 -- a stage's verdict, where the working buffer ends as `after`
 abbrev pub verdict_of : Result Acceptance Stop → List ℕ → Answer Acceptable
 verdict_of (Ok a) after = decided (accept (record { fields = a; table = after }))
-verdict_of (Err (Err (Err (Err (Err (Err (Err (Err (Err (Err (Err (Err (Err (Err (Err (Err (Err (Err (Err (Err (Err (Err (Err (Err (Err (Err (Err (Err (Err (Err (Err (Err (Err (Err (Err (Err (Err (Err (Err (Err (Err (Err (Err (Err (Err (Err (Err (Err (Err (Err (Err (Err (Err (Err (Err (Err (Err (Err (Err (Err (Err (Err (Err (Err (Err (Err (Err (Err (Err (Err (Err (Err (Err (Err (Err (Err (Err (Err (Err (Err (Err (Err (Err (Err (Err (Err (Err (Err (Err (Err (Err (Err (Err (Err (Err (Err (Err (Err (Err (Err (Err (Err (Err (Err (Err (Err (Err (Err (Err (Err (Err (Err (Err (Err (Err (Err (Err (Err (Err (Err (Err (Err (Err (Err (Err (Err (Err (Err (Err (Err (Err (Err (Err (Err (Err (Err (Err (Err (Err (Err (Err (Err (Err (Err (Err (Err (Err (Err (Err (Err (Err (Err (Err (Err (Err (Err (Err (Err (Err (Err (Err (Err (Err (Err (Err (Err (Err (Err (Err (Err (Err (Err (Err (Err (Err (Err (Err (Err (Err (Err (Err (Err (Err (Err (Err (Err (Err (Err (Err (Err (Err (Err (Err (Err (Err (Err (Err (Err (Err (Err (Refused r))))))))))))))))))))))))))))))))))))))))))))))))))))))))))))))))))))))))))))))))))))))))))))))))))))))))))))))))))))))))))))))))))))))))))))))))))))))))))))))))))))))))))))))))))))))))))))))))))))))))) after = decided (refuse r)
-verdict_of (Err (Err (Err (Err (Err (Err (Err (Err (Err (Err (Err (Err (Err (Err (Err (Err (Err (Err (Err (Err (Err (Err (Err (Err (Err (Err (Err (Err (Err (Err (Err (Err (Err (Err (Err (Err (Err (Err (Err (Err (Err (Err (Err (Err (Err (Err (Err (Err (Err (Err (Err (Err (Err (Err (Err (Err (Err (Err (Err (Err (Err (Err (Err (Err (Err (Err (Err (Err (Err (Err (Err (Err (Err (Err (Err (Err (Err (Err (Err (Err (Err (Err (Err (Err (Err (Err (Err (Err (Err (Err (Err (Err (Err (Err (Err (Err (Err (Err (Err (Err (Err (Err (Err (Err (Err (Err (Err (Err (Err (Err (Err (Err (Err (Err (Err (Err (Err (Err (Err (Err (Err (Err (Err (Err (Err (Err (Err (Err (Err (Err (Err (Err (Err (Err (Err (Err (Err (Err (Err (Err (Err (Err (Err (Err (Err (Err (Err (Err (Err (Err (Err (Err (Err (Err (Err (Err (Err (Err (Err (Err (Err (Err (Err (Err (Err (Err (Err (Err (Err (Err (Err (Err (Err (Err (Err (Err (Err (Err (Err (Err (Err (Err (Err (Err (Err (Err (Err (Err (Err (Err (Err (Err (Err (Err (Err (Err (Err (Err (Err (Err (Wanted k))))))))))))))))))))))))))))))))))))))))))))))))))))))))))))))))))))))))))))))))))))))))))))))))))))))))))))))))))))))))))))))))))))))))))))))))))))))))))))))))))))))))))))))))))))))))))))))))))))))))) after = wants k
+verdict_of (Err (Refused r)) after = decided (refuse r)
+verdict_of (Err (Wanted k)) after = wants k
 
 -- a file is refused, and the buffer of m places is filled
 pub record Refuses (f : Refusal) (m : ℕ) (r : Result (Acceptance × Opening) Refusal) (after : List ℕ) : Type 0 where

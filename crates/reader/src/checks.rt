@@ -1,7 +1,7 @@
 ghost use Rattle.std.specs.Prelude.{◌≡◌, ◌≤◌, length};
 ghost use Rattle.layout.specs.Head.{declared_size_at};
 ghost use Rattle.incremental.specs.Decision.{refusal};
-ghost use Rattle.incremental.specs.Plan.{run, outcome_of};
+ghost use Rattle.incremental.specs.Plan.{run, answer_of};
 ghost use Rattle.sections.specs.Fields.{link_count};
 ghost use Rattle.head.specs.Opened.{OpenFacts};
 ghost use Rattle.reader.specs.Checks.{names_required, trace_required, volumes_required};
@@ -27,7 +27,7 @@ enum TraceOutcome {
 
 // Checks 7 and 8, with so many places in the working buffer.
 fn check_counts(file: &[u8], o: Opening, places: usize) -> Outcome
-    ensures { outcome_of result ≡ run (counts_plan places o) file.now }
+    ensures { answer_of result ≡ run (counts_plan places o) file.now }
 {
     let volumes = o.head.volumes;
     let entry = o.layout.volume_entry;
@@ -61,7 +61,7 @@ fn names_required(o: Opening) -> usize
 
 // Check 9.
 fn check_fits(file: &[u8], o: Opening) -> Outcome
-    ensures { outcome_of result ≡ run (fits_plan o) file.now }
+    ensures { answer_of result ≡ run (fits_plan o) file.now }
 {
     let l = o.layout;
     let metrics = o.head.metrics;
@@ -80,7 +80,7 @@ fn check_fits(file: &[u8], o: Opening) -> Outcome
 
 // Check 10.
 fn check_texts(file: &[u8], o: Opening) -> Outcome
-    ensures { outcome_of result ≡ run (texts_plan o) file.now }
+    ensures { answer_of result ≡ run (texts_plan o) file.now }
 {
     let l = o.layout;
     let metrics = o.head.metrics;
@@ -147,7 +147,7 @@ fn volumes_required(o: Opening) -> usize
 // Checks 14 and 15, where 8 has passed.
 fn check_volumes(file: &[u8], o: Opening) -> Outcome
     requires { OpenFacts file.now o × EntriesFit o }
-    ensures { outcome_of result ≡ run (volumes_plan o) file.now }
+    ensures { answer_of result ≡ run (volumes_plan o) file.now }
 {
     let l = o.layout;
     let section = o.head.volumes;

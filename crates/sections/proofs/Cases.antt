@@ -14,7 +14,7 @@ use Rattle.lists.proofs.Count.{any_more}
 use Rattle.lists.proofs.Tests.{by_test}
 use Rattle.lists.specs.First.{first_from}
 use Rattle.little_endian.specs.Number.{le}
-use Rattle.layout.specs.Versions.{size_limit, head_end, metrics_entry, trace_entry, has_next, form_required, forms, form_at, form_said}
+use Rattle.layout.specs.Versions.{size_limit, head_end, metrics_entry, trace_entry, has_next, form_required, forms, form_at}
 use Rattle.layout.specs.declared.Layout.{Layout}
 use Rattle.incremental.specs.Decision.{fault_of}
 use Rattle.sections.specs.declared.Section.{Section}
@@ -120,42 +120,15 @@ pub size_right : (l : Layout) (b : List ℕ) (r : ℕ) → r ≡ le 4 b 12 → h
 unfolding size_fault
 size_right l b r e h k = rw (← e, le-ltb _ _ h, le-ltb _ _ k)
 
--- 21: `k` is the form that a call found for the start that another read
-pub form_one : (l : Layout) (b : List ℕ) → form_required l ≡ 0 → form_said (Some l) ≡ form_in l b
-unfolding form_in
-form_one l b h = rw (eq-eqb _ _ h)
-
-module _ (l : Layout) (b : List ℕ) (start : ℕ) (k : Option Layout) (several : form_required l ≡ 0 → ⊥) (e : start ≡ le 4 b 84)
-    (said : form_said k ≡ form_at start forms) where
-  form_known : (x : Option Layout) → k ≡ x → form_in l b ≡ room_for (le 4 b 12) (form_said x)
-  unfolding form_in
-  form_known x q = rw (ne_eqb _ _ several, ← e, ← said, q)
-
-  pub form_unknown : k ≡ None → form_said None ≡ form_in l b
-  form_unknown q = sym (form_known _ q)
-
-  module _ (f : Layout) (q : k ≡ Some f) (r : ℕ) (size : r ≡ le 4 b 12) where
-    pub form_short : r < head_end f → form_said None ≡ form_in l b
-    form_short h = sym (form_known _ q ∙ rw (← size, lt-ltb _ _ h))
-
-    pub form_found : head_end f ≤ r → form_said (Some f) ≡ form_in l b
-    form_found h = sym (form_known _ q ∙ rw (← size, le-ltb _ _ h))
-
 -- how many next indexes there are
 pub links_all : (l : Layout) (h : Head) → has_next l ≡ true → h.trace.count ≡ link_count l h
 unfolding link_count
 links_all l h e = rw e
 
-pub links_none : (l : Layout) (h : Head) → has_next l ≡ false → 0 ≡ link_count l h
-unfolding link_count
-links_none l h e = rw e
-
 -- and no more than trace entries
 pub links_low : (l : Layout) (h : Head) → link_count l h ≤ h.trace.count
 unfolding link_count
 links_low l h = by_test (has_next l) (λ e. rw e (le_refl _)) (λ e. rw e (omega arith))
-
-pub ruleset looked = (form_one, form_unknown, form_short, form_found, links_all, links_none)
 
 -- 7 and 8
 pub places_few : (m n : ℕ) → m < n → Some (fault 0 96) ≡ places_fault m n
@@ -196,8 +169,6 @@ pub length-fits : (a b : ℕ) → a < 4294967296 → b < 65536 → Fits w64 (a *
 length-fits a b p q =
     let h : a * b ≤ 281474976710656 = length_small a b p q in
     omega arith
-
-pub ruleset lengths = (length_small, length-fits)
 
 -- a section of what calls gave
 pub section_same : (s : Section) (h at len count at' len' count' : ℕ)

@@ -30,8 +30,6 @@ units-whole n l = rw (le-ltb n 76 l)
 pub units-none : (n : ℕ) → n < 16 → 0 ≡ name_units_in n
 units-none n l = let e : n - 16 ≡ 0 = omega arith in rw (← units-part n (omega arith), e)
 
-pub ruleset name_units_lem = (units-none, units-part, units-whole)
-
 -- the search over that many
 pub name_searched : (b : List ℕ) (n : ℕ) (r : Option ℕ) → n ≡ name_units_in (length b) → r ≡ first (λ i. zero_unit b (16 + 2 * i)) n → r ≡ name_end b
 unfolding name_end

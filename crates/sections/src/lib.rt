@@ -3,16 +3,15 @@
 
 ghost use Rattle.std.specs.Prelude.{◌≡◌, ◌≤◌};
 ghost use Rattle.lists.specs.Part.{IsPart};
+ghost use Rattle.incremental.specs.Decision.{fault};
 ghost use Rattle.sections.specs.Fields.{offset_field_at, signature_fault, size_fault, name_units_in, name_end, section_of, head_of, outside, outside_fault, shares};
-ghost use Rattle.layout.specs.Versions.{form_said};
 ghost use Rattle.sections.specs.Fields.{overlap_fault, places_fault, entries_fault, form_in, link_count};
 
 use incremental::Fault;
-use layout::{KnownForm, Layout, SIZE_LIMIT};
-use lists::Found;
+use layout::{Layout, SIZE_LIMIT};
 
 // A section of the file: offset, length in bytes, end, and the count that its head has.
-#[derive(Clone, Copy)]
+#[derive(Clone, Copy, Debug, PartialEq, Eq)]
 pub struct Section {
     pub at: u32,
     pub len: usize,
@@ -20,7 +19,7 @@ pub struct Section {
     pub count: u32,
 }
 
-#[derive(Clone, Copy)]
+#[derive(Clone, Copy, Debug, PartialEq, Eq)]
 pub struct Head {
     // Document 01: S.
     pub declared_size: u32,
@@ -39,29 +38,38 @@ pub fn part_of(bytes: &[u8], s: Section) -> &[u8]
 
 // Check 2.
 #[tactic(auto, unfolding(crate::specs::Fields::signature_fault))]
-pub fn signature_fault(b: &[u8]) -> Fault
+pub fn signature_fault(b: &[u8]) -> Option<Fault>
     ensures { result ≡ signature_fault b.now }
 {
     if little_endian::u32_at(b, layout::SIGNATURE_AT) == layout::SIGNATURE {
-        Fault::Nowhere
+        None
     } else {
-        Fault::At(0, layout::SIGNATURE_AT)
+        Some(Fault {
+            index: 0,
+            offset: layout::SIGNATURE_AT,
+        })
     }
 }
 
 // Check 3.
 #[tactic(auto, unfolding(crate::specs::Fields::size_fault))]
-pub fn size_fault(b: &[u8], l: Layout) -> Fault
+pub fn size_fault(b: &[u8], l: Layout) -> Option<Fault>
     ensures { result ≡ size_fault l b.now }
 {
     let size = little_endian::u32_at(b, layout::DECLARED_SIZE_AT);
     if size < l.head_end as u32 {
-        return Fault::At(0, layout::DECLARED_SIZE_AT);
+        return Some(Fault {
+            index: 0,
+            offset: layout::DECLARED_SIZE_AT,
+        });
     }
     if SIZE_LIMIT < size {
-        return Fault::At(0, layout::DECLARED_SIZE_AT);
+        return Some(Fault {
+            index: 0,
+            offset: layout::DECLARED_SIZE_AT,
+        });
     }
-    Fault::Nowhere
+    None
 }
 
 // How many of the program name's units lie whole in so many bytes.
@@ -79,7 +87,7 @@ fn name_units_in(length: usize) -> u32
 }
 
 // Check 4: the number of the program name's units before its first zero. A unit that has not come whole is no zero.
-pub fn name_end(b: &[u8]) -> Found
+pub fn name_end(b: &[u8]) -> Option<usize>
     ensures { result ≡ name_end b.now }
 {
     let units = name_units_in(b.len());
@@ -88,23 +96,18 @@ pub fn name_end(b: &[u8]) -> Found
 
 // Check 21: the layout of the head form, where the version's is `l`.
 #[tactic(auto, unfolding(crate::specs::Fields::form_in))]
-pub fn find_form(b: &[u8], l: Layout) -> KnownForm
-    ensures { form_said result ≡ form_in l b.now }
+pub fn find_form(b: &[u8], l: Layout) -> Option<Layout>
+    ensures { result ≡ form_in l b.now }
 {
     if l.form_required == 0 {
-        return KnownForm::Known(l);
+        return Some(l);
     }
     let size = little_endian::u32_at(b, layout::DECLARED_SIZE_AT);
-    let KnownForm::Known(form) = Layout::of_form(little_endian::u32_at(
-        b,
-        layout::METRICS_OFFSET_AT,
-    )) else {
-        return KnownForm::Unknown;
-    };
+    let form = Layout::of_form(little_endian::u32_at(b, layout::METRICS_OFFSET_AT))?;
     if size < form.head_end as u32 {
-        return KnownForm::Unknown;
+        return None;
     }
-    KnownForm::Known(form)
+    Some(form)
 }
 
 // A section by its offset and length. An empty one ends at H, so that no byte is waited for on its account.
@@ -112,20 +115,12 @@ fn section_of(h: usize, at: u32, len: usize, count: u32) -> Section
     requires { len ≤ 281474976710656 }
     ensures { result ≡ section_of h at len count }
 {
-    if len == 0 {
-        Section {
-            at: at,
-            len: len,
-            end: h,
-            count: count,
-        }
-    } else {
-        Section {
-            at: at,
-            len: len,
-            end: at as usize + len,
-            count: count,
-        }
+    let end = if len == 0 { h } else { at as usize + len };
+    Section {
+        at,
+        len,
+        end,
+        count,
     }
 }
 
@@ -163,10 +158,10 @@ pub fn head_of(l: Layout, b: &[u8]) -> Head
     );
     Head {
         declared_size: little_endian::u32_at(b, layout::DECLARED_SIZE_AT),
-        metrics: metrics,
-        trace: trace,
-        strings: strings,
-        volumes: volumes,
+        metrics,
+        trace,
+        strings,
+        volumes,
     }
 }
 
@@ -184,19 +179,31 @@ fn is_outside(h: usize, size: u32, s: Section) -> bool
 }
 
 // The fault of a section, by its number: its field is the section's offset in the head.
-fn section_fault(n: usize) -> Fault
-    ensures { result ≡ Fault.At n (offset_field_at n) }
+fn section_fault(n: usize) -> Option<Fault>
+    ensures { result ≡ Some (fault n (offset_field_at n)) }
 {
     match n {
-        1 => Fault::At(n, layout::METRICS_OFFSET_AT),
-        2 => Fault::At(n, layout::TRACE_OFFSET_AT),
-        3 => Fault::At(n, layout::STRINGS_OFFSET_AT),
-        _ => Fault::At(n, layout::VOLUMES_OFFSET_AT),
+        1 => Some(Fault {
+            index: n,
+            offset: layout::METRICS_OFFSET_AT,
+        }),
+        2 => Some(Fault {
+            index: n,
+            offset: layout::TRACE_OFFSET_AT,
+        }),
+        3 => Some(Fault {
+            index: n,
+            offset: layout::STRINGS_OFFSET_AT,
+        }),
+        _ => Some(Fault {
+            index: n,
+            offset: layout::VOLUMES_OFFSET_AT,
+        }),
     }
 }
 
 // Check 5.
-pub fn outside_fault(l: Layout, h: Head) -> Fault
+pub fn outside_fault(l: Layout, h: Head) -> Option<Fault>
     ensures { result ≡ outside_fault l h }
 {
     let start = l.head_end as usize;
@@ -217,7 +224,7 @@ pub fn outside_fault(l: Layout, h: Head) -> Fault
     if is_outside(start, size, volumes) {
         return section_fault(4);
     }
-    Fault::Nowhere
+    None
 }
 
 // Whether two sections have a byte in common.
@@ -237,7 +244,7 @@ fn share(s: Section, t: Section) -> bool
 }
 
 // Check 6.
-pub fn overlap_fault(h: Head) -> Fault
+pub fn overlap_fault(h: Head) -> Option<Fault>
     ensures { result ≡ overlap_fault h }
 {
     let metrics = h.metrics;
@@ -262,7 +269,7 @@ pub fn overlap_fault(h: Head) -> Fault
     if share(strings, volumes) {
         return section_fault(4);
     }
-    Fault::Nowhere
+    None
 }
 
 // How many trace entries have a next index.
@@ -277,21 +284,27 @@ pub fn link_count(l: Layout, h: Head) -> u32
 }
 
 // Check 7.
-pub fn places_fault(places: usize, count: u32) -> Fault
+pub fn places_fault(places: usize, count: u32) -> Option<Fault>
     ensures { result ≡ places_fault places count }
 {
     if places < count as usize {
-        return Fault::At(0, layout::TRACE_COUNT_AT);
+        return Some(Fault {
+            index: 0,
+            offset: layout::TRACE_COUNT_AT,
+        });
     }
-    Fault::Nowhere
+    None
 }
 
 // Check 8.
-pub fn entries_fault(count: u32, entry: u16, size: usize) -> Fault
+pub fn entries_fault(count: u32, entry: u16, size: usize) -> Option<Fault>
     ensures { result ≡ entries_fault count entry size }
 {
     if size < count as usize * (entry as usize) {
-        return Fault::At(0, layout::VOLUMES_COUNT_AT);
+        return Some(Fault {
+            index: 0,
+            offset: layout::VOLUMES_COUNT_AT,
+        });
     }
-    Fault::Nowhere
+    None
 }

@@ -77,9 +77,9 @@ unfoldable pub predecessors : List ℕ → ℕ → List ℕ
 predecessors s m = tabulate m (λ j. pick (ltb j (length s)) (predecessor s (length s) j) end)
 
 -- what each case of the answer says
-abbrev pub links_of : Result ℕ Refusal → Decision ℕ
-links_of (Ok n) = accept n
-links_of (Err r) = refuse r
+abbrev pub decision_of : Result ℕ Refusal → Decision ℕ
+decision_of (Ok n) = accept n
+decision_of (Err r) = refuse r
 
 -- 11, 12, 13: the first such entry; `at` says where in the file each entry starts. The next index is its first field
 abbrev pub astray_fault : (ℕ → ℕ) → List ℕ → Option Fault
@@ -110,7 +110,7 @@ held (refuse r) s m = filled m
 
 -- a decision as an answer, and the buffer of m places after it
 pub record LinkDecision (d : Decision ℕ) (s : List ℕ) (m : ℕ) (r : Result ℕ Refusal) (buffer : List ℕ) : Type 0 where
-  pub answer : links_of r ≡ d
+  pub answer : decision_of r ≡ d
   pub holds : buffer ≡ held d s m
 
 -- the answer on a list of next indexes

@@ -9,21 +9,13 @@ ghost use Rattle.trace.specs.Links.{end, nexts_from, predecessors, LinkAnswer};
 ghost use Rattle.trace.specs.Private.{next_from, Distinct, Forward, first_cyclic, LinkedBuffer, FilledBuffer, FilledLinked};
 ghost use Rattle.trace.specs.Private.{TableBuilt, Stored, Passed, CyclesAnswered, LinksAnswered};
 
-use incremental::{Fault, Refusal};
-use lists::Found;
+use incremental::{Refusal, check};
 
 const END: u32 = 4294967295;
 
-// What the checks of a trace section find: the chain count, or the refusal.
-#[derive(Clone, Copy)]
-pub enum Links {
-    Chains(usize),
-    Refused(Refusal),
-}
-
 // What the pass for checks 11 and 12 finds: the first entry astray, the smallest entry that two entries name, or the number of
 // entries that end a chain and whether every next index is above its own.
-#[derive(Clone, Copy)]
+#[derive(Clone, Copy, Debug, PartialEq, Eq)]
 enum Pass {
     Astray(u32),
     Shared(u32),
@@ -41,14 +33,10 @@ fn next_at(section: &[u8], pairs: &[u32], size: u16, i: u32) -> u32
 }
 
 // What a search over the entries found that stopped at entry i, or after the last entry.
-fn found_below(entries: u32, i: u32) -> Found
+fn found_below(entries: u32, i: u32) -> Option<usize>
     ensures { result ≡ found_below entries i }
 {
-    if i < entries {
-        Found::At(i as usize)
-    } else {
-        Found::Nothing
-    }
+    if i < entries { Some(i as usize) } else { None }
 }
 
 // Entry i names `next`, whose place comes to hold i, or ends a chain. `least` is the smallest entry that was named twice so far.
@@ -65,7 +53,7 @@ fn store_predecessor(buffer: &mut [u32], i: u32, next: u32, least: u32) -> u32
     if earlier == END {
         return least;
     }
-    if next < least { next } else { least }
+    next.min(least)
 }
 
 // Checks 11 and 12: the first entry astray, or else the smallest entry that two entries name, or else the number of entries that
@@ -84,8 +72,7 @@ fn store_predecessors(
     let mut least = entries;
     let mut ends: usize = 0;
     let mut forward = true;
-    let mut i = 0;
-    while i < entries {
+    for i in 0..entries {
         let next = next_at(section, pairs, size, i);
         if next == END {
             ends += 1;
@@ -96,7 +83,6 @@ fn store_predecessors(
         }
         least = store_predecessor(buffer, i, next, least);
         forward = forward & (i < next);
-        i += 1;
     }
     if least < entries {
         return Pass::Shared(least);
@@ -115,7 +101,13 @@ fn build_table(section: &[u8], pairs: &[u32], size: u16, entries: u32, buffer: &
 
 // Check 13: the smallest entry on a cycle. Each entry is walked over once: its place then holds the walk's first entry. A walk
 // that comes back to its own first entry has found the cycle; since no two entries name one, a walk meets no other entry of its own.
-fn first_cyclic(section: &[u8], pairs: &[u32], size: u16, entries: u32, marks: &mut [u32]) -> Found
+fn first_cyclic(
+    section: &[u8],
+    pairs: &[u32],
+    size: u16,
+    entries: u32,
+    marks: &mut [u32],
+) -> Option<usize>
     requires { FilledLinked (nexts_from section.now pairs.now size entries) marks.old × Distinct (nexts_from section.now pairs.now size entries) }
     ensures { result ≡ first_cyclic (nexts_from section.now pairs.now size entries) }
 {
@@ -139,7 +131,13 @@ fn first_cyclic(section: &[u8], pairs: &[u32], size: u16, entries: u32, marks: &
 }
 
 // The same, whatever the buffer held.
-fn find_cycle(section: &[u8], pairs: &[u32], size: u16, entries: u32, buffer: &mut [u32]) -> Found
+fn find_cycle(
+    section: &[u8],
+    pairs: &[u32],
+    size: u16,
+    entries: u32,
+    buffer: &mut [u32],
+) -> Option<usize>
     requires { LinkedBuffer (nexts_from section.now pairs.now size entries) buffer.old × Distinct (nexts_from section.now pairs.now size entries) }
     ensures { result ≡ first_cyclic (nexts_from section.now pairs.now size entries) }
 {
@@ -148,10 +146,10 @@ fn find_cycle(section: &[u8], pairs: &[u32], size: u16, entries: u32, buffer: &m
 }
 
 // The refusal of a check at entry i, of entries of that size from `start`.
-fn refused(number: u32, start: u32, size: u16, i: u32) -> Links
-    ensures { result ≡ Links.Refused (refusal number i (entry_offset start size i)) }
+fn refused(number: u32, start: u32, size: u16, i: u32) -> Result<usize, Refusal>
+    ensures { result ≡ Err (refusal number i (entry_offset start size i)) }
 {
-    Links::Refused(incremental::refuse(number, i as usize, layout::entry_offset(start, size, i)))
+    Err(incremental::refuse(number, i as usize, layout::entry_offset(start, size, i)))
 }
 
 // Check 13, and the table of predecessors built again where it passes. `ends` is the number of entries that end a chain.
@@ -163,18 +161,18 @@ fn check_cycles(
     entries: u32,
     ends: usize,
     buffer: &mut [u32],
-) -> Links
+) -> Result<usize, Refusal>
     requires { TableBuilt (nexts_from section.now pairs.now size entries) ends buffer.old }
     ensures { CyclesAnswered (entry_offset start size) (nexts_from section.now pairs.now size entries) (length buffer.old) result
         buffer.new }
 {
     let found = find_cycle(section, pairs, size, entries, buffer);
-    if let Found::At(i) = found {
+    if let Some(i) = found {
         lists::fill(buffer);
         return refused(13, start, size, i as u32);
     }
     build_table(section, pairs, size, entries, buffer);
-    Links::Chains(ends)
+    Ok(ends)
 }
 
 // Check 13. Where every next index is above its own, as in the files that Windows writes, no entry is on a cycle: no walk is
@@ -188,14 +186,14 @@ fn check_order(
     ends: usize,
     forward: bool,
     buffer: &mut [u32],
-) -> Links
+) -> Result<usize, Refusal>
     requires { TableBuilt (nexts_from section.now pairs.now size entries) ends buffer.old
         × (forward ≡ true → Forward (nexts_from section.now pairs.now size entries)) }
     ensures { CyclesAnswered (entry_offset start size) (nexts_from section.now pairs.now size entries) (length buffer.old) result
         buffer.new }
 {
     if forward {
-        return Links::Chains(ends);
+        return Ok(ends);
     }
     check_cycles(section, pairs, start, size, entries, ends, buffer)
 }
@@ -208,7 +206,7 @@ fn check_entries(
     size: u16,
     entries: u32,
     buffer: &mut [u32],
-) -> Links
+) -> Result<usize, Refusal>
     requires { FilledBuffer (nexts_from section.now pairs.now size entries) buffer.old }
     ensures { LinksAnswered (entry_offset start size) (nexts_from section.now pairs.now size entries) (length buffer.old) result
         buffer.new }
@@ -238,14 +236,12 @@ pub fn check_links(
     size: u16,
     entries: u32,
     predecessors: &mut [u32],
-) -> Links
+) -> Result<usize, Refusal>
     ensures { LinkAnswer section.now pairs.now start size entries (length predecessors.old) result
         predecessors.new }
 {
     let places = predecessors.len();
     lists::fill(predecessors);
-    if let Fault::At(i, at) = sections::places_fault(places, entries) {
-        return Links::Refused(incremental::refuse(7, i, at));
-    }
+    check(7, sections::places_fault(places, entries))?;
     check_entries(section, pairs, start, size, entries, predecessors)
 }

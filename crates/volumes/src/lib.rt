@@ -4,57 +4,54 @@
 ghost use Rattle.std.specs.Prelude.{◌≡◌, ◌<◌, ◌^◌, eqb};
 ghost use Rattle.lists.specs.Answer.{Answers};
 ghost use Rattle.lists.specs.Count.{pick};
-ghost use Rattle.incremental.specs.Decision.{checked_of, refusal};
+ghost use Rattle.incremental.specs.Decision.{decision_of, refusal};
 ghost use Rattle.volumes.specs.Volumes.{step_at, step_said, entry_at, volume_checks, volumes_checks, volume_of, reference_of, path_fits};
 ghost use Rattle.volumes.specs.Volumes.{path_at, path_count, path_units, reference_count, references_fit, directories_of, entry_checks};
 ghost use Rattle.volumes.specs.Volumes.{directories_at, directory_count};
 
-use incremental::{Checked, Fault};
+use incremental::{Refusal, check};
 use layout::Layout;
-use lists::Found;
 
 // A position in a run of directory strings.
-#[derive(Clone, Copy)]
+#[derive(Clone, Copy, Debug, PartialEq, Eq)]
 pub struct Cursor {
     pub at: usize,
 }
 
-// What a step over one directory string finds: the position after it, a string that runs past the section (document 01: 14),
-// or one whose last unit is not zero (document 01: 15).
-#[derive(Clone, Copy)]
-pub enum Step {
-    Next(Cursor),
+// Why there is no step over a directory string: it runs past the section (document 01: 14), or its last unit is not zero (document 01: 15).
+#[derive(Clone, Copy, Debug, PartialEq, Eq)]
+pub enum StepFault {
     Past,
     Unended,
 }
 
 impl Cursor {
-    // Over the directory string here: its count of units, the units, and a zero. Nothing past the section is read.
-    pub fn step(self, section: &[u8]) -> Step
+    // Over the directory string here, to the position after it: its count of units, the units, and a zero. Nothing past the section is read.
+    pub fn step(self, section: &[u8]) -> Result<Cursor, StepFault>
         ensures { Answers step_said (step_at section.now self.at) result }
     {
         let at = self.at;
         if section.len() < 2 {
-            return Step::Past;
+            return Err(StepFault::Past);
         }
         if section.len() - 2 < at {
-            return Step::Past;
+            return Err(StepFault::Past);
         }
         let units = little_endian::u16_at(section, at) as usize;
         let last = at + 2 + 2 * units;
         if section.len() - 2 < last {
-            return Step::Past;
+            return Err(StepFault::Past);
         }
         if little_endian::u16_at(section, last) == 0 {
-            Step::Next(Cursor { at: last + 2 })
+            Ok(Cursor { at: last + 2 })
         } else {
-            Step::Unended
+            Err(StepFault::Unended)
         }
     }
 }
 
 // What is asked of one volume: times and counts, and where its path lies, in the section, with its number of units.
-#[derive(Clone, Copy)]
+#[derive(Clone, Copy, Debug, PartialEq, Eq)]
 pub struct Volume {
     pub created: u64,
     pub serial: u32,
@@ -65,17 +62,17 @@ pub struct Volume {
 }
 
 // A file reference: the index of an entry in the file table, and its sequence number.
-#[derive(Clone, Copy)]
+#[derive(Clone, Copy, Debug, PartialEq, Eq)]
 pub struct Reference {
     pub index: u64,
     pub sequence: u16,
 }
 
 // The refusal of a check for volume i, whose entry starts at `place` in the file.
-fn refused(number: u32, i: u32, place: usize) -> Checked
-    ensures { result ≡ Checked.Refused (refusal number i place) }
+fn refused(number: u32, i: u32, place: usize) -> Result<(), Refusal>
+    ensures { result ≡ Err (refusal number i place) }
 {
-    Checked::Refused(incremental::refuse(number, i as usize, place))
+    Err(incremental::refuse(number, i as usize, place))
 }
 
 // Where volume entry i starts: below 2^48, so that no sum with it wraps.
@@ -132,31 +129,29 @@ fn references_fit(section: &[u8], entry: usize) -> bool
 
 // A step over each directory string of volume i. Each step goes on by at least 4 bytes, so the section's end stops a count
 // that is too high.
-fn check_directories(section: &[u8], i: u32, place: usize, entry: usize) -> Checked
+fn check_directories(section: &[u8], i: u32, place: usize, entry: usize) -> Result<(), Refusal>
     requires { entry < 2 ^ 48 }
-    ensures { checked_of result ≡ directories_of section.now i place entry }
+    ensures { decision_of result ≡ directories_of section.now i place entry }
 {
     let count = little_endian::u32_at(section, entry + 32);
     let start = little_endian::u32_at(section, entry + 28) as usize;
     let mut cursor = Cursor { at: start };
-    let mut done = 0;
-    while done < count {
+    for _ in 0..count {
         match cursor.step(section) {
-            Step::Next(next) => {
+            Ok(next) => {
                 cursor = next;
             }
-            Step::Past => return refused(14, i, place),
-            Step::Unended => return refused(15, i, place),
+            Err(StepFault::Past) => return refused(14, i, place),
+            Err(StepFault::Unended) => return refused(15, i, place),
         }
-        done += 1;
     }
-    Checked::Passed
+    Ok(())
 }
 
 // Path, references, directories of volume i, in this order.
-fn check_entry(section: &[u8], i: u32, place: usize, entry: usize) -> Checked
+fn check_entry(section: &[u8], i: u32, place: usize, entry: usize) -> Result<(), Refusal>
     requires { entry < 2 ^ 48 }
-    ensures { checked_of result ≡ entry_checks section.now i place entry }
+    ensures { decision_of result ≡ entry_checks section.now i place entry }
 {
     if !path_fits(section, entry) {
         return refused(14, i, place);
@@ -168,30 +163,23 @@ fn check_entry(section: &[u8], i: u32, place: usize, entry: usize) -> Checked
 }
 
 // Checks 14 and 15 on volume i of a section that starts at `start` in the file.
-pub fn check_volume(section: &[u8], l: Layout, start: u32, i: u32) -> Checked
-    ensures { checked_of result ≡ volume_checks section.now l start i }
+pub fn check_volume(section: &[u8], l: Layout, start: u32, i: u32) -> Result<(), Refusal>
+    ensures { decision_of result ≡ volume_checks section.now l start i }
 {
     let place = layout::entry_offset(start, l.volume_entry, i);
     check_entry(section, i, place, entry_at(l, i))
 }
 
 // Check 8, then checks 14 and 15 on each of `count` volumes of a section that starts at `start` in the file.
-pub fn check_volumes(section: &[u8], l: Layout, start: u32, count: u32) -> Checked
-    ensures { checked_of result ≡ volumes_checks section.now l start count }
+pub fn check_volumes(section: &[u8], l: Layout, start: u32, count: u32) -> Result<(), Refusal>
+    ensures { decision_of result ≡ volumes_checks section.now l start count }
 {
     let size = l.volume_entry;
-    if let Fault::At(k, at) = sections::entries_fault(count, size, section.len()) {
-        return Checked::Refused(incremental::refuse(8, k, at));
+    check(8, sections::entries_fault(count, size, section.len()))?;
+    for i in 0..count {
+        check_volume(section, l, start, i)?;
     }
-    let mut i = 0;
-    while i < count {
-        let checked = check_volume(section, l, start, i);
-        if let Checked::Refused(refusal) = checked {
-            return Checked::Refused(refusal);
-        }
-        i += 1;
-    }
-    Checked::Passed
+    Ok(())
 }
 
 // Where the path starts: 0 where it is empty.
@@ -212,10 +200,7 @@ fn path_units(section: &[u8], entry: usize) -> usize
 {
     let start = little_endian::u32_at(section, entry);
     let count = little_endian::u32_at(section, entry + 4);
-    match little_endian::first_zero_unit(section, start, count) {
-        Found::At(k) => k,
-        Found::Nothing => count as usize,
-    }
+    little_endian::first_zero_unit(section, start, count).unwrap_or(count as usize)
 }
 
 // The facts of volume i, and of reference k of volume i.

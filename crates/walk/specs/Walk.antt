@@ -19,7 +19,6 @@ use Rattle.reader.specs.Verdict.{Acceptable}
 use Rattle.std.specs.Prelude.{Err, Ok, Option, Result}
 use Rattle.incremental.specs.declared.Fault.{Fault}
 use Rattle.walk.specs.declared.Walked.{Walked}
-use Rattle.walk.specs.Walk.{steps_walked}
 
 -- ---- the list, by the next indexes `s`
 
@@ -124,7 +123,7 @@ refused_values r = record { kind = 1; number = r.number; index = r.index; offset
 
 -- what each case of the answer says
 abbrev pub values_of : Result Walked Refusal → Values
-values_of (Ok (steps_walked n t)) = walked_values n t
+values_of (Ok w) = walked_values w.steps w.total
 values_of (Err r) = refused_values r
 
 abbrev pub decision_values : Decision Visited → Values

@@ -19,7 +19,7 @@ use Rattle.incremental.specs.Decision.{Decision, accept, refuse, refusal, ◌>>=
 use Rattle.incremental.specs.Plan.{decided}
 use Rattle.incremental.specs.declared.Refusal.{Refusal}
 use Rattle.lists.specs.Filled.{filled}
-use Rattle.trace.specs.Links.{firsts, predecessors, links_of}
+use Rattle.trace.specs.Links.{firsts, predecessors, decision_of}
 use Rattle.reader.specs.Verdict.{Reads, refused_values, accepted_values}
 use Rattle.reader.specs.Checks.{file_answer}
 use Rattle.reader.specs.declared.verdict.Acceptance.{Acceptance}
@@ -78,7 +78,7 @@ module _ (w : Draft) (name metrics trace strings volumes : List ℕ) (r : Ready 
       laid_answer v l d file (length buffer) r.laid r.writable r.known
       (laid_facts v l d r.writable r.numbers r.small) (omega (arith, r.named))
 
-  checked : links_of k ≡ section_checks l d (length buffer)
+  checked : decision_of k ≡ section_checks l d (length buffer)
   unfolding section_checks
   checked = a.answer
 
@@ -89,7 +89,7 @@ module _ (w : Draft) (name metrics trace strings volumes : List ℕ) (r : Ready 
     accepted : file_answer file (length buffer) ≡ decided (accept (acceptable_for v l d (length buffer) n))
     accepted =
         answered
-        ∙ ap (λ (x : Decision ℕ). decided (x >>= λ i. accept (acceptable_for v l d (length buffer) i))) (sym checked ∙ ap links_of c)
+        ∙ ap (λ (x : Decision ℕ). decided (x >>= λ i. accept (acceptable_for v l d (length buffer) i))) (sym checked ∙ ap decision_of c)
 
     pub planned_short : (x : Result Acceptance Stop) (filled' : List ℕ) → length output < p.size → length after ≡ length buffer
         → Reads (decided (refuse (refusal 20 0 0))) (length after) x filled'
@@ -120,7 +120,7 @@ module _ (w : Draft) (name metrics trace strings volumes : List ℕ) (r : Ready 
       → ((file output : List ℕ) (f : Refusal) → output ≡ output_after (decided (refuse f)) file output) → LaysBy v l d buffer output x filled' output
   planned_refused f x filled' c e y first j =
       lays_refused file buffer output filled' f x
-      (first (answered ∙ ap (λ (x : Decision ℕ). decided (x >>= λ i. accept (acceptable_for v l d (length buffer) i))) (sym checked ∙ ap links_of c)))
+      (first (answered ∙ ap (λ (x : Decision ℕ). decided (x >>= λ i. accept (acceptable_for v l d (length buffer) i))) (sym checked ∙ ap decision_of c)))
       (j file output f) (rw e at y)
 
 -- ---- checks 3 and 4

@@ -8,11 +8,11 @@ use Rattle.lists.proofs.Tests.{never}
 use Rattle.layout.specs.Head.{entry_offset}
 use Rattle.layout.specs.Versions.{volume_entry, trace_entry}
 use Rattle.layout.specs.declared.Layout.{Layout}
-use Rattle.incremental.specs.Decision.{Decision, accept, refuse, refusal, check, checked_of, ◌>>◌}
+use Rattle.incremental.specs.Decision.{Decision, accept, refuse, refusal, check, decision_of, ◌>>◌}
 use Rattle.incremental.specs.declared.Refusal.{Refusal}
 use Rattle.sections.specs.Fields.{places_fault, entries_fault}
 use Rattle.sections.proofs.Cases.{places_enough, entries_fit}
-use Rattle.trace.specs.Links.{firsts, link_checks, trace_checks, links_of, predecessors, held, LinkListAnswer, LinkAnswer}
+use Rattle.trace.specs.Links.{firsts, link_checks, trace_checks, decision_of, predecessors, held, LinkListAnswer, LinkAnswer}
 use Rattle.trace.proofs.Steps.{length-firsts, from_pairs}
 use Rattle.volumes.specs.Volumes.{volumes_from, volumes_checks}
 use Rattle.writer.specs.declared.Plan.{Plan}
@@ -52,34 +52,34 @@ module _ (l : Layout) (p : Plan) (count : ℕ) (metrics trace strings volumes : 
   none_held f buffer n e = never cc
 
   -- names
-  module _ (c : Result Unit Refusal) (e : checked_of c ≡ name_checks l metrics strings p.metrics) where
+  module _ (c : Result Unit Refusal) (e : decision_of c ≡ name_checks l metrics strings p.metrics) where
     pub names_refused : (f : Refusal) (buffer : List ℕ) → c ≡ Err f → SectionsAnswered all s m (Err f) buffer
     unfolding table_checks
-    names_refused f buffer q = record { answer = rw (sym e ∙ ap checked_of q) refl; holds = none_held f buffer }
+    names_refused f buffer q = record { answer = rw (sym e ∙ ap decision_of q) refl; holds = none_held f buffer }
 
     module _ (q : c ≡ Ok tt) (room : p.trace ≤ m) (k : Result ℕ Refusal) (buffer : List ℕ)
         (w : LinkAnswer [] trace p.trace_at (trace_entry l) p.trace m k buffer) where
       a : LinkListAnswer (entry_offset p.trace_at (trace_entry l)) s m k buffer
       a = rw from_pairs at w
 
-      decided-links : links_of k ≡ link_checks (entry_offset p.trace_at (trace_entry l)) s
+      decided-links : decision_of k ≡ link_checks (entry_offset p.trace_at (trace_entry l)) s
       decided-links = a.answer ∙ places_passed _ s m (omega (arith, length-firsts trace p.trace))
 
       pub links_refused : (f : Refusal) → k ≡ Err f → SectionsAnswered all s m (Err f) buffer
       unfolding table_checks
-      links_refused f z = record { answer = rw (sym e ∙ ap checked_of q, sym decided-links ∙ ap links_of z) refl; holds = none_held f buffer }
+      links_refused f z = record { answer = rw (sym e ∙ ap decision_of q, sym decided-links ∙ ap decision_of z) refl; holds = none_held f buffer }
 
       -- volumes
       module _ (n : ℕ) (z : k ≡ Ok n) (fits : count * volume_entry l ≤ length volumes) (v : Result Unit Refusal)
-          (b : checked_of v ≡ volumes_checks volumes l p.volumes_at count) where
-        decided-volumes : checked_of v ≡ volumes_from volumes l p.volumes_at count 0
+          (b : decision_of v ≡ volumes_checks volumes l p.volumes_at count) where
+        decided-volumes : decision_of v ≡ volumes_from volumes l p.volumes_at count 0
         decided-volumes = b ∙ entries_passed volumes l p.volumes_at count fits
 
         pub volumes_refused : (f : Refusal) → v ≡ Err f → SectionsAnswered all s m (Err f) buffer
         unfolding table_checks
         volumes_refused f y =
             record {
-              answer = rw (sym e ∙ ap checked_of q, sym decided-links ∙ ap links_of z, sym decided-volumes ∙ ap checked_of y) refl;
+              answer = rw (sym e ∙ ap decision_of q, sym decided-links ∙ ap decision_of z, sym decided-volumes ∙ ap decision_of y) refl;
               holds = none_held f buffer;
             }
 
@@ -87,8 +87,8 @@ module _ (l : Layout) (p : Plan) (count : ℕ) (metrics trace strings volumes : 
         unfolding table_checks
         all_passed y =
             record {
-              answer = rw (sym e ∙ ap checked_of q, sym decided-links ∙ ap links_of z, sym decided-volumes ∙ ap checked_of y) refl;
-              holds = λ i j. a.holds ∙ ap (λ (d : Decision ℕ). held d s m) (sym a.answer ∙ ap links_of z);
+              answer = rw (sym e ∙ ap decision_of q, sym decided-links ∙ ap decision_of z, sym decided-volumes ∙ ap decision_of y) refl;
+              holds = λ i j. a.holds ∙ ap (λ (d : Decision ℕ). held d s m) (sym a.answer ∙ ap decision_of z);
             }
 
 -- ---- 7 and 8 before them

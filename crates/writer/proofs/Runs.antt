@@ -62,8 +62,8 @@ last_decides (refuse r) p = refl
 -- checks 7 and 8
 counted_lines : (a b : Option Fault) (p : List ℕ) → run (and_then (check 7 a) λ _. and_then (check 8 b) λ _. done tt) p ≡ decided (check_now 7 a >> check_now 8 b)
 unfolding run and_then check
-counted_lines (Some (fault i at)) b p = refl
-counted_lines None (Some (fault i at)) p = refl
+counted_lines (Some w) b p = refl
+counted_lines None (Some w) p = refl
 counted_lines None None p = refl
 
 counts_then : {C : Type 0} (t : Plan Unit) (g : Unit → Plan C) (p : List ℕ) (a b : Option Fault) (later : Decision ℕ) (k : ℕ → Decision C)
@@ -72,8 +72,8 @@ counts_then : {C : Type 0} (t : Plan Unit) (g : Unit → Plan C) (p : List ℕ) 
 counts_then t g p a b later k e h = run_then t g p ∙ ap (λ x. onward x (λ u. run (g u) p)) e ∙ go a b
   where
     go : (a b : Option Fault) → onward (decided (check_now 7 a >> check_now 8 b)) (λ u. run (g u) p) ≡ decided ((check_now 7 a >> (check_now 8 b >> later)) >>= k)
-    go (Some (fault i at)) b = refl
-    go None (Some (fault i at)) = refl
+    go (Some w) b = refl
+    go None (Some w) = refl
     go None None = h
 
 -- checks 11 to 13, and what they hand on: the next indexes in the plan, the chain count in the decision
@@ -83,9 +83,9 @@ linked a b c x = check_now 11 a >> (check_now 12 b >> (check_now 13 c >> accept 
 linked_lines : (a b c : Option Fault) (s p : List ℕ)
     → run (and_then (check 11 a) λ _. and_then (check 12 b) λ _. and_then (check 13 c) λ _. done s) p ≡ decided (linked a b c s)
 unfolding run and_then check
-linked_lines (Some (fault i at)) b c s p = refl
-linked_lines None (Some (fault i at)) c s p = refl
-linked_lines None None (Some (fault i at)) s p = refl
+linked_lines (Some w) b c s p = refl
+linked_lines None (Some w) c s p = refl
+linked_lines None None (Some w) s p = refl
 linked_lines None None None s p = refl
 
 -- where `at` says at which place in the file each entry starts
@@ -99,9 +99,9 @@ links_decide t g p at s f k e h =
     run_then t g p ∙ ap (λ x. onward x (λ a. run (g a) p)) e ∙ go (astray_fault at s) (shared_fault at s) (cyclic_fault at s)
   where
     go : (a b c : Option Fault) → onward (decided (linked a b c s)) (λ a. run (g a) p) ≡ decided ((linked a b c (chains s) >>= f) >>= k)
-    go (Some (fault i at)) b c = refl
-    go None (Some (fault i at)) c = refl
-    go None None (Some (fault i at)) = refl
+    go (Some w) b c = refl
+    go None (Some w) c = refl
+    go None None (Some w) = refl
     go None None None = h
 
 -- tests that agree find the same index first

@@ -13,7 +13,7 @@ use Rattle.incremental.specs.Decision.{Decision, accept, check, ◌>>=◌, ◌>>
 use Rattle.sections.specs.declared.Head.{Head}
 use Rattle.sections.specs.Fields.{section_of, places_fault, entries_fault}
 use Rattle.names.specs.Names.{in_pairs, misfit_fault, unsound_fault}
-use Rattle.trace.specs.Links.{link_checks, predecessors, links_of}
+use Rattle.trace.specs.Links.{link_checks, predecessors, decision_of}
 use Rattle.trace.specs.Links.{firsts}
 use Rattle.volumes.specs.Volumes.{volumes_from}
 use Rattle.reader.specs.declared.verdict.Acceptance.{Acceptance}
@@ -205,7 +205,7 @@ record_by version p g units n =
 
 -- what the checks of the sections answer, and the buffer where they pass
 pub record SectionsAnswered (c : Decision ℕ) (s : List ℕ) (m : ℕ) (r : Result ℕ Refusal) (buffer : List ℕ) : Type 0 where
-  pub answer : links_of r ≡ c
+  pub answer : decision_of r ≡ c
   pub holds : (n : ℕ) → r ≡ Ok n → buffer ≡ predecessors s m
 
 -- checks 9 and 10, and 9 to 15

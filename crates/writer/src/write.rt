@@ -2,7 +2,7 @@
 ghost use Rattle.std.specs.Prelude.{◌≡◌, [], ◌*◌, ◌≤◌, ◌<◌, length, take};
 ghost use Rattle.layout.specs.Versions.{layout_of, version_of, version_number};
 ghost use Rattle.layout.specs.declared.KnownVersion.TheVariants.{Known};
-ghost use Rattle.incremental.specs.Decision.{refuse, refusal, checked_of};
+ghost use Rattle.incremental.specs.Decision.{refuse, refusal, decision_of};
 ghost use Rattle.incremental.specs.Plan.{decided};
 ghost use Rattle.trace.specs.Links.{firsts};
 ghost use Rattle.reader.specs.Verdict.{Reads};
@@ -84,7 +84,7 @@ fn name_units(name: &[u16]) -> usize
 
 // Checks 9 and 10.
 fn check_names(l: Layout, metrics: &[u32], entries: u32, strings: &[u8]) -> Checked
-    ensures { checked_of result ≡ name_checks l metrics.now strings.now entries }
+    ensures { decision_of result ≡ name_checks l metrics.now strings.now entries }
 {
     let start = l.first_section as u32;
     if let Fault::At(i, at) = names::misfit_fault(

@@ -7,6 +7,3 @@ use Rattle.names.proofs.units_sound.Given as goal
 
 abbrev pub invariant-loop-k : goal.invariant-loop-k
 invariant-loop-k l = (l.k ≤ l.units) × ((j : ℕ) → j < l.k → zero_unit l.strings (l.at + 2 * j) ≡ false)
-
-abbrev pub decreases-loop-k : goal.decreases-loop-k
-decreases-loop-k l = l.units - l.k

@@ -6,6 +6,3 @@ use Rattle.names.proofs.unsound_fault.Given as goal
 
 abbrev pub invariant-loop-i : goal.invariant-loop-i
 invariant-loop-i l = PassedTo l.entries (fails_at (sound l.strings) (names_from l.l l.metrics l.pairs).offset (names_from l.l l.metrics l.pairs).units) l.i
-
-abbrev pub decreases-loop-i : goal.decreases-loop-i
-decreases-loop-i l = l.entries - l.i

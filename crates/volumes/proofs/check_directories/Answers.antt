@@ -1,7 +1,7 @@
 use mathlib.Core.Path.{sym, ap, ◌∙◌}
 use Prim.Native.Nat.{ℕ}
 use native.Mathlib.Omega.{arith}
-use Rattle.incremental.specs.Decision.{checked_of}
+use Rattle.incremental.specs.Decision.{decision_of}
 use Rattle.volumes.specs.Volumes.{directory_checks, directories_at}
 use Rattle.volumes.proofs.Laws.{directories_start, directories_step, directories_end}
 use Rattle.volumes.proofs.check_directories.Goals as goal
@@ -9,7 +9,7 @@ use Rattle.volumes.proofs.check_directories.Goals as goal
 pub returns-in-Past : goal.returns-in-Past
 returns-in-Past c =
     let w = c.loop-done in
-    ap checked_of c.refused.ensures
+    ap decision_of c.refused.ensures
     ∙ sym (w.invariant.1 ∙ directories_step _ _ _ _ _ _ _ (omega arith) (sym c.step.ensures.answer ∙ c.in-Past.is))
 
 pub loop-done-init : goal.loop-done-init
@@ -29,7 +29,7 @@ loop-done-preserved c =
 pub returns-in-Unended : goal.returns-in-Unended
 returns-in-Unended c =
     let w = c.loop-done in
-    ap checked_of c.refused-in-Unended.ensures
+    ap decision_of c.refused-in-Unended.ensures
     ∙ sym (w.invariant.1 ∙ directories_step _ _ _ _ _ _ _ (omega arith) (sym c.step.ensures.answer ∙ c.in-Unended.is))
 
 pub returns : goal.returns

@@ -1,6 +1,6 @@
 use mathlib.Core.Path.{sym, ap, ◌∙◌}
 use native.Mathlib.Omega.{arith}
-use Rattle.incremental.specs.Decision.{checked_of}
+use Rattle.incremental.specs.Decision.{decision_of}
 use Rattle.volumes.proofs.Laws.{volumes_start, volumes_next, volumes_refused, volumes_end, volumes_crowded, volumes_room}
 use Rattle.volumes.proofs.check_volumes.Goals as goal
 
@@ -14,7 +14,7 @@ loop-i-init c = (omega arith, volumes_start _ _ _ _)
 pub loop-i-preserved : goal.loop-i-preserved
 loop-i-preserved c =
     let w = c.loop-i in
-    (omega arith, w.invariant.1 ∙ volumes_next _ _ _ _ _ (omega arith) (sym c.check_volume-checked.ensures ∙ ap checked_of c.in_default-checked.is))
+    (omega arith, w.invariant.1 ∙ volumes_next _ _ _ _ _ (omega arith) (sym c.check_volume-checked.ensures ∙ ap decision_of c.in_default-checked.is))
 
 pub returns-in-Refused : goal.returns-in-Refused
 returns-in-Refused c =
@@ -23,7 +23,7 @@ returns-in-Refused c =
     sym
     (volumes_room _ a.l _ _ _ c.entries_fault.ensures c.in_default.is
     ∙ w.invariant.1
-    ∙ volumes_refused _ _ _ _ _ _ (omega arith) (sym c.check_volume-checked.ensures ∙ ap checked_of c.in-Refused.is))
+    ∙ volumes_refused _ _ _ _ _ _ (omega arith) (sym c.check_volume-checked.ensures ∙ ap decision_of c.in-Refused.is))
 
 pub returns : goal.returns
 returns c =

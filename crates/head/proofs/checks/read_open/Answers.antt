@@ -1,24 +1,18 @@
 -- Checks 1 to 4, after them 21, and after that 5 and 6.
-use Rattle.head.proofs.Steps.{steps}
-use Rattle.head.specs.Checks.{open_plan}
+use Rattle.incremental.proofs.Plan.{exit_stop, then_stops, then_on}
+use Rattle.head.specs.Checks.{start_plan, form_plan, open_plan}
 use Rattle.head.proofs.checks.read_open.Goals as goal
 
-pub returns-in-Wanted : goal.returns-in-Wanted
+pub returns-in_err-start : goal.returns-in_err-start
 unfolding open_plan
-returns-in-Wanted c = search steps depth 12
+returns-in_err-start c = exit_stop _ _ _ c.from_residual.ensures.1 (then_stops start_plan _ _ _ c.in_err-start.ensures)
 
-pub returns-in-Wanted-check_form : goal.returns-in-Wanted-check_form
+pub returns-in_err-check_form : goal.returns-in_err-check_form
 unfolding open_plan
-returns-in-Wanted-check_form c = search steps depth 12
+returns-in_err-check_form c =
+    exit_stop _ _ _ c.from_residual-in_err-check_form.ensures.1
+    (then_on start_plan _ _ _ _ c.in_ok-start.ensures (then_stops (form_plan _) _ _ _ c.in_err-check_form.ensures))
 
-pub returns-in-Started-check_form : goal.returns-in-Started-check_form
+pub returns : goal.returns
 unfolding open_plan
-returns-in-Started-check_form c = search steps depth 12
-
-pub returns-in-Refused : goal.returns-in-Refused
-unfolding open_plan
-returns-in-Refused c = search steps depth 12
-
-pub returns-in-Refused-check_form : goal.returns-in-Refused-check_form
-unfolding open_plan
-returns-in-Refused-check_form c = search steps depth 12
+returns c = then_on start_plan _ _ _ _ c.in_ok-start.ensures (then_on (form_plan _) _ _ _ _ c.in_ok-check_form.ensures c.check_sections.ensures)
