@@ -30,6 +30,12 @@ pub record IsLeast (test : ℕ → ℕ → Bool) (m i n : ℕ) : Type 0 where
 abbrev pub NoneMatches : (ℕ → ℕ → Bool) → ℕ → Type 0
 NoneMatches test m = (n i : ℕ) → n < 9 → i < m → test n i ≡ false
 
+-- an entry with its number says both
+entry_same : (j k i n : ℕ) → Some (path_entry j k) ≡ Some (path_entry i n) → (j ≡ i) × (k ≡ n)
+entry_same j k i n e =
+    let q : path_entry j k ≡ path_entry i n = cc in
+    (ap (λ (x : PathEntry). x.index) q, ap (λ (x : PathEntry). x.number) q)
+
 module _ (test : ℕ → ℕ → Bool) (m : ℕ) where
   pub least_at : (i n : ℕ) → IsLeast test m i n → least_pair test m ≡ Some (path_entry i n)
   unfolding least_pair
@@ -50,7 +56,9 @@ module _ (test : ℕ → ℕ → Bool) (m : ℕ) where
   least_is i n e = go (first (λ k. any_below (test k) m) 9) refl e
     where
       entry : (k : ℕ) (f : Option ℕ) → first (test k) m ≡ f → entry_by k f ≡ Some (path_entry i n) → (k ≡ n) × (first (test k) m ≡ Some i)
-      entry k (Some j) q h = (cc, cc)
+      entry k (Some j) q h =
+          let s = entry_same j k i n h in
+          (s.1, q ∙ ap (λ (x : ℕ). Some x) s.0)
       entry k None q h = never cc
 
       go : (f : Option ℕ) → first (λ k. any_below (test k) m) 9 ≡ f → pair_by test m f ≡ Some (path_entry i n) → IsLeast test m i n
@@ -92,7 +100,9 @@ least_same t u m w l same past = go (least_pair u w) refl
     fails n i h b f = by_test (ltb i w) (λ c. let l = ltb-true i w c in same n i h l ∙ f l) (λ c. past n i h (ltb-false i w c) b)
 
     go : (x : Option PathEntry) → least_pair u w ≡ x → least_pair t m ≡ least_pair u w
-    go (Some w) e =
+    go (Some x) e =
+        let i = x.index in
+        let n = x.number in
         let q = least_is u w i n e in
         least_at t m i n
         (record {

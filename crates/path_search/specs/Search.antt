@@ -46,6 +46,9 @@ matches_by o p n i = entry_shown o p i && matches o.version (entry_numbers o p i
 
 -- ---- over any test of a number and an entry, and m entries
 
+abbrev pub path_entry : ℕ → ℕ → PathEntry
+path_entry i n = record { index = i; number = n }
+
 -- the entry of a pair is the first that matches by that number
 abbrev pub entry_by : ℕ → Option ℕ → Option PathEntry
 entry_by n (Some i) = Some (path_entry i n)
@@ -84,7 +87,7 @@ ListsPaths p before r after = PairsListed (path_pairs p) before r after
 
 -- what each case says: 1 for an entry, with its index and number, or 0 for none, with zeros
 abbrev pub path_said : Option PathEntry → Said
-path_said (Some w) = record { number = 1; values = w.index ∷ w.number ∷ [] }
+path_said (Some e) = record { number = 1; values = e.index ∷ e.number ∷ [] }
 path_said None = record { number = 0; values = 0 ∷ 0 ∷ [] }
 
 -- ---- WHAT A FOUND PATH IS

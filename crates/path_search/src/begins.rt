@@ -18,11 +18,10 @@ fn same_start(path: &[u8], name: &[u8]) -> bool
         }
         i += 8;
     }
-    while i < path.len() {
-        if path[i] != name[i] {
+    for k in i..path.len() {
+        if path[k] != name[k] {
             return false;
         }
-        i += 1;
     }
     true
 }

@@ -15,18 +15,18 @@ ghost use Rattle.path_search.specs.Search.{matches_by, least_pair, all_pairs, pa
 ghost use Rattle.path_search.specs.Private.{hash_start, hash_end, number_for, number_of, number_in, sought_on, searched, searched_on};
 
 pub use from_start::find_path_from;
-use head::{OpenAnswer, Opening};
+use head::Opening;
 use layout::{Layout, Version};
 
 // An entry, and the number that has to be added to its hash.
-#[derive(Clone, Copy)]
-pub enum PathAnswer {
-    Entry { index: usize, number: u32 },
-    NoPath,
+#[derive(Clone, Copy, Debug, PartialEq, Eq)]
+pub struct PathEntry {
+    pub index: usize,
+    pub number: u32,
 }
 
 // What a search looks for: the stored hash. That of a name is carried on from the hash of a start, by the version's rule.
-#[derive(Clone, Copy)]
+#[derive(Clone, Copy, Debug, PartialEq, Eq)]
 struct Sought {
     version: Version,
     from: u32,
@@ -115,35 +115,39 @@ fn entry_number(
 // The least number over the entries that lie whole in the metrics, and the first entry that has it: the others can't be shown. None
 // is less than 0, so the first entry with 0 ends the search.
 #[tactic(auto, using(crate::proofs::Least::search_zero))]
-fn search(metrics: &[u8], strings: &[u8], path: &[u8], l: Layout, sought: Sought) -> PathAnswer
+fn search(
+    metrics: &[u8],
+    strings: &[u8],
+    path: &[u8],
+    l: Layout,
+    sought: Sought,
+) -> Option<PathEntry>
     requires { (length metrics.now ≤ size_limit) × SoundLayout l }
     ensures { result ≡ searched sought path.now l metrics.now strings.now }
 {
     let entries = metrics.len() / (l.metrics_entry as usize);
     let mut least = NO_NUMBER;
     let mut index = 0;
-    let mut i = 0;
-    while i < entries {
+    for i in 0..entries {
         let n = entry_number(metrics, strings, path, l, i as u32, sought);
         if n == 0 {
-            return PathAnswer::Entry {
+            return Some(PathEntry {
                 index: i,
                 number: 0,
-            };
+            });
         }
         if n < least {
             least = n;
             index = i;
         }
-        i += 1;
     }
     if least < NO_NUMBER {
-        return PathAnswer::Entry {
-            index: index,
+        return Some(PathEntry {
+            index,
             number: least,
-        };
+        });
     }
-    PathAnswer::NoPath
+    None
 }
 
 // What is looked for in a file.
@@ -159,7 +163,7 @@ fn sought_in(file: &[u8], o: Opening, from: u32) -> Sought
 }
 
 // The search over the names that belong to a path, where checks 1 to 6 pass.
-fn search_in(file: &[u8], o: Opening, path: &[u8], from: u32) -> PathAnswer
+fn search_in(file: &[u8], o: Opening, path: &[u8], from: u32) -> Option<PathEntry>
     requires { OpenFacts file.now o }
     ensures { result ≡ searched_on o file.now path.now from }
 {
@@ -173,7 +177,7 @@ fn search_in(file: &[u8], o: Opening, path: &[u8], from: u32) -> PathAnswer
 }
 
 // The search over all names.
-fn path_in(file: &[u8], o: Opening) -> PathAnswer
+fn path_in(file: &[u8], o: Opening) -> Option<PathEntry>
     requires { OpenFacts file.now o }
     ensures { result ≡ least_pair (matches_by o file.now) o.head.metrics.count }
 {
@@ -182,14 +186,11 @@ fn path_in(file: &[u8], o: Opening) -> PathAnswer
 }
 
 // The least number for which any entry that can be shown matches the stored hash, and the first such entry.
-pub fn find_path(file: &[u8]) -> PathAnswer
+pub fn find_path(file: &[u8]) -> Option<PathEntry>
     ensures { Answers path_said (path_found file.now) result }
 {
-    match head::read_open(file) {
-        OpenAnswer::Opened(o) => path_in(file, o),
-        OpenAnswer::Refused(_) => PathAnswer::NoPath,
-        OpenAnswer::Wanted(_) => PathAnswer::NoPath,
-    }
+    let opening = head::read_open(file).ok()?;
+    path_in(file, opening)
 }
 
 // All pairs, where checks 1 to 6 pass.
@@ -214,8 +215,7 @@ pub fn list_paths(file: &[u8], pairs: &mut [u32]) -> usize
     ensures { ListsPaths file.now pairs.old result pairs.new }
 {
     match head::read_open(file) {
-        OpenAnswer::Opened(o) => paths_in(file, o, pairs),
-        OpenAnswer::Refused(_) => 0,
-        OpenAnswer::Wanted(_) => 0,
+        Ok(o) => paths_in(file, o, pairs),
+        Err(_) => 0,
     }
 }

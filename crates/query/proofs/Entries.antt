@@ -25,8 +25,8 @@ use Rattle.query.specs.Shown.{EntryShown, NamePlaced}
 use Rattle.lists.proofs.Tests.{by_test, never}
 use Rattle.query.proofs.Parts.{part_there_to, section_end, part_unit}
 use Rattle.query.specs.Contents.{file_reference_of}
-use Rattle.query.specs.declared.EntryReference.{EntryReference}
 use Rattle.std.specs.Prelude.{None, Option, Some}
+use Rattle.volumes.specs.declared.Reference.{Reference}
 
 -- ---- one name
 module _ (v : Layout) (metrics strings : List ℕ) (i : ℕ) {at units : ℕ} {r : Bool} (a : at ≡ name_at v metrics i) (u : units ≡ name_units v metrics i)
@@ -153,19 +153,18 @@ pub entry_reference_hidden : (o : Opening) (p : List ℕ) (i : ℕ) {a : Option 
     → None ≡ entry_reference_in o p i
 entry_reference_hidden o p i e q = rw (entry-not o p i e q)
 
-pub entry_reference_given : (o : Opening) (p : List ℕ) (i : ℕ) {a : Option Place} {w : Place} {b : List ℕ} {x : EntryReference} → a ≡ entry_in o p i
+pub entry_reference_given : (o : Opening) (p : List ℕ) (i : ℕ) {a : Option Place} {w : Place} {b : List ℕ} {x : Option Reference} → a ≡ entry_in o p i
     → a ≡ Some w → b ≡ part o.head.metrics p → x ≡ file_reference_of o.layout b i
     → Some x ≡ entry_reference_in o p i
 entry_reference_given o p i {w = w} e q eb ex = rw (entry_is o p i w e q, ex, eb)
 
 -- ---- the file reference of a metrics entry
-pub reference_none : (l : Layout) (metrics : List ℕ) (i : ℕ) → file_reference_at l ≡ 0
-    → record { known = 0; index = 0; sequence = 0 } ≡ file_reference_of l metrics i
+pub reference_none : (l : Layout) (metrics : List ℕ) (i : ℕ) → file_reference_at l ≡ 0 → None ≡ file_reference_of l metrics i
 unfolding file_reference_of
 reference_none l metrics i h = rw (eq-eqb (file_reference_at l) 0 h)
 
 pub reference_some : (l : Layout) (metrics : List ℕ) (i : ℕ) {at index sequence : ℕ} → (file_reference_at l ≡ 0 → ⊥) → at ≡ i * metrics_entry l + file_reference_at l
-    → index ≡ le 6 metrics at → sequence ≡ le 2 metrics (at + 6) → record { known = 1; index = index; sequence = sequence } ≡ file_reference_of l metrics i
+    → index ≡ le 6 metrics at → sequence ≡ le 2 metrics (at + 6) → Some (record { index = index; sequence = sequence }) ≡ file_reference_of l metrics i
 unfolding file_reference_of
 reference_some l metrics i h a x y = rw (ne_eqb (file_reference_at l) 0 h, ← a, ← x, ← y)
 

@@ -20,7 +20,7 @@ use Rattle.query.specs.Queries.{place_of, place_said, volume_said, ShownAt, volu
 use Rattle.query.specs.declared.Place.{Place}
 use Rattle.query.specs.declared.VolumeFacts.{VolumeFacts}
 use Rattle.lists.proofs.Tests.{by_test}
-use Rattle.std.specs.Prelude.{None, Option, Some}
+use Rattle.std.specs.Prelude.{option_map, None, Option, Some}
 
 -- the bytes of a section, as many as there are
 pub part_there : (s : Section) (p : List ℕ) → length (part s p) ≡ min s.len (length p - s.at)
@@ -70,20 +70,18 @@ part_within file s r a n b m p l q =
 
 -- ---- a part of the file, where it is shown and where it is not
 module _ (file r : Bor (List ℕ)) where
-  pub place_part : {a : Option Place} {w : Place} → a ≡ Some w → IsPart file w.at w.len r → ShownAt file (place_of a) r
-  place_part q h = rw q h
-
-  pub place_none : {a : Option Place} → a ≡ None → IsPart file 0 0 r → ShownAt file (place_of a) r
-  place_none q h = rw q h
+  pub place_part : (a : Option Place) {w : Place} → w ≡ place_of a → IsPart file w.at w.len r → ShownAt file (place_of a) r
+  place_part a q h = rw (← q) h
 
   pub place_of_lem : {x a : Option Place} → ShownAt file (place_of x) r → Answers place_said a x → ShownAt file (place_of a) r
   place_of_lem h e = rw (← e.answer) h
 
-  pub path_part : {x a : Option VolumeFacts} {v : VolumeFacts} → Answers volume_said a x → x ≡ Some v
-      → IsPart file v.path.at v.path.len r → ShownAt file (volume_values a).path r
-  path_part e q h = rw (← e.answer, q) h
+  pub path_part : {x a : Option VolumeFacts} {w : Option Place} → Answers volume_said a x → w ≡ option_map (λ (v : VolumeFacts). v.path) x → ShownAt file (place_of w) r
+      → ShownAt file (volume_values a).path r
+  path_part {x} {a} e q h = rw (← e.answer) (go x (rw q at h))
+    where
+      go : (x : Option VolumeFacts) → ShownAt file (place_of (option_map (λ (v : VolumeFacts). v.path) x)) r → ShownAt file (volume_values x).path r
+      go (Some v) h = h
+      go None h = h
 
-  pub path_none : {x a : Option VolumeFacts} → Answers volume_said a x → x ≡ None → IsPart file 0 0 r → ShownAt file (volume_values a).path r
-  path_none e q h = rw (← e.answer, q) h
-
-pub ruleset shown_parts = (place_part, place_none, place_of_lem, path_part, path_none)
+pub ruleset shown_parts = (place_part, place_of_lem, path_part)

@@ -25,46 +25,51 @@ use Rattle.head.specs.Opened.{OpenFacts}
 use Rattle.head.proofs.Facts.{open_sound, open_shapes}
 use Rattle.sections.specs.declared.Section.{Section}
 use Rattle.head.specs.declared.checks.Opening.{Opening}
-use Rattle.volumes.specs.Volumes.{entry_at, volume_checks, volume_of, reference_of, path_at, path_count, path_units, or_all}
+use Rattle.volumes.specs.Volumes.{entry_at, volume_checks, volume_of, reference_of, path_at, path_count, path_units}
 use Rattle.volumes.specs.SoundVolume.{SoundVolume}
 use Rattle.volumes.proofs.SoundVolume.{sound_volume}
 use Rattle.volumes.specs.declared.Volume.{Volume}
 use Rattle.volumes.specs.declared.Reference.{Reference}
-use Rattle.query.specs.Queries.{ShownAt, clear, accepts, volume_shown, volume_facts, path_place, reference_shown}
+use Rattle.query.specs.Queries.{ShownAt, accepts, volume_shown, volume_facts, path_place, reference_shown}
 use Rattle.query.specs.Private.{section_shown, volume_in, reference_in}
 use Rattle.query.specs.Shown.{VolumeShown}
 use Rattle.lists.proofs.Tests.{by_test, never}
 use Rattle.query.proofs.Parts.{part_there, part_there_to, section_end, part_within}
 use Rattle.query.proofs.Entries.{both}
-use Rattle.std.specs.Prelude.{Err, None, Ok, Option, Result, Some}
+use Rattle.std.specs.Prelude.{Err, None, Ok, Option, Result, Some, unwrap_or, is_none, is_some, is_ok, not}
 use Rattle.incremental.specs.declared.Fault.{Fault}
-use Rattle.incremental.specs.Decision.{fault}
 
--- ---- volume i, by the tests in their order
-module _ (s : Section) (v : Layout) (b : List ℕ) (i : ℕ) {y : Option Fault} (e : y ≡ entries_fault s.count (volume_entry v) s.len) where
-  pub section_crowded : {k at : ℕ} → y ≡ Some (fault k at) → false ≡ section_shown s v b i
+-- ---- volume i, by the tests in their order; `t` is whether check 8 found a fault
+module _ (s : Section) (v : Layout) (b : List ℕ) (i : ℕ) {y : Option Fault} {t : Bool} (e : y ≡ entries_fault s.count (volume_entry v) s.len) (f : t ≡ is_some y) where
+  clear-is : (y : Option Fault) → is_none y ≡ not (is_some y)
+  clear-is (Some w) = refl
+  clear-is None = refl
+
+  clear : {x : Bool} → t ≡ x → is_none (entries_fault s.count (volume_entry v) s.len) ≡ not x
+  clear q = ap is_none (sym e) ∙ clear-is y ∙ ap not (sym f ∙ q)
+
+  pub section_crowded : t ≡ true → false ≡ section_shown s v b i
   unfolding section_shown
-  section_crowded h = rw (← e, h)
+  section_crowded h = rw (clear h)
 
-  pub section_past : y ≡ None → s.count ≤ i → false ≡ section_shown s v b i
+  pub section_past : t ≡ false → s.count ≤ i → false ≡ section_shown s v b i
   unfolding section_shown
-  section_past h n = rw (← e, h, le-ltb _ _ n)
+  section_past h n = rw (clear h, le-ltb _ _ n)
 
-  module _ (h : y ≡ None) (n : i < s.count) where
+  module _ (h : t ≡ false) (n : i < s.count) where
     pub section_cut : length b < s.len → false ≡ section_shown s v b i
     unfolding section_shown
-    section_cut c = rw (← e, h, lt-ltb _ _ n, lt-leb _ _ c)
+    section_cut c = rw (clear h, lt-ltb _ _ n, lt-leb _ _ c)
 
-    module _ {r : Result Unit Refusal} (c : s.len ≤ length b) (a : decision_of r ≡ volume_checks b v s.at i) where
-      pub section_refused : {x : Refusal} → r ≡ Err x → false ≡ section_shown s v b i
-      unfolding section_shown
-      section_refused q = rw (← e, h, lt-ltb _ _ n, le-leb _ _ c, ← a, q)
+    pub section_checked : (r : Result Unit Refusal) {u : Bool} → s.len ≤ length b → decision_of r ≡ volume_checks b v s.at i → u ≡ is_ok r → u ≡ section_shown s v b i
+    unfolding section_shown
+    section_checked r c a q = rw (clear h, lt-ltb _ _ n, le-leb _ _ c, ← a, q) (go r)
+      where
+        go : (x : Result Unit Refusal) → is_ok x ≡ accepts (decision_of x)
+        go (Ok t) = refl
+        go (Err f) = refl
 
-      pub section_passed : r ≡ Ok tt → true ≡ section_shown s v b i
-      unfolding section_shown
-      section_passed q = rw (← e, h, lt-ltb _ _ n, le-leb _ _ c, ← a, q)
-
-pub ruleset sections = (section_crowded, section_past, section_cut, section_refused, section_passed)
+pub ruleset sections = (section_crowded, section_past, section_cut, section_checked)
 
 -- what such a section holds
 pub record SectionShown (s : Section) (v : Layout) (b : List ℕ) (i : ℕ) : Type 0 where
@@ -73,9 +78,9 @@ pub record SectionShown (s : Section) (v : Layout) (b : List ℕ) (i : ℕ) : Ty
   pub whole : s.len ≤ length b
   pub sound : SoundVolume b (entry_at v i)
 
-clear-true : (f : Option Fault) → clear f ≡ true → f ≡ None
-clear-true (Some w) e = never cc
-clear-true None e = refl
+none-true : (f : Option Fault) → is_none f ≡ true → f ≡ None
+none-true (Some w) e = never cc
+none-true None e = refl
 
 accepted : (d : Decision Unit) → accepts d ≡ true → d ≡ accept tt
 accepted (accept t) e = refl
@@ -89,7 +94,7 @@ section_shown_law s v b i = (
       let y = both _ _ x.1 in
       let z = both _ _ y.1 in
       record {
-        room = entries_met _ _ _ _ refl (clear-true _ x.0);
+        room = entries_met _ _ _ _ refl (none-true _ x.0);
         below = ltb-true _ _ y.0;
         whole = leb-true _ _ z.0;
         sound = (sound_volume b i _ (entry_at v i)).0 (accepted _ z.1);
@@ -148,7 +153,7 @@ units-most : (s : List ℕ) (e : ℕ) → path_units s e ≤ path_count s e
 unfolding path_units
 units-most s e = go (first _ (path_count s e)) refl
   where
-    go : (f : Option ℕ) → first (λ k. zero_unit s (path_at s e + 2 * k)) (path_count s e) ≡ f → or_all f (path_count s e) ≤ path_count s e
+    go : (f : Option ℕ) → first (λ k. zero_unit s (path_at s e + 2 * k)) (path_count s e) ≡ f → unwrap_or f (path_count s e) ≤ path_count s e
     go (Some k) q = omega (arith, (first_at _ _ 0 k q).1)
     go None q = omega arith
 

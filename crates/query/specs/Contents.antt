@@ -11,11 +11,10 @@ use Rattle.sections.specs.Fields.{part}
 use Rattle.head.specs.Checks.{open_plan}
 use Rattle.head.specs.declared.checks.Opening.{Opening}
 use Rattle.volumes.specs.Volumes.{entry_at, directories_at, directory_count, reference_count, reference_of, step_at}
-use Rattle.query.specs.declared.EntryReference.{EntryReference}
+use Rattle.volumes.specs.declared.Reference.{Reference}
 use Rattle.query.specs.Queries.{asked, entry_shown, volume_shown}
 use Rattle.volumes.specs.declared.Cursor.{Cursor}
 use Rattle.std.specs.Prelude.{Err, None, Ok, Option, Result, Some}
-use Rattle.volumes.specs.declared.StepFault.TheVariants.{Past, Unended}
 use Rattle.volumes.specs.declared.StepFault.{StepFault}
 
 -- ---- A1: directories
@@ -24,8 +23,7 @@ use Rattle.volumes.specs.declared.StepFault.{StepFault}
 -- bytes behind its length field's start, and the number of its units without the last zero; then those after it
 abbrev pub list_step : List ℕ → ℕ → ℕ → Result Cursor StepFault → (ℕ → List ℕ) → List ℕ
 list_step s base at (Ok c) later = (base + at + 2) ∷ le 2 s at ∷ later c.at
-list_step s base at (Err Past) later = []
-list_step s base at (Err Unended) later = []
+list_step s base at (Err f) later = []
 
 -- n directory strings, one after another from a position
 unfoldable pub directory_pairs : List ℕ → ℕ → ℕ → ℕ → List ℕ
@@ -66,24 +64,24 @@ ListsReferences p i before r after = PairsListed (references_asked p i) before r
 
 -- ---- A2: the file reference of metrics entry i
 
--- 1 and both numbers where the version has the field, as they stand; 0, 0, 0 where it doesn't
-unfoldable pub file_reference_of : Layout → List ℕ → ℕ → EntryReference
+-- both numbers where the version has the field, as they stand
+unfoldable pub file_reference_of : Layout → List ℕ → ℕ → Option Reference
 file_reference_of l metrics i =
-    pick (eqb (file_reference_at l) 0) (record { known = 0; index = 0; sequence = 0 })
+    pick (eqb (file_reference_at l) 0) None
+    (Some
     (record {
-      known = 1;
       index = le 6 metrics (i * metrics_entry l + file_reference_at l);
       sequence = le 2 metrics (i * metrics_entry l + file_reference_at l + 6);
-    })
+    }))
 
 -- for an entry that can be shown
-abbrev pub entry_reference_asked : List ℕ → ℕ → Option EntryReference
+abbrev pub entry_reference_asked : List ℕ → ℕ → Option (Option Reference)
 entry_reference_asked p i =
-    asked (run open_plan p) None
-    (λ o.
-    pick (entry_shown o p i) (Some (file_reference_of o.layout (part o.head.metrics p) i)) None)
+    asked (run open_plan p) None (λ o. pick (entry_shown o p i) (Some (file_reference_of o.layout (part o.head.metrics p) i)) None)
 
--- what each case says: 1 for yes and 0 for no, and the three numbers, zeros where the answer is no
-abbrev pub entry_reference_said : Option EntryReference → Said
-entry_reference_said (Some r) = record { number = 1; values = r.known ∷ r.index ∷ r.sequence ∷ [] }
+-- what each case says: 1 for yes and 0 for no, and three numbers: 1 and both numbers where the version has the field; zeros where it doesn't,
+-- and where the answer is no
+abbrev pub entry_reference_said : Option (Option Reference) → Said
+entry_reference_said (Some (Some r)) = record { number = 1; values = 1 ∷ r.index ∷ r.sequence ∷ [] }
+entry_reference_said (Some None) = record { number = 1; values = 0 ∷ 0 ∷ 0 ∷ [] }
 entry_reference_said None = record { number = 0; values = 0 ∷ 0 ∷ 0 ∷ [] }

@@ -1,5 +1,5 @@
 -- What only private contracts need: the queries on an opening, and on the bytes of the sections that they look at.
-use Rattle.std.specs.Prelude.{Bool, ◌&&◌, List, [], ℕ, leb, ltb, length}
+use Rattle.std.specs.Prelude.{is_none, Bool, ◌&&◌, List, [], ℕ, leb, ltb, length}
 use Rattle.lists.specs.Count.{pick}
 use Rattle.layout.specs.Versions.{volume_entry}
 use Rattle.layout.specs.declared.Layout.{Layout}
@@ -7,9 +7,8 @@ use Rattle.sections.specs.Fields.{part, entries_fault}
 use Rattle.sections.specs.declared.Section.{Section}
 use Rattle.head.specs.declared.checks.Opening.{Opening}
 use Rattle.volumes.specs.Volumes.{volume_checks, reference_of, entry_at}
-use Rattle.query.specs.Queries.{entry_shown, name_place, name_sound, name_in, clear, accepts, volume_shown, volume_facts, reference_shown}
+use Rattle.query.specs.Queries.{entry_shown, name_place, name_sound, name_in, accepts, volume_shown, volume_facts, reference_shown}
 use Rattle.query.specs.Contents.{directories_in, references_in, file_reference_of}
-use Rattle.query.specs.declared.EntryReference.{EntryReference}
 use Rattle.std.specs.Prelude.{None, Option, Some}
 use Rattle.query.specs.declared.Place.{Place}
 use Rattle.volumes.specs.declared.Reference.{Reference}
@@ -35,7 +34,7 @@ directories_shown o p i = pick (volume_shown o p i) (directories_in o p i) []
 abbrev pub references_shown : Opening → List ℕ → ℕ → List ℕ
 references_shown o p i = pick (volume_shown o p i) (references_in o p i) []
 
-abbrev pub entry_reference_in : Opening → List ℕ → ℕ → Option EntryReference
+abbrev pub entry_reference_in : Opening → List ℕ → ℕ → Option (Option Reference)
 entry_reference_in o p i =
     pick (entry_shown o p i) (Some (file_reference_of o.layout (part o.head.metrics p) i)) None
 
@@ -46,4 +45,4 @@ name_shown v metrics strings i = pick (name_sound v metrics strings i) (Some (na
 -- ---- volume i on the bytes of its section
 unfoldable pub section_shown : Section → Layout → List ℕ → ℕ → Bool
 section_shown s v b i =
-    clear (entries_fault s.count (volume_entry v) s.len) && (ltb i s.count && (leb s.len (length b) && accepts (volume_checks b v s.at i)))
+    is_none (entries_fault s.count (volume_entry v) s.len) && (ltb i s.count && (leb s.len (length b) && accepts (volume_checks b v s.at i)))

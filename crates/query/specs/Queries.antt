@@ -1,5 +1,5 @@
 -- Document 01's "Questions about one entry", and the number of working places.
-use Rattle.std.specs.Prelude.{Bool, true, false, ◌&&◌, List, [], ◌∷◌, ℕ, ◌+◌, ◌*◌, leb, ltb, length, take, drop}
+use Rattle.std.specs.Prelude.{unwrap_or, is_none, Bool, true, false, ◌&&◌, List, [], ◌∷◌, ℕ, ◌+◌, ◌*◌, leb, ltb, length, take, drop}
 use Rattle.std.specs.Borrow.{Bor}
 use Rattle.lists.specs.Answer.{Said}
 use Rattle.lists.specs.Part.{IsPart}
@@ -16,10 +16,8 @@ use Rattle.names.specs.Names.{sound, name_at, name_units}
 use Rattle.volumes.specs.Volumes.{volume_checks, volume_of, reference_of, entry_at}
 use Rattle.query.specs.declared.Place.{Place}
 use Rattle.query.specs.declared.VolumeFacts.{VolumeFacts}
-use Rattle.incremental.specs.declared.Fault.{Fault}
 use Rattle.std.specs.Prelude.{None, Option, Some}
 use Rattle.volumes.specs.declared.Reference.{Reference}
-use Rattle.incremental.specs.Decision.{fault}
 
 -- what is asked of a file whose checks accept, and a no otherwise
 abbrev pub asked : {A B : Type 0} → Answer A → B → (A → B) → B
@@ -48,8 +46,7 @@ places_said None = record { number = 0; values = 0 ∷ [] }
 
 -- the place where a name is shown; an empty part at the start where it is not
 abbrev pub place_of : Option Place → Place
-place_of (Some w) = w
-place_of None = record { at = 0; len = 0 }
+place_of shown = unwrap_or shown (record { at = 0; len = 0 })
 
 -- what each case says: 1 for yes and 0 for no; offset and length in bytes, zeros where the answer is no
 abbrev pub place_said : Option Place → Said
@@ -86,11 +83,6 @@ entry_place p i =
     asked (run open_plan p) None (λ o. pick (entry_shown o p i) (Some (name_place o p i)) None)
 
 -- ---- volume i
--- no fault
-abbrev pub clear : Option Fault → Bool
-clear (Some w) = false
-clear None = true
-
 abbrev pub accepts : Decision Unit → Bool
 accepts (accept t) = true
 accepts (refuse r) = false
@@ -98,7 +90,7 @@ accepts (refuse r) = false
 -- check 8 passes, i is below the volume count, the whole volumes section is lent, and volume i passes 14 and 15
 unfoldable pub volume_shown : Opening → List ℕ → ℕ → Bool
 volume_shown o p i =
-    clear (entries_fault o.head.volumes.count (volume_entry o.layout) o.head.volumes.len)
+    is_none (entries_fault o.head.volumes.count (volume_entry o.layout) o.head.volumes.len)
     && (ltb i o.head.volumes.count
     && (leb o.head.volumes.len (length (part o.head.volumes p))
     && accepts (volume_checks (part o.head.volumes p) o.layout o.head.volumes.at i)))

@@ -10,10 +10,9 @@ ghost use Rattle.query.specs.Contents.{directory_pairs, reference_pairs, ListsDi
 ghost use Rattle.query.specs.Contents.{file_reference_of, entry_reference_asked, entry_reference_said};
 ghost use Rattle.query.specs.Private.{directories_shown, references_shown, entry_reference_in};
 
-use crate::{EntryReference, EntryReferenceAnswer, PlaceAnswer};
-use head::{OpenAnswer, Opening};
+use head::Opening;
 use layout::Layout;
-use volumes::{Cursor, Step};
+use volumes::{Cursor, Reference};
 
 // The directory strings from a position of a section that starts at `base` in the file, so many of them: as many pairs as fit.
 fn list_directories(section: &[u8], base: u32, at: usize, count: u32, pairs: &mut [u32])
@@ -22,23 +21,20 @@ fn list_directories(section: &[u8], base: u32, at: usize, count: u32, pairs: &mu
 {
     let room = pairs.len() / 2;
     let mut cursor = Cursor { at: at };
-    let mut k = 0;
-    while k < count {
+    for k in 0..count {
         let i = k as usize;
         if room <= i {
             return;
         }
         let here = cursor.at;
         match cursor.step(section) {
-            Step::Next(next) => {
+            Ok(next) => {
                 pairs[2 * i] = base + here as u32 + 2;
                 pairs[2 * i + 1] = little_endian::u16_at(section, here) as u32;
                 cursor = next;
             }
-            Step::Past => return,
-            Step::Unended => return,
+            Err(_) => return,
         }
-        k += 1;
     }
 }
 
@@ -66,9 +62,8 @@ pub fn directories(file: &[u8], i: usize, pairs: &mut [u32]) -> usize
     ensures { ListsDirectories file.now i pairs.old result pairs.new }
 {
     match head::read_open(file) {
-        OpenAnswer::Opened(o) => directories_in(file, o, i, pairs),
-        OpenAnswer::Refused(_) => 0,
-        OpenAnswer::Wanted(_) => 0,
+        Ok(o) => directories_in(file, o, i, pairs),
+        Err(_) => 0,
     }
 }
 
@@ -77,8 +72,7 @@ fn list_references(section: &[u8], l: Layout, i: u32, count: u32, pairs: &mut [u
     ensures { pairs.new ≡ pairs_in (reference_pairs section.now (entry_at l i) count 0) pairs.old }
 {
     let room = pairs.len() / 2;
-    let mut k = 0;
-    while k < count {
+    for k in 0..count {
         let at = k as usize;
         if room <= at {
             return;
@@ -86,7 +80,6 @@ fn list_references(section: &[u8], l: Layout, i: u32, count: u32, pairs: &mut [u
         let r = volumes::reference_at(section, l, i, k);
         pairs[2 * at] = r.index;
         pairs[2 * at + 1] = r.sequence as u64;
-        k += 1;
     }
 }
 
@@ -112,58 +105,41 @@ pub fn references(file: &[u8], i: usize, pairs: &mut [u64]) -> usize
     ensures { ListsReferences file.now i pairs.old result pairs.new }
 {
     match head::read_open(file) {
-        OpenAnswer::Opened(o) => references_in(file, o, i, pairs),
-        OpenAnswer::Refused(_) => 0,
-        OpenAnswer::Wanted(_) => 0,
+        Ok(o) => references_in(file, o, i, pairs),
+        Err(_) => 0,
     }
 }
 
 // The file reference of metrics entry i, where the version has the field.
 #[tactic(auto, using(crate::proofs::Entries::entry_references))]
-fn file_reference(metrics: &[u8], l: Layout, i: u32) -> EntryReference
+fn file_reference(metrics: &[u8], l: Layout, i: u32) -> Option<Reference>
     requires { SoundLayout l }
     ensures { result ≡ file_reference_of l metrics.now i }
 {
     if l.file_reference_at == 0 {
-        return EntryReference {
-            known: 0,
-            index: 0,
-            sequence: 0,
-        };
+        return None;
     }
     let at = i as usize * (l.metrics_entry as usize) + l.file_reference_at as usize;
-    EntryReference {
-        known: 1,
+    Some(Reference {
         index: little_endian::u48_at(metrics, at),
         sequence: little_endian::u16_at(metrics, at + 6),
-    }
+    })
 }
 
 // That of an entry that can be shown, where checks 1 to 6 pass.
-fn entry_reference_in(file: &[u8], o: Opening, i: usize) -> EntryReferenceAnswer
+fn entry_reference_in(file: &[u8], o: Opening, i: usize) -> Option<Option<Reference>>
     requires { OpenFacts file.now o }
     ensures { result ≡ entry_reference_in o file.now i }
 {
-    let l = o.layout;
-    let h = o.head;
-    let entries = h.metrics;
-    match crate::entry_in(file, o, i) {
-        PlaceAnswer::Shown(_) => EntryReferenceAnswer::Shown(file_reference(
-            sections::part_of(file, entries),
-            l,
-            i as u32,
-        )),
-        PlaceAnswer::NotShown => EntryReferenceAnswer::NotShown,
-    }
+    crate::entry_in(file, o, i)?;
+    let metrics = sections::part_of(file, o.head.metrics);
+    Some(file_reference(metrics, o.layout, i as u32))
 }
 
-// The file reference of metrics entry i of a file.
-pub fn entry_reference(file: &[u8], i: usize) -> EntryReferenceAnswer
+// The file reference of metrics entry i of a file, where the entry can be shown; none where its version has no such field.
+pub fn entry_reference(file: &[u8], i: usize) -> Option<Option<Reference>>
     ensures { Answers entry_reference_said (entry_reference_asked file.now i) result }
 {
-    match head::read_open(file) {
-        OpenAnswer::Opened(o) => entry_reference_in(file, o, i),
-        OpenAnswer::Refused(_) => EntryReferenceAnswer::NotShown,
-        OpenAnswer::Wanted(_) => EntryReferenceAnswer::NotShown,
-    }
+    let opening = head::read_open(file).ok()?;
+    entry_reference_in(file, opening, i)
 }

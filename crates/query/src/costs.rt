@@ -6,20 +6,14 @@ ghost use Rattle.layout.specs.Versions.{size_limit};
 ghost use Rattle.head.specs.Opened.{OpenFacts};
 ghost use Rattle.query.specs.Cost.{whole_entries, name_cost, directory_cost, names_cost, directories_cost, cost_asked, cost_said};
 
-use head::{OpenAnswer, Opening};
+use head::Opening;
 use layout::Layout;
 
 // Bytes of names, with their zero units, and of directories, each at its least.
-#[derive(Clone, Copy)]
+#[derive(Clone, Copy, Debug, PartialEq, Eq)]
 pub struct FileCost {
     pub names: u64,
     pub directories: u64,
-}
-
-#[derive(Clone, Copy)]
-pub enum CostAnswer {
-    Known(FileCost),
-    Unknown,
 }
 
 // How many entries of that size lie whole in some bytes, of so many.
@@ -40,14 +34,12 @@ fn names_cost(metrics: &[u8], l: Layout, size: usize, entries: u32) -> u64
     ensures { result ≡ sum_below (name_cost l metrics.now size) entries }
 {
     let mut sum: u64 = 0;
-    let mut i = 0;
-    while i < entries {
+    for i in 0..entries {
         let at = names::name_at(metrics, l, i);
         let units = names::name_units(metrics, l, i);
         if names::name_fits(size, at, units) {
             sum += 2 * (units as u64) + 2;
         }
-        i += 1;
     }
     sum
 }
@@ -58,15 +50,9 @@ fn directories_cost(section: &[u8], l: Layout, size: usize, entries: u32) -> u64
     ensures { result ≡ sum_below (directory_cost l section.now size) entries }
 {
     let mut sum: u64 = 0;
-    let mut i = 0;
-    while i < entries {
+    for i in 0..entries {
         let bytes = 4 * (volumes::directory_count(section, l, i) as usize);
-        if bytes < size {
-            sum += bytes as u64;
-        } else {
-            sum += size as u64;
-        }
-        i += 1;
+        sum += bytes.min(size) as u64;
     }
     sum
 }
@@ -99,12 +85,9 @@ fn cost_in(file: &[u8], o: Opening) -> FileCost
 }
 
 // What a file costs to read: the bytes of its names and directories that a reader looks at, each as often as it is named.
-pub fn cost(file: &[u8]) -> CostAnswer
+pub fn cost(file: &[u8]) -> Option<FileCost>
     ensures { Answers cost_said (cost_asked file.now) result }
 {
-    match head::read_open(file) {
-        OpenAnswer::Opened(o) => CostAnswer::Known(cost_in(file, o)),
-        OpenAnswer::Refused(_) => CostAnswer::Unknown,
-        OpenAnswer::Wanted(_) => CostAnswer::Unknown,
-    }
+    let opening = head::read_open(file).ok()?;
+    Some(cost_in(file, opening))
 }

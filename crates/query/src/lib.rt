@@ -1,7 +1,7 @@
 // Queries about one entry of a file that is there in part or whole.
 #![tactic(auto)]
 
-ghost use Rattle.std.specs.Prelude.{◌≡◌};
+ghost use Rattle.std.specs.Prelude.{◌≡◌, option_map};
 ghost use Rattle.lists.specs.Answer.{Answers};
 ghost use Rattle.head.specs.Opened.{OpenFacts};
 ghost use Rattle.query.specs.Queries.{place_said, place_of, ShownAt, program_place, entry_place, volume_asked, volume_said, volume_values};
@@ -12,27 +12,20 @@ mod contents;
 mod costs;
 
 pub use contents::{directories, entry_reference, references};
-pub use costs::{CostAnswer, FileCost, cost};
-use head::{OpenAnswer, Opening, StartAnswer};
-use incremental::{Checked, Fault};
+pub use costs::{FileCost, cost};
+use head::Opening;
 use layout::Layout;
 use sections::Section;
 use volumes::Reference;
 
 // A part of the file: its offset and its length in bytes.
-#[derive(Clone, Copy)]
+#[derive(Clone, Copy, Debug, PartialEq, Eq)]
 pub struct Place {
     pub at: usize,
     pub len: usize,
 }
 
-#[derive(Clone, Copy)]
-pub enum PlaceAnswer {
-    Shown(Place),
-    NotShown,
-}
-
-#[derive(Clone, Copy)]
+#[derive(Clone, Copy, Debug, PartialEq, Eq)]
 pub struct VolumeFacts {
     pub created: u64,
     pub serial: u32,
@@ -41,72 +34,34 @@ pub struct VolumeFacts {
     pub path: Place,
 }
 
-#[derive(Clone, Copy)]
-pub enum VolumeAnswer {
-    Shown(VolumeFacts),
-    NotShown,
-}
-
-#[derive(Clone, Copy)]
-pub enum ReferenceAnswer {
-    Shown(Reference),
-    NotShown,
-}
-
-// The file reference of a metrics entry (document 03, A2): whether the version has the field, 1 or 0, and both its numbers.
-#[derive(Clone, Copy)]
-pub struct EntryReference {
-    pub known: u32,
-    pub index: u64,
-    pub sequence: u16,
-}
-
-#[derive(Clone, Copy)]
-pub enum EntryReferenceAnswer {
-    Shown(EntryReference),
-    NotShown,
-}
-
-// Document 01: the working places that a file needs, one for each trace entry that has a next index.
-#[derive(Clone, Copy)]
-pub enum PlacesAnswer {
-    Needed(u32),
-    Unknown,
-}
+// What stands for a place where there is none to show: an empty part at the start of the file.
+const NOWHERE: Place = Place { at: 0, len: 0 };
 
 // How many working places the readers need for the file, known where checks 1 to 6 pass.
-pub fn places(file: &[u8]) -> PlacesAnswer
+pub fn places(file: &[u8]) -> Option<u32>
     ensures { Answers places_said (places_needed file.now) result }
 {
-    match head::read_open(file) {
-        OpenAnswer::Opened(o) => PlacesAnswer::Needed(sections::link_count(o.layout, o.head)),
-        OpenAnswer::Refused(_) => PlacesAnswer::Unknown,
-        OpenAnswer::Wanted(_) => PlacesAnswer::Unknown,
-    }
+    let opening = head::read_open(file).ok()?;
+    Some(sections::link_count(opening.layout, opening.head))
 }
 
 // Where the program name stands, without its zero.
-pub fn program_place(file: &[u8]) -> PlaceAnswer
+pub fn program_place(file: &[u8]) -> Option<Place>
     ensures { Answers place_said (program_place file.now) result }
 {
-    match head::read_start(file) {
-        StartAnswer::Started(s) => PlaceAnswer::Shown(Place {
-            at: layout::PROGRAM_NAME_AT,
-            len: 2 * s.name_units,
-        }),
-        StartAnswer::Refused(_) => PlaceAnswer::NotShown,
-        StartAnswer::Wanted(_) => PlaceAnswer::NotShown,
-    }
+    let start = head::read_start(file).ok()?;
+    Some(Place {
+        at: layout::PROGRAM_NAME_AT,
+        len: 2 * start.name_units,
+    })
 }
 
 // The bytes of the file at a place, and an empty part at its start where there is none to show.
-fn part_shown(file: &[u8], answer: PlaceAnswer) -> &[u8]
-    ensures { ShownAt file.entry (place_of answer) result }
+fn part_shown(file: &[u8], shown: Option<Place>) -> &[u8]
+    ensures { ShownAt file.entry (place_of shown) result }
 {
-    match answer {
-        PlaceAnswer::Shown(w) => lists::part(file, w.at, w.len),
-        PlaceAnswer::NotShown => lists::part(file, 0, 0),
-    }
+    let place = shown.unwrap_or(NOWHERE);
+    lists::part(file, place.at, place.len)
 }
 
 // The program name as the bytes of the file.
@@ -117,24 +72,24 @@ pub fn program_name(file: &[u8]) -> &[u8]
 }
 
 // The name of an entry that lies whole in the metrics, as a place of the strings section.
-fn name_shown(metrics: &[u8], strings: &[u8], l: Layout, i: u32) -> PlaceAnswer
+fn name_shown(metrics: &[u8], strings: &[u8], l: Layout, i: u32) -> Option<Place>
     ensures { result ≡ name_shown l metrics.now strings.now i }
 {
     let at = names::name_at(metrics, l, i);
     let units = names::name_units(metrics, l, i);
     if names::name_sound(strings, at, units) {
-        PlaceAnswer::Shown(Place {
+        Some(Place {
             at: at as usize,
             len: 2 * (units as usize),
         })
     } else {
-        PlaceAnswer::NotShown
+        None
     }
 }
 
 // Metrics entry i, where checks 1 to 6 pass. The index is below a 32-bit count before it is cast.
 #[tactic(auto, using(crate::proofs::Entries::entries))]
-pub(crate) fn entry_in(file: &[u8], o: Opening, i: usize) -> PlaceAnswer
+pub(crate) fn entry_in(file: &[u8], o: Opening, i: usize) -> Option<Place>
     requires { OpenFacts file.now o }
     ensures { result ≡ entry_in o file.now i }
 {
@@ -142,32 +97,27 @@ pub(crate) fn entry_in(file: &[u8], o: Opening, i: usize) -> PlaceAnswer
     let h = o.head;
     let entries = h.metrics;
     if entries.count as usize <= i {
-        return PlaceAnswer::NotShown;
+        return None;
     }
     let metrics = sections::part_of(file, entries);
     if metrics.len() < (i + 1) * (l.metrics_entry as usize) {
-        return PlaceAnswer::NotShown;
+        return None;
     }
     let text = h.strings;
     let strings = sections::part_of(file, text);
-    match name_shown(metrics, strings, l, i as u32) {
-        PlaceAnswer::Shown(w) => PlaceAnswer::Shown(Place {
-            at: text.at as usize + w.at,
-            len: w.len,
-        }),
-        PlaceAnswer::NotShown => PlaceAnswer::NotShown,
-    }
+    let name = name_shown(metrics, strings, l, i as u32)?;
+    Some(Place {
+        at: text.at as usize + name.at,
+        len: name.len,
+    })
 }
 
 // Where the name of metrics entry i stands, without its zero.
-pub fn entry_place(file: &[u8], i: usize) -> PlaceAnswer
+pub fn entry_place(file: &[u8], i: usize) -> Option<Place>
     ensures { Answers place_said (entry_place file.now i) result }
 {
-    match head::read_open(file) {
-        OpenAnswer::Opened(o) => entry_in(file, o, i),
-        OpenAnswer::Refused(_) => PlaceAnswer::NotShown,
-        OpenAnswer::Wanted(_) => PlaceAnswer::NotShown,
-    }
+    let opening = head::read_open(file).ok()?;
+    entry_in(file, opening, i)
 }
 
 // That name as the bytes of the file.
@@ -182,7 +132,7 @@ pub fn entry_name(file: &[u8], i: usize) -> &[u8]
 pub(crate) fn section_shown(s: Section, l: Layout, section: &[u8], i: usize) -> bool
     ensures { result ≡ section_shown s l section.now i }
 {
-    if let Fault::At(_, _) = sections::entries_fault(s.count, l.volume_entry, s.len) {
+    if sections::entries_fault(s.count, l.volume_entry, s.len).is_some() {
         return false;
     }
     if s.count as usize <= i {
@@ -191,14 +141,11 @@ pub(crate) fn section_shown(s: Section, l: Layout, section: &[u8], i: usize) -> 
     if section.len() < s.len {
         return false;
     }
-    match volumes::check_volume(section, l, s.at, i as u32) {
-        Checked::Passed => true,
-        Checked::Refused(_) => false,
-    }
+    volumes::check_volume(section, l, s.at, i as u32).is_ok()
 }
 
 // Volume i, where checks 1 to 6 pass.
-fn volume_in(file: &[u8], o: Opening, i: usize) -> VolumeAnswer
+fn volume_in(file: &[u8], o: Opening, i: usize) -> Option<VolumeFacts>
     requires { OpenFacts file.now o }
     ensures { result ≡ volume_in o file.now i }
 {
@@ -207,10 +154,10 @@ fn volume_in(file: &[u8], o: Opening, i: usize) -> VolumeAnswer
     let s = h.volumes;
     let section = sections::part_of(file, s);
     if !section_shown(s, l, section, i) {
-        return VolumeAnswer::NotShown;
+        return None;
     }
     let v = volumes::volume_at(section, l, i as u32);
-    VolumeAnswer::Shown(VolumeFacts {
+    Some(VolumeFacts {
         created: v.created,
         serial: v.serial,
         references: v.references,
@@ -223,27 +170,24 @@ fn volume_in(file: &[u8], o: Opening, i: usize) -> VolumeAnswer
 }
 
 // The facts of volume i, its path as a place of the file.
-pub fn volume(file: &[u8], i: usize) -> VolumeAnswer
+pub fn volume(file: &[u8], i: usize) -> Option<VolumeFacts>
     ensures { Answers volume_said (volume_asked file.now i) result }
 {
-    match head::read_open(file) {
-        OpenAnswer::Opened(o) => volume_in(file, o, i),
-        OpenAnswer::Refused(_) => VolumeAnswer::NotShown,
-        OpenAnswer::Wanted(_) => VolumeAnswer::NotShown,
-    }
+    let opening = head::read_open(file).ok()?;
+    volume_in(file, opening, i)
+}
+
+fn path_of(facts: Option<VolumeFacts>) -> Option<Place>
+    ensures { result ≡ option_map (λ (v : VolumeFacts). v.path) facts }
+{
+    Some(facts?.path)
 }
 
 // The path of volume i as the bytes of the file, and an empty part at its start where there is none to show.
 pub fn volume_path(file: &[u8], i: usize) -> &[u8]
     ensures { ShownAt file.entry (volume_values (volume_asked file.now i)).path result }
 {
-    match volume(file, i) {
-        VolumeAnswer::Shown(v) => {
-            let w = v.path;
-            lists::part(file, w.at, w.len)
-        }
-        VolumeAnswer::NotShown => lists::part(file, 0, 0),
-    }
+    part_shown(file, path_of(volume(file, i)))
 }
 
 // The same for a file whose checks 1 to 6 gave that opening, so that it is not opened again: the path as a part of the volumes section.
@@ -262,7 +206,7 @@ pub fn path_in(file: &[u8], o: Opening, i: usize) -> &[u8]
 }
 
 // Reference k of volume i, where checks 1 to 6 pass.
-fn reference_in(file: &[u8], o: Opening, i: usize, k: usize) -> ReferenceAnswer
+fn reference_in(file: &[u8], o: Opening, i: usize, k: usize) -> Option<Reference>
     ensures { result ≡ reference_in o file.now i k }
 {
     let l = o.layout;
@@ -270,22 +214,19 @@ fn reference_in(file: &[u8], o: Opening, i: usize, k: usize) -> ReferenceAnswer
     let s = h.volumes;
     let section = sections::part_of(file, s);
     if !section_shown(s, l, section, i) {
-        return ReferenceAnswer::NotShown;
+        return None;
     }
     let v = volumes::volume_at(section, l, i as u32);
     if v.references as usize <= k {
-        return ReferenceAnswer::NotShown;
+        return None;
     }
-    ReferenceAnswer::Shown(volumes::reference_at(section, l, i as u32, k as u32))
+    Some(volumes::reference_at(section, l, i as u32, k as u32))
 }
 
 // Reference k of volume i of a file: not shown where checks 1 to 6 do not pass.
-pub fn reference(file: &[u8], i: usize, k: usize) -> ReferenceAnswer
+pub fn reference(file: &[u8], i: usize, k: usize) -> Option<Reference>
     ensures { Answers reference_said (reference_asked file.now i k) result }
 {
-    match head::read_open(file) {
-        OpenAnswer::Opened(o) => reference_in(file, o, i, k),
-        OpenAnswer::Refused(_) => ReferenceAnswer::NotShown,
-        OpenAnswer::Wanted(_) => ReferenceAnswer::NotShown,
-    }
+    let opening = head::read_open(file).ok()?;
+    reference_in(file, opening, i, k)
 }

@@ -19,6 +19,7 @@ use Rattle.std.specs.Prelude.{Err, Ok, Result, Some}
 use Rattle.volumes.specs.declared.StepFault.TheVariants.{Past, Unended}
 use Rattle.volumes.specs.declared.StepFault.{StepFault}
 use Rattle.incremental.specs.Decision.{fault}
+use Rattle.incremental.proofs.Decision.{fault_same}
 
 module _ (Q : Refusal → Type 0) where
   fair-directories : (s : List ℕ) (i place n at : ℕ) → Q (refusal 14 i place) → Q (refusal 15 i place) → Fair Q (directory_checks s i place n at)
@@ -33,9 +34,8 @@ module _ (Q : Refusal → Type 0) where
 
   at-fault : (n i place : ℕ) (b : Bool) → Q (refusal n i place) → (j at : ℕ) → fault_at i place b ≡ Some (fault j at) → Q (refusal n j at)
   at-fault n i place true h j at e =
-      let x : i ≡ j = cc in
-      let y : place ≡ at = cc in
-      rw (← x, ← y) h
+      let x = fault_same _ _ _ _ e in
+      rw (← x.0, ← x.1) h
   at-fault n i place false h j at e = never cc
 
   fair-volume : (s : List ℕ) (i place e : ℕ) → Q (refusal 14 i place) → Q (refusal 15 i place) → Fair Q (entry_checks s i place e)

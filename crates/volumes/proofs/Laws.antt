@@ -1,5 +1,5 @@
 -- Laws on the checks of a volumes section: what each way through the code decides, and what it means that all volumes pass.
-use mathlib.Core.Path.{◌≡◌, refl, sym}
+use mathlib.Core.Path.{◌≡◌, refl}
 use mathlib.Core.Bool.{true, false}
 use mathlib.Core.List.{List}
 use mathlib.Core.Logic.{◌↔◌}
@@ -16,18 +16,17 @@ use Rattle.little_endian.specs.Number.{le, zero_unit}
 use Rattle.layout.specs.Head.{entry_offset}
 use Rattle.layout.specs.Versions.{volume_entry}
 use Rattle.layout.specs.declared.Layout.{Layout}
-use Rattle.incremental.specs.Decision.{Decision, accept, refuse, refusal, ◌>>◌}
-use Rattle.incremental.proofs.Decision.{check_at, check_nowhere}
+use Rattle.incremental.specs.Decision.{Decision, accept, refuse, refusal, ◌>>◌, check}
+use Rattle.incremental.proofs.Decision.{check_stops, check_goes}
 use Rattle.sections.specs.Fields.{entries_fault}
 use Rattle.incremental.specs.declared.Refusal.{Refusal}
 use Rattle.volumes.specs.Volumes.{path_at, path_count, path_fits, path_units, references_at, references_size, reference_count, references_fit, step_at}
 use Rattle.volumes.specs.Volumes.{entry_at, on_step, directory_count, directories_at, directory_checks, entry_checks, volume_checks, volumes_from, volumes_checks}
 use Rattle.volumes.specs.declared.Cursor.{Cursor}
-use Rattle.std.specs.Prelude.{Err, None, Ok, Option, Result, Some}
+use Rattle.std.specs.Prelude.{unwrap_or, Err, Ok, Option, Result}
 use Rattle.incremental.specs.declared.Fault.{Fault}
 use Rattle.volumes.specs.declared.StepFault.TheVariants.{Past, Unended}
 use Rattle.volumes.specs.declared.StepFault.{StepFault}
-use Rattle.incremental.specs.Decision.{fault}
 
 -- The path
 pub path_none : (s : List ℕ) (e : ℕ) → path_count s e ≡ 0 → true ≡ path_fits s e
@@ -131,15 +130,15 @@ volumes_end s v start n i l =
     rw d
 
 -- Check 8: where it passes, checks 14 and 15 decide
-pub volumes_crowded : (s : List ℕ) (v : Layout) (start n k at : ℕ) (r : Option Fault) (x : Refusal) → r ≡ entries_fault n (volume_entry v) (length s)
-    → r ≡ Some (fault k at) → x ≡ refusal 8 k at → refuse x ≡ volumes_checks s v start n
+pub volumes_crowded : (s : List ℕ) (v : Layout) (start n : ℕ) (d : Option Fault) (r : Refusal) → d ≡ entries_fault n (volume_entry v) (length s)
+    → refuse r ≡ check 8 d → refuse r ≡ volumes_checks s v start n
 unfolding volumes_checks
-volumes_crowded s v start n k at r x e q h = check_at 8 k at _ r _ x e q h
+volumes_crowded s v start n d r e h = check_stops 8 _ d _ e r h
 
-pub volumes_room : (s : List ℕ) (v : Layout) (start n : ℕ) (r : Option Fault) → r ≡ entries_fault n (volume_entry v) (length s) → r ≡ None
+pub volumes_room : (s : List ℕ) (v : Layout) (start n : ℕ) (d : Option Fault) (t : Unit) → d ≡ entries_fault n (volume_entry v) (length s) → accept t ≡ check 8 d
     → volumes_checks s v start n ≡ volumes_from s v start n 0
 unfolding volumes_checks
-volumes_room s v start n r e q = sym (check_nowhere 8 _ r _ _ e q refl)
+volumes_room s v start n d t e h = check_goes 8 _ d _ e t h
 
 -- the volumes from i pass exactly when each of them does
 each_passes : (s : List ℕ) (v : Layout) (start n i : ℕ) → volumes_from s v start n i ≡ accept tt → (k : ℕ) → k < n → volume_checks s v start (i + k) ≡ accept tt
@@ -173,16 +172,11 @@ pub volumes_each : (s : List ℕ) (v : Layout) (start n : ℕ) → (volumes_from
 volumes_each s v start n =
     ((λ e i l. rw zero-add at (each_passes s v start n 0 e i l)), λ f. all_pass s v start n 0 (λ k l. rw (zero-add k) (f k l)))
 
--- The units of a path, by a loop that stops at the first zero unit
-pub units_hit : (s : List ℕ) (e k : ℕ) {start count : ℕ} → start ≡ path_at s e → count ≡ path_count s e
-    → first (λ k. zero_unit s (start + 2 * k)) count ≡ Some k → k ≡ path_units s e
+-- The units of a path, by the search for its first zero unit
+pub units_are : (s : List ℕ) (e : ℕ) {start count : ℕ} (r : Option ℕ) → start ≡ path_at s e → count ≡ path_count s e
+    → r ≡ first (λ k. zero_unit s (start + 2 * k)) count → unwrap_or r count ≡ path_units s e
 unfolding path_units
-units_hit s e k a n h = rw (← a, ← n, h)
-
-pub units-none : (s : List ℕ) (e : ℕ) {start count : ℕ} → start ≡ path_at s e → count ≡ path_count s e
-    → first (λ k. zero_unit s (start + 2 * k)) count ≡ None → count ≡ path_units s e
-unfolding path_units
-units-none s e a n h = rw (← a, ← n, h)
+units_are s e r a n h = rw (← a, ← n, h)
 
 -- One volume: path, references, directories
 pub entry_path : (s : List ℕ) (i place e : ℕ) → path_fits s e ≡ false → refuse (refusal 14 i place) ≡ entry_checks s i place e

@@ -1,5 +1,5 @@
 -- Document 01's "Volumes" on a volumes section: checks 8, 14 and 15, and one volume's facts.
-use Rattle.std.specs.Prelude.{Bool, not, ◌&&◌, ◌||◌, List, [], ◌∷◌, ℕ, zero, suc, ◌+◌, ◌*◌, leb, ltb, eqb, length}
+use Rattle.std.specs.Prelude.{unwrap_or, Bool, not, ◌&&◌, ◌||◌, List, [], ◌∷◌, ℕ, zero, suc, ◌+◌, ◌*◌, leb, ltb, eqb, length}
 use Rattle.lists.specs.First.{first}
 use Rattle.lists.specs.Answer.{Said}
 use Rattle.lists.specs.Count.{pick}
@@ -12,7 +12,7 @@ use Rattle.sections.specs.Fields.{entries_fault}
 use Rattle.volumes.specs.declared.Volume.{Volume}
 use Rattle.volumes.specs.declared.Reference.{Reference}
 use Rattle.volumes.specs.declared.Cursor.{Cursor}
-use Rattle.std.specs.Prelude.{Err, None, Ok, Option, Result, Some}
+use Rattle.std.specs.Prelude.{Err, Ok, Result}
 use Rattle.volumes.specs.declared.StepFault.TheVariants.{Past, Unended}
 use Rattle.volumes.specs.declared.StepFault.{StepFault}
 
@@ -67,7 +67,7 @@ step_at s at =
     pick (ltb (length s) (at + 2)) (Err Past)
     (pick (ltb (length s) (at + 4 + 2 * le 2 s at)) (Err Past)
     (pick (zero_unit s (at + 2 + 2 * le 2 s at)) (Ok (record { at = at + 4 + 2 * le 2 s at }))
-    Err Unended))
+    (Err Unended)))
 
 -- what each case says: 0 and the position after the string, 14 or 15
 abbrev pub step_said : Result Cursor StepFault → Said
@@ -112,12 +112,8 @@ unfoldable pub volumes_checks : List ℕ → Layout → ℕ → ℕ → Decision
 volumes_checks s l start n = check 8 (entries_fault n (volume_entry l) (length s)) >> volumes_from s l start n 0
 
 -- the units of the path before its first zero unit, or all of them
-abbrev pub or_all : Option ℕ → ℕ → ℕ
-or_all (Some k) n = k
-or_all None n = n
-
 unfoldable pub path_units : List ℕ → ℕ → ℕ
-path_units s e = or_all (first (λ k. zero_unit s (path_at s e + 2 * k)) (path_count s e)) (path_count s e)
+path_units s e = unwrap_or (first (λ k. zero_unit s (path_at s e + 2 * k)) (path_count s e)) (path_count s e)
 
 -- the facts of the volume whose entry is at e. The path starts at an offset of the section, 0 where its count is 0.
 unfoldable pub volume_of : List ℕ → ℕ → Volume

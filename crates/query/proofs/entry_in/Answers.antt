@@ -6,21 +6,21 @@ use Rattle.layout.proofs.Laws.{entry_low}
 use Rattle.query.proofs.Entries.{entries, name_low}
 use Rattle.query.proofs.entry_in.Goals as goal
 
-pub returns-in-Shown : goal.returns-in-Shown
-returns-in-Shown c = search entries
+pub returns : goal.returns
+returns c = search (entries, c.in_ok-name.was)
 
 pub overflow_add-result : goal.overflow_add-result
 overflow_add-result c =
     let o = c.args.o in
-    let w = c.in-Shown.w in
-    let h : o.head.strings.at + w.at ≤ size_limit = search name_low in
+    let w = c.in_ok-name.name in
+    let h : o.head.strings.at + w.at ≤ size_limit = search (name_low, c.in_ok-name.was) in
     omega arith
 
 pub returns-then-entries-i : goal.returns-then-entries-i
 returns-then-entries-i c = search entries
 
-pub returns-in-NotShown : goal.returns-in-NotShown
-returns-in-NotShown c = search entries
+pub returns-in_err-name : goal.returns-in_err-name
+returns-in_err-name c = rw c.from_residual.ensures (search (entries, c.in_err-name.was))
 
 pub overflow_mul-i : goal.overflow_mul-i
 overflow_mul-i c =

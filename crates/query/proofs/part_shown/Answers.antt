@@ -2,8 +2,5 @@
 use Rattle.query.proofs.Parts.{shown_parts}
 use Rattle.query.proofs.part_shown.Goals as goal
 
-pub returns-in-Shown : goal.returns-in-Shown
-returns-in-Shown c = search shown_parts
-
-pub returns-in-NotShown : goal.returns-in-NotShown
-returns-in-NotShown c = search shown_parts
+pub returns : goal.returns
+returns c = search shown_parts

@@ -1,33 +1,29 @@
-use mathlib.Core.Path.{sym, ap, ◌∙◌}
+use mathlib.Core.Path.{sym, ◌∙◌}
 use native.Mathlib.Omega.{arith}
-use Rattle.incremental.specs.Decision.{decision_of}
+use Rattle.incremental.proofs.Decision.{exit_refusal}
 use Rattle.volumes.proofs.Laws.{volumes_start, volumes_next, volumes_refused, volumes_end, volumes_crowded, volumes_room}
 use Rattle.volumes.proofs.check_volumes.Goals as goal
 
-pub returns-in-At : goal.returns-in-At
-returns-in-At c =
-    volumes_crowded _ c.args.l _ _ _ _ _ _ c.entries_fault.ensures c.in-At.is c.refuse.ensures
+pub returns-in_err-check : goal.returns-in_err-check
+returns-in_err-check c = exit_refusal _ _ _ c.from_residual.ensures.1 (volumes_crowded _ c.args.l _ _ _ _ c.entries_fault.ensures c.in_err-check.ensures)
 
 pub loop-i-init : goal.loop-i-init
-loop-i-init c = (omega arith, volumes_start _ _ _ _)
+loop-i-init c = volumes_start _ _ _ _
 
 pub loop-i-preserved : goal.loop-i-preserved
-loop-i-preserved c =
-    let w = c.loop-i in
-    (omega arith, w.invariant.1 ∙ volumes_next _ _ _ _ _ (omega arith) (sym c.check_volume-checked.ensures ∙ ap decision_of c.in_default-checked.is))
+loop-i-preserved c = c.loop-i.invariant ∙ volumes_next _ _ _ _ _ (omega arith) (sym c.in_ok-check_volume.ensures)
 
-pub returns-in-Refused : goal.returns-in-Refused
-returns-in-Refused c =
-    let w = c.loop-i in
-    let a = c.args in
-    sym
-    (volumes_room _ a.l _ _ _ c.entries_fault.ensures c.in_default.is
-    ∙ w.invariant.1
-    ∙ volumes_refused _ _ _ _ _ _ (omega arith) (sym c.check_volume-checked.ensures ∙ ap decision_of c.in-Refused.is))
+pub returns-in_err-check_volume : goal.returns-in_err-check_volume
+returns-in_err-check_volume c =
+    exit_refusal _ _ _ c.from_residual-in_err-check_volume.ensures.1
+    (sym
+    (volumes_room _ c.args.l _ _ _ _ c.entries_fault.ensures c.in_ok-check.ensures
+    ∙ c.loop-i.invariant
+    ∙ volumes_refused _ _ _ _ _ _ (omega arith) (sym c.in_err-check_volume.ensures)))
 
 pub returns : goal.returns
 returns c =
     sym
-    (volumes_room _ c.args.l _ _ _ c.entries_fault.ensures c.in_default.is
-    ∙ c.loop-i.invariant.1
+    (volumes_room _ c.args.l _ _ _ _ c.entries_fault.ensures c.in_ok-check.ensures
+    ∙ c.loop-i.invariant
     ∙ volumes_end _ _ _ _ _ (omega arith))

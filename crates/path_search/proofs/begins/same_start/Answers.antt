@@ -3,17 +3,18 @@ use Rattle.path_search.proofs.Same.{agree_eight, agree_all, differ_one, differ_e
 use Rattle.path_search.proofs.begins.same_start.Goals as goal
 
 pub returns : goal.returns
-returns c =
-    sym (agree_all c.args.path.now c.args.name.now c.loop-i-2.i c.requires c.loop-i-2-test.false c.loop-i-2.invariant.1)
+returns c = sym (agree_all c.args.path.now c.args.name.now _ c.requires c.loop-k-test.false c.loop-k.invariant)
 
-pub returns-then-path-i : goal.returns-then-path-i
-returns-then-path-i c =
+pub returns-then-path-k : goal.returns-then-path-k
+returns-then-path-k c =
     let a = c.args in
-    sym (differ_one a.path.now a.name.now c.loop-i-2.i (omega arith) c.if-path-i.true)
+    sym (differ_one a.path.now a.name.now c.loop-k.k (omega arith) c.if-path-k.true)
 
-pub loop-i-2-preserved : goal.loop-i-2-preserved
-loop-i-2-preserved c =
-    (omega arith, below_more _ _ c.loop-i-2.invariant.1 c.if-path-i.false)
+pub loop-k-init : goal.loop-k-init
+loop-k-init c = c.loop-i.invariant.1
+
+pub loop-k-preserved : goal.loop-k-preserved
+loop-k-preserved c = below_more _ _ c.loop-k.invariant c.if-path-k.false
 
 pub loop-i-preserved : goal.loop-i-preserved
 loop-i-preserved c = (

@@ -2,14 +2,11 @@
 use Rattle.query.proofs.Asked.{asking}
 use Rattle.path_search.proofs.from_start.find_path_from.Goals as goal
 
-pub returns-in-Opened : goal.returns-in-Opened
-returns-in-Opened c = search asking
-
-pub returns-in-Wanted : goal.returns-in-Wanted
-returns-in-Wanted c = search asking
+pub returns-in_err-opening : goal.returns-in_err-opening
+returns-in_err-opening c = search (asking, c.in_err-opening.was)
 
 pub path_from_in-requires : goal.path_from_in-requires
-path_from_in-requires c = search asking
+path_from_in-requires c = search (asking, c.in_ok-opening.was)
 
-pub returns-in-Refused : goal.returns-in-Refused
-returns-in-Refused c = search asking
+pub returns : goal.returns
+returns c = search (asking, c.in_ok-opening.was)

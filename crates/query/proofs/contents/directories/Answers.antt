@@ -1,16 +1,14 @@
--- A file that opens is asked for its directories; of one that is refused or too short for checks 1 to 6 none are listed.
+-- A file that opens is asked for its lists; of one that is refused or too short for checks 1 to 6 nothing is listed.
 use Rattle.lists.proofs.Pairs.{none_listed}
-use Rattle.query.proofs.Asked.{asking, open_listed}
+use Rattle.head.proofs.Facts.{open_met}
+use Rattle.query.proofs.Asked.{open_listed, none_open}
 use Rattle.query.proofs.contents.directories.Goals as goal
 
-pub returns-in-Opened : goal.returns-in-Opened
-returns-in-Opened c = search open_listed
-
-pub returns-in-Refused : goal.returns-in-Refused
-returns-in-Refused c = search (open_listed, none_listed)
+pub returns-in-Ok : goal.returns-in-Ok
+returns-in-Ok c = search open_listed
 
 pub directories_in-requires : goal.directories_in-requires
-directories_in-requires c = search asking
+directories_in-requires c = search open_met
 
-pub returns-in-Wanted : goal.returns-in-Wanted
-returns-in-Wanted c = search (open_listed, none_listed)
+pub returns-in-Err : goal.returns-in-Err
+returns-in-Err c = search (none_open, none_listed)

@@ -12,13 +12,13 @@ use Rattle.query.proofs.Listed.{references_step, references_end}
 use Rattle.query.proofs.contents.list_references.Goals as goal
 
 pub shape_of-pairs : goal.shape_of-pairs
-shape_of-pairs c = laid_size _ _ c.loop-k.invariant.1
+shape_of-pairs c = laid_size _ _ c.loop-k.invariant
 
 pub shape_of-pairs-then-room-at : goal.shape_of-pairs-then-room-at
-shape_of-pairs-then-room-at c = laid_size _ _ c.loop-k.invariant.1
+shape_of-pairs-then-room-at c = laid_size _ _ c.loop-k.invariant
 
 pub bounds-pairs-at-in-loop-k : goal.bounds-pairs-at-in-loop-k
-bounds-pairs-at-in-loop-k c = simp length-set (omega (arith, laid_size _ _ c.loop-k.invariant.1))
+bounds-pairs-at-in-loop-k c = simp length-set (omega (arith, laid_size _ _ c.loop-k.invariant))
 
 pub loop-k-preserved : goal.loop-k-preserved
 loop-k-preserved c =
@@ -30,19 +30,19 @@ loop-k-preserved c =
     let e : reference_pairs a.section.now at (a.count - k) k ≡ r.index ∷ r.sequence ∷ later =
     references_step a.section.now at a.count k (omega arith)
     ∙ ap (λ (x : Reference). x.index ∷ x.sequence ∷ later) (sym c.reference_at-r.ensures) in
-    (omega arith, laid_more _ _ e (omega arith) c.loop-k.invariant.1)
+    laid_more _ _ e (omega arith) c.loop-k.invariant
 
 pub loop-k-init : goal.loop-k-init
-loop-k-init c = (omega arith, rw sub-zero (laid_start _ _))
+loop-k-init c = rw sub-zero (laid_start _ _)
 
 pub bounds-pairs-at : goal.bounds-pairs-at
-bounds-pairs-at c = omega (arith, laid_size _ _ c.loop-k.invariant.1)
+bounds-pairs-at c = omega (arith, laid_size _ _ c.loop-k.invariant)
 
 pub returns-then-room-at : goal.returns-then-room-at
-returns-then-room-at c = laid_full _ _ (omega arith) c.loop-k.invariant.1
+returns-then-room-at c = laid_full _ _ (omega arith) c.loop-k.invariant
 
 pub returns : goal.returns
 returns c =
     let a = c.args in
     let e : reference_pairs a.section.now (entry_at a.l a.i) (a.count - c.loop-k.k) c.loop-k.k ≡ [] = references_end _ _ _ _ (omega arith) in
-    laid_all _ _ e c.loop-k.invariant.1
+    laid_all _ _ e c.loop-k.invariant

@@ -1,5 +1,5 @@
 -- After k turns the first k pairs stand in the list; the references from k on are to come.
-use Prim.Native.Nat.{◌-◌, ◌≤◌}
+use Prim.Native.Nat.{◌-◌}
 use Rattle.lists.proofs.Pairs.{Laid}
 use Rattle.volumes.specs.Volumes.{entry_at}
 use Rattle.query.specs.Contents.{reference_pairs}
@@ -7,8 +7,4 @@ use Rattle.query.proofs.contents.list_references.Given as goal
 
 abbrev pub invariant-loop-k : goal.invariant-loop-k
 invariant-loop-k l =
-    (l.k ≤ l.count)
-    × Laid (reference_pairs l.section (entry_at l.l l.i) l.count 0) l.initial.pairs l.k (reference_pairs l.section (entry_at l.l l.i) (l.count - l.k) l.k) l.pairs
-
-abbrev pub decreases-loop-k : goal.decreases-loop-k
-decreases-loop-k l = l.count - l.k
+    Laid (reference_pairs l.section (entry_at l.l l.i) l.count 0) l.initial.pairs l.k (reference_pairs l.section (entry_at l.l l.i) (l.count - l.k) l.k) l.pairs

@@ -1,12 +1,8 @@
 -- After i turns the sum is that of the first i entries, each of which costs no more than the size.
 use mathlib.Core.Path.{◌≡◌}
-use Prim.Native.Nat.{◌-◌, ◌≤◌}
 use Rattle.lists.specs.Count.{sum_below}
 use Rattle.query.specs.Cost.{name_cost}
 use Rattle.query.proofs.costs.names_cost.Given as goal
 
 abbrev pub invariant-loop-i : goal.invariant-loop-i
-invariant-loop-i l = (l.i ≤ l.entries) × (l.sum ≡ sum_below (name_cost l.l l.metrics l.size) l.i)
-
-abbrev pub decreases-loop-i : goal.decreases-loop-i
-decreases-loop-i l = l.entries - l.i
+invariant-loop-i l = (l.sum ≡ sum_below (name_cost l.l l.metrics l.size) l.i)
