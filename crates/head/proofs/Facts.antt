@@ -268,3 +268,6 @@ decided_open p h d =
     decided_then start_plan _ p (decided_start p h d) λ s e.
     let f = (start_facts p).holds s e in
     decided_then (form_plan s) _ p (decided_form p s f d) λ t q. decided_sections p t ((form_holds p s f).holds t q) d
+
+pub open_accepted : (p : List ℕ) (o : Opening) → decided (accept o) ≡ run open_plan p → OpenFacts p o
+open_accepted p o e = (open_facts p).holds o (sym e)

@@ -1,4 +1,5 @@
 -- DEMAND 2, the proof: what checks 1 to 6 and 7 to 15 accept, in both directions, is what the layout allows.
+use Rattle.incremental.specs.declared.Refusal.{Refusal}
 use mathlib.Core.Path.{◌≡◌, refl, sym, ◌∙◌, ap}
 use mathlib.Core.List.{List}
 use mathlib.Core.Logic.{inl, inr}
@@ -21,13 +22,13 @@ use Rattle.sections.specs.declared.Head.{Head}
 use Rattle.head.specs.declared.checks.Opening.{Opening}
 use Rattle.trace.specs.Links.{after}
 use Rattle.reader.specs.declared.verdict.Acceptance.{Acceptance}
-use Rattle.reader.specs.Verdict.{Acceptable, values_of, answer_values, buffer_after}
+use Rattle.reader.specs.Verdict.{verdict_in, Acceptable, values_of, answer_values, buffer_after}
 use Rattle.reader.proofs.Values.{accepted_answer, same_values}
 use Rattle.reader.specs.Checks.{record_of, prefix_answer, file_answer, ReadsFile}
 use Rattle.reader.proofs.Taken.{head-take, name_ends}
 use Rattle.reader.proofs.Rest.{RestFacts, read_facts, read_complete, whole_accepted, whole-accepts}
 use Rattle.reader.specs.Allowed.{Allowed, given_record, given_table, AcceptedExactly}
-use Rattle.std.specs.Prelude.{Ok, Result}
+use Rattle.std.specs.Prelude.{Ok, Result, Err}
 use Rattle.incremental.specs.declared.Stop.{Stop}
 
 -- a section that is within S ends by S, for an empty one ends at H
@@ -115,15 +116,20 @@ sizes : (o : Opening) (p : List ℕ) (n : ℕ) → (record_of o p n).declared_si
 unfolding record_of
 sizes o p n = refl
 
+-- a verdict that makes no request
+full_same : (v : Result Acceptance Refusal) (a : Acceptance) → verdict_in v ≡ Ok a → v ≡ Ok a
+full_same (Ok b) a e = let q : b ≡ a = cc in ap (λ (x : Acceptance). Ok x) q
+full_same (Err f) a e = never cc
+
 -- DEMAND 2
-pub demand_2 : (p buffer : List ℕ) (v : Result Acceptance Stop) (after : List ℕ) → ReadsFile p buffer v after → AcceptedExactly p buffer v after
+pub demand_2 : (p buffer : List ℕ) (v : Result Acceptance Refusal) (after : List ℕ) → ReadsFile p buffer v after → AcceptedExactly p buffer v after
 demand_2 p buffer v after r = record { sound = is-allowed; complete = is-accepted }
   where
     is-allowed : (a : Acceptance) → v ≡ Ok a
         → (o : Opening) × Allowed p o × (link_count o.layout o.head ≤ length buffer) × (a ≡ given_record o p) × (after ≡ given_table o p (length buffer))
     is-allowed a e =
         let m = length buffer in
-        let y = accepted_answer (file_answer p m) a (ap values_of (sym e) ∙ r.verdict) in
+        let y = accepted_answer (file_answer p m) a (ap (λ (x : Result Acceptance Refusal). values_of (verdict_in x)) (sym e) ∙ r.verdict) in
         let x = y.0 in
         let w = whole_accepted (length p) (prefix_answer p m) x y.1 in
         let t = (read_facts m p).holds x w.0 in
@@ -144,4 +150,4 @@ demand_2 p buffer v after r = record { sound = is-allowed; complete = is-accepte
         let x : Acceptable = record { fields = given_record o p; table = given_table o p m } in
         let e = read_complete m p o x (opens p o a) (omega (arith, a.complete)) (passes m p o a l) in
         let w = whole-accepts (length p) (prefix_answer p m) x e (sizes o p _ ∙ sym a.complete) in
-        (same_values v (Ok (given_record o p)) (r.verdict ∙ ap answer_values w), r.buffer ∙ ap (λ (z : Answer Acceptable). buffer_after z m) w)
+        (full_same v (given_record o p) (same_values (verdict_in v) (Ok (given_record o p)) (r.verdict ∙ ap answer_values w)), r.buffer ∙ ap (λ (z : Answer Acceptable). buffer_after z m) w)

@@ -140,7 +140,7 @@ module _ (xs : List ℕ) (i j m : ℕ) (h : i ≤ j) (v w : Result Acceptance St
       other : {a : Acceptance} {k : ℕ} → Ok a ≡ Err (Wanted k) → ⊥
       other e = let z : ◌≡◌ {A = ℕ} 0 2 = ap (λ (x : Result Acceptance Stop). (values_of x).kind) e in omega arith
 
-      another : {f : Refusal} {k : ℕ} → Err (Refused f) ≡ Err (Wanted k) → ⊥
+      another : {f : Refusal} {k : ℕ} → ◌≡◌ {A = Result Acceptance Stop} (Err (Refused f)) (Err (Wanted k)) → ⊥
       another e = let z : ◌≡◌ {A = ℕ} 1 2 = ap (λ (x : Result Acceptance Stop). (values_of x).kind) e in omega arith
 
 -- DEMAND 3. Take any bytes, any two prefixes of them, the second at least as long as the first, and two working buffers of equal

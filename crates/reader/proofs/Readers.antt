@@ -11,94 +11,80 @@ use Rattle.incremental.specs.Decision.{accept, refuse, refusal}
 use Rattle.incremental.specs.Plan.{Answer, decided, wants, run}
 use Rattle.incremental.proofs.Plan.{onward, answer_then}
 use Rattle.incremental.specs.declared.Refusal.{Refusal}
-use Rattle.head.specs.Checks.{open_plan, answer_of}
+use Rattle.head.specs.Checks.{open_plan}
+use Rattle.incremental.specs.Plan.{answer_of}
 use Rattle.head.specs.declared.checks.Opening.{Opening}
 use Rattle.reader.specs.declared.verdict.Acceptance.{Acceptance}
-use Rattle.reader.specs.Verdict.{Acceptable, Reads, verdict_in}
+use Rattle.reader.specs.Verdict.{Acceptable, Reads}
 use Rattle.reader.specs.Checks.{rest_plan, read_plan, whole, file_answer, ReadsFile, ReadsOpened}
-use Rattle.reader.specs.Private.{verdict_of, Refuses}
-use Rattle.std.specs.Prelude.{Err, Ok, Result}
+use Rattle.reader.specs.Private.{verdict_of, whole_stop, WholeAnswer}
+use Rattle.std.specs.Prelude.{Err, Ok, Result, is_err, true, false}
 use Rattle.incremental.specs.declared.Stop.TheVariants.{Refused, Wanted}
 use Rattle.incremental.specs.declared.Stop.{Stop}
 
--- a verdict of all checks, once the working buffer is seen to
-pub reads_accepted : (answer : Answer Acceptable) (m : ℕ) (after : List ℕ) (v : Result Acceptance Stop) (a : Acceptance) → verdict_of v after ≡ answer
-    → v ≡ Ok a → Reads answer m (Ok a) after
-reads_accepted answer m after v a e q =
-    let x : answer ≡ decided (accept (record { fields = a; table = after })) = sym e ∙ ap (λ (y : Result Acceptance Stop). verdict_of y after) q in
-    rw x (record { verdict = refl; buffer = refl })
+-- a verdict of all checks, once the working buffer is seen to: an acceptance keeps its table, and after anything else the buffer is filled
+pub reads_kept : (answer : Answer Acceptable) (m : ℕ) (after : List ℕ) (v : Result Acceptance Stop) → verdict_of v after ≡ answer → is_err v ≡ false
+    → Reads answer m v after
+reads_kept answer m after (Ok a) e q = rw (← e) (record { verdict = refl; buffer = refl })
+reads_kept answer m after (Err s) e q = never cc
 
-pub reads_refused : (answer : Answer Acceptable) (m : ℕ) (after last : List ℕ) (v : Result Acceptance Stop) (r : Refusal) → verdict_of v after ≡ answer
-    → v ≡ Err (Refused r) → last ≡ filled m → Reads answer m (Err (Refused r)) last
-reads_refused answer m after last v r e q f =
-    let x : answer ≡ decided (refuse r) = sym e ∙ ap (λ (y : Result Acceptance Stop). verdict_of y after) q in
-    rw x (record { verdict = refl; buffer = f })
-
-pub reads_wanted : (answer : Answer Acceptable) (m : ℕ) (after last : List ℕ) (v : Result Acceptance Stop) (k : ℕ) → verdict_of v after ≡ answer → v ≡ Err (Wanted k)
-    → last ≡ filled m → Reads answer m (Err (Wanted k)) last
-reads_wanted answer m after last v k e q f =
-    let x : answer ≡ wants k = sym e ∙ ap (λ (y : Result Acceptance Stop). verdict_of y after) q in
-    rw x (record { verdict = refl; buffer = f })
-
--- 16 or 17, by the refusal that was made
-pub refuses_as : (f x : Refusal) (m : ℕ) (r : Result (Acceptance × Opening) Refusal) (after : List ℕ) → x ≡ f → Refuses x m r after → Refuses f m r after
-refuses_as f x m r after e h = rw (← e) h
+pub reads_filled : (answer : Answer Acceptable) (m : ℕ) (after last : List ℕ) (v : Result Acceptance Stop) → verdict_of v after ≡ answer → is_err v ≡ true
+    → last ≡ filled m → Reads answer m v last
+reads_filled answer m after last (Ok a) e q f = never cc
+reads_filled answer m after last (Err (Refused r)) e q f = rw (← e) (record { verdict = refl; buffer = f })
+reads_filled answer m after last (Err (Wanted k)) e q f = rw (← e) (record { verdict = refl; buffer = f })
 
 -- ---- the whole-file reader: what it answers, by what checks 1 to 6 and the rest gave
-module _ (p buffer : List ℕ) where
-  file-as : (x : Answer Opening) → run open_plan p ≡ x
-      → file_answer p (length buffer) ≡ whole (length p) (onward x (λ o. run (rest_plan (length buffer) o) p))
+module _ (p : List ℕ) (m : ℕ) where
+  file-as : (x : Answer Opening) → run open_plan p ≡ x → file_answer p m ≡ whole (length p) (onward x (λ o. run (rest_plan m o) p))
   unfolding read_plan
-  file-as x e = ap (whole (length p)) (sym (answer_then open_plan (rest_plan (length buffer)) p x e))
+  file-as x e = ap (whole (length p)) (sym (answer_then open_plan (rest_plan m) p x e))
 
-  -- the answer is a refusal, and a call has made it
-  pub opened_refused : (f : Refusal) (m : ℕ) (r : Result (Acceptance × Opening) Refusal) (after : List ℕ) → Refuses f m r after → m ≡ length buffer
-      → file_answer p (length buffer) ≡ decided (refuse f) → ReadsOpened p buffer r after
-  opened_refused f m r after w e q =
-      rw (w.verdict, w.buffer, e)
-      (record { reads = rw q (record { verdict = refl; buffer = refl }); opens = λ a o z. never cc })
+  -- the answer is the refusal that was made
+  pub whole_refused : (f g : Refusal) (after : List ℕ) → f ≡ g → file_answer p m ≡ decided (refuse g) → WholeAnswer p m (Err f) after
+  whole_refused f g after q e = record { refused = λ r z. let i : f ≡ r = cc in e ∙ ap (λ (x : Refusal). decided (refuse x)) (sym q ∙ i); accepted = λ a o z. never cc }
 
-  pub head_refused : (x : Result Opening Stop) (f : Refusal) → answer_of x ≡ run open_plan p → x ≡ Err (Refused f)
-      → file_answer p (length buffer) ≡ decided (refuse f)
-  head_refused x f e q = file-as (decided (refuse f)) (sym e ∙ ap answer_of q)
-
-  pub head_wanted : (x : Result Opening Stop) (k : ℕ) → answer_of x ≡ run open_plan p → x ≡ Err (Wanted k)
-      → file_answer p (length buffer) ≡ decided (refuse (refusal 16 0 declared_size_at))
-  head_wanted x k e q = file-as (wants k) (sym e ∙ ap answer_of q)
+  pub head_stopped : (x : Result Opening Stop) (s : Stop) → answer_of x ≡ run open_plan p → x ≡ Err s → file_answer p m ≡ decided (refuse (whole_stop s))
+  head_stopped x (Refused f) e q = file-as (decided (refuse f)) (sym e ∙ ap answer_of q)
+  head_stopped x (Wanted k) e q = file-as (wants k) (sym e ∙ ap answer_of q)
 
   module _ (x : Result Opening Stop) (o : Opening) (e : answer_of x ≡ run open_plan p) (q : x ≡ Ok o) (v : Result Acceptance Stop) (after : List ℕ)
-      (rest : verdict_of v after ≡ run (rest_plan (length buffer) o) p) where
+      (rest : verdict_of v after ≡ run (rest_plan m o) p) where
     opened : run open_plan p ≡ decided (accept o)
     opened = sym e ∙ ap answer_of q
 
-    rest-as : (w : Result Acceptance Stop) → v ≡ w → file_answer p (length buffer) ≡ whole (length p) (verdict_of w after)
+    rest-as : (w : Result Acceptance Stop) → v ≡ w → file_answer p m ≡ whole (length p) (verdict_of w after)
     rest-as w z = file-as (decided (accept o)) opened ∙ ap (whole (length p)) (sym rest ∙ ap (λ (y : Result Acceptance Stop). verdict_of y after) z)
 
-    pub rest_refused : (f : Refusal) → v ≡ Err (Refused f) → file_answer p (length buffer) ≡ decided (refuse f)
-    rest_refused f z = rest-as (Err (Refused f)) z
-
-    pub rest_wanted : (k : ℕ) → v ≡ Err (Wanted k) → file_answer p (length buffer) ≡ decided (refuse (refusal 16 0 declared_size_at))
-    rest_wanted k z = rest-as (Err (Wanted k)) z
+    pub rest_stopped : (s : Stop) → v ≡ Err s → file_answer p m ≡ decided (refuse (whole_stop s))
+    rest_stopped (Refused f) z = rest-as (Err (Refused f)) z
+    rest_stopped (Wanted k) z = rest-as (Err (Wanted k)) z
 
     module _ (a : Acceptance) (z : v ≡ Ok a) where
-      pub file_short : length p < a.declared_size → file_answer p (length buffer) ≡ decided (refuse (refusal 16 0 declared_size_at))
+      pub file_short : length p < a.declared_size → file_answer p m ≡ decided (refuse (refusal 16 0 declared_size_at))
       file_short l = rest-as (Ok a) z ∙ rw (lt-ltb _ _ l)
 
-      pub file_long : a.declared_size ≤ length p → a.declared_size < length p
-          → file_answer p (length buffer) ≡ decided (refuse (refusal 17 0 declared_size_at))
+      pub file_long : a.declared_size ≤ length p → a.declared_size < length p → file_answer p m ≡ decided (refuse (refusal 17 0 declared_size_at))
       file_long l h = rest-as (Ok a) z ∙ rw (le-ltb _ _ l, lt-ltb _ _ h)
 
-      pub file_exact : a.declared_size ≤ length p → length p ≤ a.declared_size → ReadsOpened p buffer (Ok (a, o)) after
+      pub file_exact : a.declared_size ≤ length p → length p ≤ a.declared_size → WholeAnswer p m (Ok (a, o)) after
       file_exact l h =
-          let answer : file_answer p (length buffer) ≡ decided (accept (record { fields = a; table = after })) =
-          rest-as (Ok a) z ∙ rw (le-ltb _ _ l, le-ltb _ _ h) in
+          let answer : file_answer p m ≡ decided (accept (record { fields = a; table = after })) = rest-as (Ok a) z ∙ rw (le-ltb _ _ l, le-ltb _ _ h) in
           record {
-            reads = rw answer (record { verdict = refl; buffer = refl });
-            opens = λ b u y. let same : o ≡ u = cc in rw (← same) opened;
+            refused = λ f y. never cc;
+            accepted = λ b u y. let same : (a, o) ≡ (b, u) = cc in
+                (answer ∙ ap (λ (w : Acceptance × Opening). decided (accept (record { fields = w.0; table = after }))) same, opened ∙ ap (λ (w : Acceptance × Opening). decided (accept w.1)) same);
           }
 
-pub ruleset files = (opened_refused, head_refused, head_wanted, rest_refused, rest_wanted, file_short, file_long, file_exact)
+-- the working buffer of `buffer`'s length afterwards
+module _ (p buffer : List ℕ) where
+  pub opened_kept : (r : Result (Acceptance × Opening) Refusal) (after : List ℕ) → WholeAnswer p (length buffer) r after → is_err r ≡ false → ReadsOpened p buffer r after
+  opened_kept (Ok (a, o)) after w q =
+      let t = w.accepted a o refl in
+      record { reads = rw t.0 (record { verdict = refl; buffer = refl }); opens = λ b u y. (w.accepted b u y).1 }
+  opened_kept (Err f) after w q = never cc
 
--- the verdict alone
-pub reads_of : (p buffer : List ℕ) (r x : Result (Acceptance × Opening) Refusal) (after : List ℕ) → ReadsOpened p buffer r after → r ≡ x → ReadsFile p buffer (verdict_in x) after
-reads_of p buffer r x after h e = rw (← e) h.reads
+  pub opened_filled : (r : Result (Acceptance × Opening) Refusal) (after last : List ℕ) → WholeAnswer p (length buffer) r after → is_err r ≡ true
+      → last ≡ filled (length buffer) → ReadsOpened p buffer r last
+  opened_filled (Ok x) after last w q f = never cc
+  opened_filled (Err f) after last w q h = record { reads = rw (w.refused f refl) (record { verdict = refl; buffer = h }); opens = λ a o z. never cc }

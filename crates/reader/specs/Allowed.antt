@@ -1,4 +1,5 @@
 -- DEMAND 2: a file is accepted exactly when document 01's layout allows it, and then every field is the one that layout gives.
+use Rattle.incremental.specs.declared.Refusal.{Refusal}
 use Rattle.std.specs.Prelude.{◌≡◌, List, ◌⊎◌, ℕ, ◌*◌, ◌≤◌, ◌<◌, length}
 use Rattle.little_endian.specs.Number.{le}
 use Rattle.layout.specs.Versions.{version_of, layout_of, head_end, volume_entry, size_limit}
@@ -59,7 +60,7 @@ abbrev pub given_table : Opening → List ℕ → ℕ → List ℕ
 given_table o p m = predecessors (nexts_in o p) m
 
 -- what the whole-file reader's verdict says of the layout
-pub record AcceptedExactly (p buffer : List ℕ) (v : Result Acceptance Stop) (after : List ℕ) : Type 0 where
+pub record AcceptedExactly (p buffer : List ℕ) (v : Result Acceptance Refusal) (after : List ℕ) : Type 0 where
   -- what is accepted is allowed, has a working place for each trace entry that has a next index, and every field and place is the one that the layout gives
   pub sound : (a : Acceptance) → v ≡ Ok a
       → (o : Opening) × Allowed p o × (link_count o.layout o.head ≤ length buffer) × (a ≡ given_record o p) × (after ≡ given_table o p (length buffer))

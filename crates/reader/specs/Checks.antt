@@ -20,7 +20,7 @@ use Rattle.volumes.specs.Volumes.{volumes_from}
 use Rattle.reader.specs.declared.verdict.RunTimes.{RunTimes}
 use Rattle.reader.specs.declared.verdict.Acceptance.{Acceptance}
 use Rattle.reader.specs.Verdict.{Acceptable, Reads, verdict_in}
-use Rattle.std.specs.Prelude.{Ok, Result}
+use Rattle.std.specs.Prelude.{Ok, Err, Result}
 use Rattle.incremental.specs.declared.Refusal.{Refusal}
 use Rattle.incremental.specs.declared.Stop.{Stop}
 
@@ -170,10 +170,14 @@ file_answer p m = whole (length p) (prefix_answer p m)
 abbrev pub ReadsPrefix : List ℕ → List ℕ → Result Acceptance Stop → List ℕ → Type 0
 ReadsPrefix p buffer v after = Reads (prefix_answer p (length buffer)) (length buffer) v after
 
-abbrev pub ReadsFile : List ℕ → List ℕ → Result Acceptance Stop → List ℕ → Type 0
-ReadsFile p buffer v after = Reads (file_answer p (length buffer)) (length buffer) v after
+abbrev pub ReadsFile : List ℕ → List ℕ → Result Acceptance Refusal → List ℕ → Type 0
+ReadsFile p buffer v after = Reads (file_answer p (length buffer)) (length buffer) (verdict_in v) after
 
 -- and of the whole-file reader that hands the opening on: an acceptance comes with what checks 1 to 6 give
+abbrev pub accepted_in : Result (Acceptance × Opening) Refusal → Result Acceptance Refusal
+accepted_in (Ok (a, o)) = Ok a
+accepted_in (Err r) = Err r
+
 pub record ReadsOpened (p buffer : List ℕ) (r : Result (Acceptance × Opening) Refusal) (after : List ℕ) : Type 0 where
-  pub reads : ReadsFile p buffer (verdict_in r) after
+  pub reads : ReadsFile p buffer (accepted_in r) after
   pub opens : (a : Acceptance) (o : Opening) → r ≡ Ok (a, o) → run open_plan p ≡ decided (accept o)

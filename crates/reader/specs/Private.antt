@@ -2,8 +2,11 @@
 use Rattle.std.specs.Prelude.{◌≡◌, List, ℕ, ◌*◌, ◌≤◌}
 use Rattle.lists.specs.Filled.{filled}
 use Rattle.layout.specs.Versions.{volume_entry}
-use Rattle.incremental.specs.Decision.{accept, refuse}
-use Rattle.incremental.specs.Plan.{Answer, decided, wants}
+use Rattle.incremental.specs.Decision.{accept, refuse, refusal}
+use Rattle.layout.specs.Head.{declared_size_at}
+use Rattle.head.specs.Checks.{open_plan}
+use Rattle.reader.specs.Checks.{file_answer}
+use Rattle.incremental.specs.Plan.{Answer, decided, wants, run}
 use Rattle.incremental.specs.declared.Refusal.{Refusal}
 use Rattle.head.specs.declared.checks.Opening.{Opening}
 use Rattle.trace.specs.Links.{chains, predecessors}
@@ -29,7 +32,13 @@ verdict_of (Ok a) after = decided (accept (record { fields = a; table = after })
 verdict_of (Err (Refused r)) after = decided (refuse r)
 verdict_of (Err (Wanted k)) after = wants k
 
--- a file is refused, and the buffer of m places is filled
-pub record Refuses (f : Refusal) (m : ℕ) (r : Result (Acceptance × Opening) Refusal) (after : List ℕ) : Type 0 where
-  pub verdict : r ≡ Err f
-  pub buffer : after ≡ filled m
+-- what stops the checks on a prefix, said of a whole file
+abbrev pub whole_stop : Stop → Refusal
+whole_stop (Refused r) = r
+whole_stop (Wanted k) = refusal 16 0 declared_size_at
+
+-- all checks on a whole file, with a buffer of m places that ends as `after`
+pub record WholeAnswer (p : List ℕ) (m : ℕ) (r : Result (Acceptance × Opening) Refusal) (after : List ℕ) : Type 0 where
+  pub refused : (f : Refusal) → r ≡ Err f → file_answer p m ≡ decided (refuse f)
+  pub accepted : (a : Acceptance) (o : Opening) → r ≡ Ok (a, o)
+      → (file_answer p m ≡ decided (accept (record { fields = a; table = after }))) × (run open_plan p ≡ decided (accept o))

@@ -60,9 +60,9 @@ values_of (Ok a) = accepted_values a
 values_of (Err (Refused r)) = refused_values r
 values_of (Err (Wanted k)) = wanted_values k
 
--- the verdict that each case of the whole-file reader's says; an acceptance there has what checks 1 to 6 gave beside it
-abbrev pub verdict_in : Result (Acceptance × Opening) Refusal → Result Acceptance Stop
-verdict_in (Ok (a, o)) = Ok a
+-- a whole-file reader's verdict makes no request
+abbrev pub verdict_in : Result Acceptance Refusal → Result Acceptance Stop
+verdict_in (Ok a) = Ok a
 verdict_in (Err r) = Err (Refused r)
 
 -- what the checks say

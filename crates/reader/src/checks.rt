@@ -7,42 +7,31 @@ ghost use Rattle.head.specs.Opened.{OpenFacts};
 ghost use Rattle.reader.specs.Checks.{names_required, trace_required, volumes_required};
 ghost use Rattle.reader.specs.Checks.{counts_plan, fits_plan, texts_plan, trace_plan, volumes_plan, rest_plan};
 ghost use Rattle.reader.specs.Checks.{prefix_answer, ReadsPrefix, ReadsFile, ReadsOpened};
-ghost use Rattle.reader.specs.Private.{TraceAnswer, EntriesFit, verdict_of, Refuses};
+ghost use Rattle.reader.specs.Private.{TraceAnswer, EntriesFit, verdict_of, whole_stop, WholeAnswer};
 
-use crate::verdict::{FileVerdict, Verdict};
-use head::{OpenAnswer, Opening};
-use incremental::{Checked, Fault, Outcome, Refusal};
-use trace::Links;
+use crate::verdict::Acceptance;
+use head::Opening;
+use incremental::{Refusal, Stop, check, reach};
+use names::Entries;
 
 // A file has entries and no table of pairs.
 const NO_PAIRS: [u32; 0] = [];
 
-// What checks 11 to 13 answer on a prefix: the chain count, where they pass.
-#[derive(Clone, Copy)]
-enum TraceOutcome {
-    Chains(usize),
-    Refused(Refusal),
-    Wanted(usize),
-}
-
 // Checks 7 and 8, with so many places in the working buffer.
-fn check_counts(file: &[u8], o: Opening, places: usize) -> Outcome
+fn check_counts(file: &[u8], o: Opening, places: usize) -> Result<(), Stop>
     ensures { answer_of result ≡ run (counts_plan places o) file.now }
 {
     let volumes = o.head.volumes;
-    let entry = o.layout.volume_entry;
-    let required = o.layout.head_end as usize;
-    if file.len() < required {
-        return Outcome::Wanted(required);
-    }
-    let links = sections::link_count(o.layout, o.head);
-    if let Fault::At(i, at) = sections::places_fault(places, links) {
-        return Outcome::Refused(incremental::refuse(7, i, at));
-    }
-    if let Fault::At(i, at) = sections::entries_fault(volumes.count, entry, volumes.len) {
-        return Outcome::Refused(incremental::refuse(8, i, at));
-    }
-    Outcome::Passed
+    reach(file, o.layout.head_end as usize)?;
+    check(
+        7,
+        sections::places_fault(places, sections::link_count(o.layout, o.head)),
+    )?;
+    check(
+        8,
+        sections::entries_fault(volumes.count, o.layout.volume_entry, volumes.len),
+    )?;
+    Ok(())
 }
 
 // Document 01: the reach of check 10.
@@ -52,50 +41,45 @@ fn names_required(o: Opening) -> usize
     if o.head.metrics.count == 0 {
         return o.layout.head_end as usize;
     }
-    if o.head.metrics.end <= o.head.strings.end {
-        o.head.strings.end
-    } else {
-        o.head.metrics.end
-    }
+    o.head.metrics.end.max(o.head.strings.end)
 }
 
 // Check 9.
-fn check_fits(file: &[u8], o: Opening) -> Outcome
+fn check_fits(file: &[u8], o: Opening) -> Result<(), Stop>
     ensures { answer_of result ≡ run (fits_plan o) file.now }
 {
-    let l = o.layout;
-    let metrics = o.head.metrics;
-    let count = metrics.count;
-    let size = o.head.strings.len;
-    let required = metrics.end;
-    if file.len() < required {
-        return Outcome::Wanted(required);
-    }
-    let entries = sections::part_of(&file[..required], metrics);
-    if let Fault::At(i, at) = names::misfit_fault(entries, &NO_PAIRS, l, metrics.at, count, size) {
-        return Outcome::Refused(incremental::refuse(9, i, at));
-    }
-    Outcome::Passed
+    let layout = o.layout;
+    let section = o.head.metrics;
+    let metrics = sections::part_of(reach(file, section.end)?, section);
+    let names = Entries { metrics, layout };
+    check(
+        9,
+        names::misfit_fault(
+            &names,
+            layout,
+            section.at,
+            section.count,
+            o.head.strings.len,
+        ),
+    )?;
+    Ok(())
 }
 
 // Check 10.
-fn check_texts(file: &[u8], o: Opening) -> Outcome
+fn check_texts(file: &[u8], o: Opening) -> Result<(), Stop>
     ensures { answer_of result ≡ run (texts_plan o) file.now }
 {
-    let l = o.layout;
-    let metrics = o.head.metrics;
-    let count = metrics.count;
-    let strings = o.head.strings;
-    let required = names_required(o);
-    if file.len() < required {
-        return Outcome::Wanted(required);
-    }
-    let entries = sections::part_of(&file[..required], metrics);
-    let text = sections::part_of(&file[..required], strings);
-    if let Fault::At(i, at) = names::unsound_fault(entries, &NO_PAIRS, l, metrics.at, count, text) {
-        return Outcome::Refused(incremental::refuse(10, i, at));
-    }
-    Outcome::Passed
+    let layout = o.layout;
+    let section = o.head.metrics;
+    let known = reach(file, names_required(o))?;
+    let metrics = sections::part_of(known, section);
+    let strings = sections::part_of(known, o.head.strings);
+    let names = Entries { metrics, layout };
+    check(
+        10,
+        names::unsound_fault(&names, layout, section.at, section.count, strings),
+    )?;
+    Ok(())
 }
 
 // Document 01: the reach of checks 11 to 13.
@@ -108,30 +92,24 @@ fn trace_required(o: Opening) -> usize
     o.layout.head_end as usize
 }
 
-// Checks 11 to 13. Where they pass, the buffer is the table of predecessors.
-fn check_trace(file: &[u8], o: Opening, predecessors: &mut [u32]) -> TraceOutcome
+// Checks 11 to 13: the chain count. Where they pass, the buffer is the table of predecessors.
+fn check_trace(file: &[u8], o: Opening, predecessors: &mut [u32]) -> Result<usize, Stop>
     requires { link_count o.layout o.head ≤ length predecessors.old }
     ensures { TraceAnswer (run (trace_plan o) file.now) (length predecessors.old) result predecessors.new }
 {
-    let l = o.layout;
-    let head = o.head;
-    let section = head.trace;
-    let required = trace_required(o);
-    if file.len() < required {
-        return TraceOutcome::Wanted(required);
-    }
-    let links = sections::part_of(&file[..required], section);
-    match trace::check_links(
-        links,
+    let layout = o.layout;
+    let section = o.head.trace;
+    let entries = sections::part_of(reach(file, trace_required(o))?, section);
+    let count = sections::link_count(layout, o.head);
+    let chains = trace::check_links(
+        entries,
         &NO_PAIRS,
         section.at,
-        l.trace_entry,
-        sections::link_count(l, head),
+        layout.trace_entry,
+        count,
         predecessors,
-    ) {
-        Links::Chains(n) => TraceOutcome::Chains(n),
-        Links::Refused(r) => TraceOutcome::Refused(r),
-    }
+    )?;
+    Ok(chains)
 }
 
 // Document 01: the reach of checks 14 and 15.
@@ -145,138 +123,103 @@ fn volumes_required(o: Opening) -> usize
 }
 
 // Checks 14 and 15, where 8 has passed.
-fn check_volumes(file: &[u8], o: Opening) -> Outcome
+fn check_volumes(file: &[u8], o: Opening) -> Result<(), Stop>
     requires { OpenFacts file.now o × EntriesFit o }
     ensures { answer_of result ≡ run (volumes_plan o) file.now }
 {
-    let l = o.layout;
     let section = o.head.volumes;
-    let required = volumes_required(o);
-    if file.len() < required {
-        return Outcome::Wanted(required);
-    }
-    match volumes::check_volumes(
-        sections::part_of(&file[..required], section),
-        l,
-        section.at,
-        section.count,
-    ) {
-        Checked::Passed => Outcome::Passed,
-        Checked::Refused(r) => Outcome::Refused(r),
-    }
+    let volumes = sections::part_of(reach(file, volumes_required(o))?, section);
+    volumes::check_volumes(volumes, o.layout, section.at, section.count)?;
+    Ok(())
 }
 
 // Checks 7 to 15 and the record.
-fn check_rest(file: &[u8], o: Opening, predecessors: &mut [u32]) -> Verdict
+fn check_rest(file: &[u8], o: Opening, predecessors: &mut [u32]) -> Result<Acceptance, Stop>
     requires { OpenFacts file.now o }
     ensures { verdict_of result predecessors.new ≡ run (rest_plan (length predecessors.old) o) file.now }
 {
-    match check_counts(file, o, predecessors.len()) {
-        Outcome::Passed => {}
-        Outcome::Refused(r) => return Verdict::Refused(r),
-        Outcome::Wanted(k) => return Verdict::Wanted(k),
-    }
-    match check_fits(file, o) {
-        Outcome::Passed => {}
-        Outcome::Refused(r) => return Verdict::Refused(r),
-        Outcome::Wanted(k) => return Verdict::Wanted(k),
-    }
-    match check_texts(file, o) {
-        Outcome::Passed => {}
-        Outcome::Refused(r) => return Verdict::Refused(r),
-        Outcome::Wanted(k) => return Verdict::Wanted(k),
-    }
-    let chains = match check_trace(file, o, predecessors) {
-        TraceOutcome::Chains(n) => n,
-        TraceOutcome::Refused(r) => return Verdict::Refused(r),
-        TraceOutcome::Wanted(k) => return Verdict::Wanted(k),
-    };
-    match check_volumes(file, o) {
-        Outcome::Passed => {
-            let h = o.layout.head_end as usize;
-            Verdict::Accepted(crate::verdict::record_of(o, &file[..h], chains))
-        }
-        Outcome::Refused(r) => Verdict::Refused(r),
-        Outcome::Wanted(k) => Verdict::Wanted(k),
-    }
+    check_counts(file, o, predecessors.len())?;
+    check_fits(file, o)?;
+    check_texts(file, o)?;
+    let chains = check_trace(file, o, predecessors)?;
+    check_volumes(file, o)?;
+    let end = o.layout.head_end as usize;
+    Ok(crate::verdict::record_of(o, &file[..end], chains))
 }
 
 // All checks. Where they accept, the buffer is the table.
-fn check_all(file: &[u8], predecessors: &mut [u32]) -> Verdict
+fn check_all(file: &[u8], predecessors: &mut [u32]) -> Result<Acceptance, Stop>
     ensures { verdict_of result predecessors.new ≡ prefix_answer file.now (length predecessors.old) }
 {
-    match head::read_open(file) {
-        OpenAnswer::Opened(o) => check_rest(file, o, predecessors),
-        OpenAnswer::Refused(r) => Verdict::Refused(r),
-        OpenAnswer::Wanted(k) => Verdict::Wanted(k),
-    }
+    let opening = head::read_open(file)?;
+    check_rest(file, opening, predecessors)
 }
 
 // The verdict on a prefix of a file.
-pub fn read_prefix(file: &[u8], predecessors: &mut [u32]) -> Verdict
+pub fn read_prefix(file: &[u8], predecessors: &mut [u32]) -> Result<Acceptance, Stop>
     ensures { ReadsPrefix file.now predecessors.old result predecessors.new }
 {
-    match check_all(file, predecessors) {
-        Verdict::Accepted(a) => Verdict::Accepted(a),
-        Verdict::Refused(r) => {
-            lists::fill(predecessors);
-            Verdict::Refused(r)
-        }
-        Verdict::Wanted(k) => {
-            lists::fill(predecessors);
-            Verdict::Wanted(k)
-        }
+    let verdict = check_all(file, predecessors);
+    if verdict.is_err() {
+        lists::fill(predecessors);
     }
-}
-
-// A file that is refused; the buffer is filled.
-fn refused(r: Refusal, predecessors: &mut [u32]) -> FileVerdict
-    ensures { Refuses r (length predecessors.old) result predecessors.new }
-{
-    lists::fill(predecessors);
-    FileVerdict::Refused(r)
+    verdict
 }
 
 // Refusal 16 or 17 of a file that is not as long as it says.
-fn wrong_length(number: u32, predecessors: &mut [u32]) -> FileVerdict
-    ensures { Refuses (refusal number 0 declared_size_at) (length predecessors.old) result predecessors.new }
+fn wrong_length(number: u32) -> Refusal
+    ensures { result ≡ refusal number 0 declared_size_at }
 {
-    refused(
-        incremental::refuse(number, 0, layout::DECLARED_SIZE_AT),
-        predecessors,
-    )
+    incremental::refuse(number, 0, layout::DECLARED_SIZE_AT)
+}
+
+// What stops the checks on a prefix, said of a whole file: no more bytes will come, so what is wanted is missing.
+fn whole_stop(stop: Stop) -> Refusal
+    ensures { result ≡ whole_stop stop }
+{
+    match stop {
+        Stop::Refused(refusal) => refusal,
+        Stop::Wanted(_) => wrong_length(16),
+    }
+}
+
+// All checks on a whole file, with what 1 to 6 give.
+fn check_whole(file: &[u8], predecessors: &mut [u32]) -> Result<(Acceptance, Opening), Refusal>
+    ensures { WholeAnswer file.now (length predecessors.old) result predecessors.new }
+{
+    let opening = match head::read_open(file) {
+        Ok(o) => o,
+        Err(stop) => return Err(whole_stop(stop)),
+    };
+    let accepted = match check_rest(file, opening, predecessors) {
+        Ok(a) => a,
+        Err(stop) => return Err(whole_stop(stop)),
+    };
+    let size = accepted.declared_size as usize;
+    if file.len() < size {
+        return Err(wrong_length(16));
+    }
+    if size < file.len() {
+        return Err(wrong_length(17));
+    }
+    Ok((accepted, opening))
 }
 
 // The verdict on a whole file, with what checks 1 to 6 give, for those who go on from there.
-pub fn read_opened(file: &[u8], predecessors: &mut [u32]) -> FileVerdict
+pub fn read_opened(file: &[u8], predecessors: &mut [u32]) -> Result<(Acceptance, Opening), Refusal>
     ensures { ReadsOpened file.now predecessors.old result predecessors.new }
 {
-    match head::read_open(file) {
-        OpenAnswer::Opened(o) => match check_rest(file, o, predecessors) {
-            Verdict::Accepted(a) => {
-                let size = a.declared_size as usize;
-                if file.len() < size {
-                    return wrong_length(16, predecessors);
-                }
-                if size < file.len() {
-                    return wrong_length(17, predecessors);
-                }
-                FileVerdict::Accepted(a, o)
-            }
-            Verdict::Refused(r) => refused(r, predecessors),
-            Verdict::Wanted(_) => wrong_length(16, predecessors),
-        },
-        OpenAnswer::Refused(r) => refused(r, predecessors),
-        OpenAnswer::Wanted(_) => wrong_length(16, predecessors),
+    let verdict = check_whole(file, predecessors);
+    if verdict.is_err() {
+        lists::fill(predecessors);
     }
+    verdict
 }
 
 // The verdict on a whole file.
-pub fn read_file(file: &[u8], predecessors: &mut [u32]) -> Verdict
+pub fn read_file(file: &[u8], predecessors: &mut [u32]) -> Result<Acceptance, Refusal>
     ensures { ReadsFile file.now predecessors.old result predecessors.new }
 {
-    match read_opened(file, predecessors) {
-        FileVerdict::Accepted(a, _) => Verdict::Accepted(a),
-        FileVerdict::Refused(r) => Verdict::Refused(r),
-    }
+    let (accepted, _) = read_opened(file, predecessors)?;
+    Ok(accepted)
 }

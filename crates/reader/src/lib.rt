@@ -5,4 +5,4 @@ mod checks;
 mod verdict;
 
 pub use checks::{read_file, read_opened, read_prefix};
-pub use verdict::{Acceptance, FileVerdict, RunTimes, Verdict};
+pub use verdict::{Acceptance, RunTimes};

@@ -2,11 +2,10 @@ ghost use Rattle.std.specs.Prelude.{◌≡◌};
 ghost use Rattle.reader.specs.Checks.{time_at, times_in, record_of};
 
 use head::Opening;
-use incremental::Refusal;
 use layout::Layout;
 
 // How many run times a version has, and eight of them, the latest first, as they stand; those that it does not have are 0.
-#[derive(Clone, Copy)]
+#[derive(Clone, Copy, Debug, PartialEq, Eq)]
 pub struct RunTimes {
     pub count: u32,
     pub latest: u64,
@@ -20,7 +19,7 @@ pub struct RunTimes {
 }
 
 // What a file says of its program.
-#[derive(Clone, Copy)]
+#[derive(Clone, Copy, Debug, PartialEq, Eq)]
 pub struct Acceptance {
     pub version: u32,
     pub declared_size: u32,
@@ -32,20 +31,6 @@ pub struct Acceptance {
     pub trace_count: u32,
     pub volume_count: u32,
     pub chain_count: usize,
-}
-
-#[derive(Clone, Copy)]
-pub enum Verdict {
-    Accepted(Acceptance),
-    Refused(Refusal),
-    Wanted(usize),
-}
-
-// The verdict on a whole file: what it says, with what checks 1 to 6 give, or the refusal.
-#[derive(Clone, Copy)]
-pub enum FileVerdict {
-    Accepted(Acceptance, Opening),
-    Refused(Refusal),
 }
 
 // Run time j of a version, from the first bytes of a file.
@@ -78,17 +63,16 @@ fn times_in(l: Layout, b: &[u8]) -> RunTimes
 pub(crate) fn record_of(o: Opening, b: &[u8], chains: usize) -> Acceptance
     ensures { result ≡ record_of o b.now chains }
 {
-    let v = o.version;
     let l = o.layout;
     let times = times_in(l, b);
     let run_count = l.run_count_at as usize;
     let head = o.head;
     Acceptance {
-        version: v.number(),
+        version: u32::from(o.version),
         declared_size: little_endian::u32_at(b, layout::DECLARED_SIZE_AT),
         name_units: o.name_units,
         stored_hash: little_endian::u32_at(b, layout::STORED_HASH_AT),
-        times: times,
+        times,
         run_count: little_endian::u32_at(b, run_count),
         metrics_count: head.metrics.count,
         trace_count: head.trace.count,

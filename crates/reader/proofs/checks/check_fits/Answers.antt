@@ -1,16 +1,20 @@
 -- The plan of check 9, line by line.
-use native.Mathlib.Omega.{arith}
-use Rattle.reader.proofs.Stages.{fits_short, fits_refused, fits_pass}
-use native.Mathlib.Omega.{arith}
+use Rattle.incremental.proofs.Plan.{exit_wanted, exit_refused, reach_wants}
+use Rattle.reader.proofs.Stages.{fits_refused, fits_pass}
+use Rattle.reader.specs.Checks.{fits_plan}
 use Rattle.reader.proofs.checks.check_fits.Goals as goal
 
-pub returns-in-At : goal.returns-in-At
-returns-in-At c =
-    fits_refused _ _ _ (omega arith) c.part_of-entries.ensures.contents _ c.misfit_fault.ensures _ _ _ c.in-At.is c.refuse.ensures
+pub returns-in_err-reach : goal.returns-in_err-reach
+unfolding fits_plan
+returns-in_err-reach c = exit_wanted _ _ _ _ c.from_residual.ensures.1 c.in_err-reach.ensures.1 (reach_wants _ _ _ c.in_err-reach.ensures.0)
 
-pub returns-then-file-required : goal.returns-then-file-required
-returns-then-file-required c = fits_short _ _ c.if-file-required.true
+pub returns-in_err-check : goal.returns-in_err-check
+unfolding fits_plan
+returns-in_err-check c = 
+    exit_refused _ _ _ c.from_residual-in_err-check.ensures.1
+    (fits_refused c.args.o _ _ c.in_ok-reach.ensures.0 c.in_ok-reach.ensures.1 _ c.part_of-metrics.ensures.contents _ c.misfit_fault.ensures _ c.in_err-check.ensures)
 
 pub returns : goal.returns
-returns c =
-    fits_pass _ _ _ (omega arith) c.part_of-entries.ensures.contents _ c.misfit_fault.ensures c.in_default.is
+unfolding fits_plan
+returns c = 
+    fits_pass c.args.o _ _ c.in_ok-reach.ensures.0 c.in_ok-reach.ensures.1 _ c.part_of-metrics.ensures.contents _ c.misfit_fault.ensures _ c.in_ok-check.ensures

@@ -1,72 +1,68 @@
 -- Each way out is that of the stage that was called last; those before it passed.
-use mathlib.Core.Path.{refl}
+use mathlib.Core.Path.{refl, sym}
 use lib.ListN.{length-take}
 use native.Mathlib.Omega.{arith}
-use Rattle.incremental.proofs.Plan.{reach_on}
-use Rattle.reader.specs.Checks.{rest_plan}
-use Rattle.reader.proofs.Stages.{stages, stage_then, last_stage, given_record}
+use Rattle.incremental.proofs.Plan.{then_on, then_stops, reach_on}
+use Rattle.reader.specs.Checks.{counts_plan, fits_plan, texts_plan, trace_plan, volumes_plan, rest_plan}
+use Rattle.reader.proofs.Stages.{verdict_exit, trace_stops, counts_met, given_record}
 use Rattle.reader.proofs.checks.check_rest.Goals as goal
 
-pub returns-in-Wanted-check_texts : goal.returns-in-Wanted-check_texts
+pub returns-in_err-check_counts : goal.returns-in_err-check_counts
 unfolding rest_plan
-returns-in-Wanted-check_texts c = search stages depth 16
+returns-in_err-check_counts c =
+    verdict_exit _ _ _ _ c.from_residual.ensures.1 (then_stops (counts_plan _ _) _ _ _ c.in_err-check_counts.ensures)
+
+pub returns-in_err-check_fits : goal.returns-in_err-check_fits
+unfolding rest_plan
+returns-in_err-check_fits c =
+    verdict_exit _ _ _ _ c.from_residual-in_err-check_fits.ensures.1
+    (then_on (counts_plan _ _) _ _ _ _ c.in_ok-check_counts.ensures
+    (then_stops (fits_plan _) _ _ _ c.in_err-check_fits.ensures))
+
+pub returns-in_err-check_texts : goal.returns-in_err-check_texts
+unfolding rest_plan
+returns-in_err-check_texts c =
+    verdict_exit _ _ _ _ c.from_residual-in_err-check_texts.ensures.1
+    (then_on (counts_plan _ _) _ _ _ _ c.in_ok-check_counts.ensures
+    (then_on (fits_plan _) _ _ _ _ c.in_ok-check_fits.ensures
+    (then_stops (texts_plan _) _ _ _ c.in_err-check_texts.ensures)))
 
 pub check_trace-requires : goal.check_trace-requires
+check_trace-requires c = (counts_met _ _ _ _ c.in_ok-check_counts.ensures).0
+
+pub returns-in_err-chains : goal.returns-in_err-chains
 unfolding rest_plan
-check_trace-requires c = search stages depth 4
-
-pub returns-in-Refused-check_fits : goal.returns-in-Refused-check_fits
-unfolding rest_plan
-returns-in-Refused-check_fits c = search stages depth 16
-
-pub returns-in-Refused-check_texts : goal.returns-in-Refused-check_texts
-unfolding rest_plan
-returns-in-Refused-check_texts c = search stages depth 16
-
-pub returns-in-Refused-check_volumes : goal.returns-in-Refused-check_volumes
-returns-in-Refused-check_volumes c =
-    last_stage _ _ _ _ c.check_counts.ensures c.in-Passed.is _ c.check_fits.ensures c.in-Passed-check_fits.is _
-    c.check_texts.ensures c.in-Passed-check_texts.is _ _ c.check_trace.ensures _ c.in-Chains.is _
-    (stage_then _ _ _ _ _ _ c.check_volumes.ensures c.in-Refused-check_volumes.is refl)
-
-pub returns-in-Wanted : goal.returns-in-Wanted
-unfolding rest_plan
-returns-in-Wanted c = search stages depth 16
-
-pub returns-in-Passed-check_volumes : goal.returns-in-Passed-check_volumes
-returns-in-Passed-check_volumes c =
-    let t = c.check_trace.ensures.passed _ c.in-Chains.is in
-    last_stage _ _ _ _ c.check_counts.ensures c.in-Passed.is _ c.check_fits.ensures c.in-Passed-check_fits.is _
-    c.check_texts.ensures c.in-Passed-check_texts.is _ _ c.check_trace.ensures _ c.in-Chains.is _
-    (stage_then _ _ _ _ _ _ c.check_volumes.ensures c.in-Passed-check_volumes.is
-    (reach_on _ _ _ _ c.requires.whole (given_record _ _ _ _ _ _ _ _ c.record_of.ensures t.2 t.3)))
-
-pub returns-in-Wanted-check_fits : goal.returns-in-Wanted-check_fits
-unfolding rest_plan
-returns-in-Wanted-check_fits c = search stages depth 16
-
-pub returns-in-Wanted-check_trace : goal.returns-in-Wanted-check_trace
-unfolding rest_plan
-returns-in-Wanted-check_trace c = search stages depth 16
-
-pub returns-in-Refused : goal.returns-in-Refused
-unfolding rest_plan
-returns-in-Refused c = search stages depth 16
-
-pub slice_bounds-record_of-end : goal.slice_bounds-record_of-end
-slice_bounds-record_of-end c =
-    simp length-take (omega (arith, c.requires.whole))
-
-pub returns-in-Wanted-check_volumes : goal.returns-in-Wanted-check_volumes
-returns-in-Wanted-check_volumes c =
-    last_stage _ _ _ _ c.check_counts.ensures c.in-Passed.is _ c.check_fits.ensures c.in-Passed-check_fits.is _
-    c.check_texts.ensures c.in-Passed-check_texts.is _ _ c.check_trace.ensures _ c.in-Chains.is _
-    (stage_then _ _ _ _ _ _ c.check_volumes.ensures c.in-Wanted-check_volumes.is refl)
-
-pub returns-in-Refused-check_trace : goal.returns-in-Refused-check_trace
-unfolding rest_plan
-returns-in-Refused-check_trace c = search stages depth 16
+returns-in_err-chains c =
+    verdict_exit _ _ _ _ c.from_residual-in_err-chains.ensures.1
+    (then_on (counts_plan _ _) _ _ _ _ c.in_ok-check_counts.ensures
+    (then_on (fits_plan _) _ _ _ _ c.in_ok-check_fits.ensures
+    (then_on (texts_plan _) _ _ _ _ c.in_ok-check_texts.ensures
+    (then_stops (trace_plan _) _ _ _ (trace_stops _ _ _ _ c.in_err-chains.ensures)))))
 
 pub check_volumes-requires : goal.check_volumes-requires
+check_volumes-requires c = (c.requires, (counts_met _ _ _ _ c.in_ok-check_counts.ensures).1)
+
+pub returns-in_err-check_volumes : goal.returns-in_err-check_volumes
 unfolding rest_plan
-check_volumes-requires c = search stages depth 4
+returns-in_err-check_volumes c =
+    let t = c.in_ok-chains.ensures.passed _ refl in
+    verdict_exit _ _ _ _ c.from_residual-in_err-check_volumes.ensures.1
+    (then_on (counts_plan _ _) _ _ _ _ c.in_ok-check_counts.ensures
+    (then_on (fits_plan _) _ _ _ _ c.in_ok-check_fits.ensures
+    (then_on (texts_plan _) _ _ _ _ c.in_ok-check_texts.ensures
+    (then_on (trace_plan _) _ _ _ _ (sym t.1)
+    (then_stops (volumes_plan _) _ _ _ c.in_err-check_volumes.ensures)))))
+
+pub slice_bounds-record_of-end : goal.slice_bounds-record_of-end
+slice_bounds-record_of-end c = simp length-take (omega (arith, c.requires.whole))
+
+pub returns : goal.returns
+unfolding rest_plan
+returns c =
+    let t = c.in_ok-chains.ensures.passed _ refl in
+    then_on (counts_plan _ _) _ _ _ _ c.in_ok-check_counts.ensures
+    (then_on (fits_plan _) _ _ _ _ c.in_ok-check_fits.ensures
+    (then_on (texts_plan _) _ _ _ _ c.in_ok-check_texts.ensures
+    (then_on (trace_plan _) _ _ _ _ (sym t.1)
+    (then_on (volumes_plan _) _ _ _ _ c.in_ok-check_volumes.ensures
+    (reach_on _ _ _ _ _ c.requires.whole refl (given_record _ _ _ _ _ _ _ _ c.record_of.ensures t.2 t.3))))))

@@ -1,18 +1,18 @@
 -- The plan of check 10, line by line; a call gives its required length.
-use native.Mathlib.Omega.{arith}
+use Rattle.incremental.proofs.Plan.{exit_wanted, exit_refused}
 use Rattle.reader.proofs.Stages.{texts_short, texts_refused, texts_pass}
-use native.Mathlib.Omega.{arith}
 use Rattle.reader.proofs.checks.check_texts.Goals as goal
 
-pub returns-in-At : goal.returns-in-At
-returns-in-At c =
-    texts_refused _ _ _ c.names_required-required.ensures _ _ (omega arith) c.part_of-entries.ensures.contents
-    c.part_of-text.ensures.contents _ c.unsound_fault.ensures _ _ _ c.in-At.is c.refuse.ensures
+pub returns-in_err-known : goal.returns-in_err-known
+returns-in_err-known c = exit_wanted _ _ _ _ c.from_residual.ensures.1 c.in_err-known.ensures.1 (texts_short c.args.o _ _ c.names_required.ensures c.in_err-known.ensures.0)
 
-pub returns-then-file-required : goal.returns-then-file-required
-returns-then-file-required c = texts_short _ _ _ c.names_required-required.ensures c.if-file-required.true
+pub returns-in_err-check : goal.returns-in_err-check
+returns-in_err-check c = 
+    exit_refused _ _ _ c.from_residual-in_err-check.ensures.1
+    (texts_refused c.args.o _ _ c.names_required.ensures _ c.in_ok-known.ensures.0 c.in_ok-known.ensures.1 _ _ c.part_of-metrics.ensures.contents
+    c.part_of-strings.ensures.contents _ c.unsound_fault.ensures _ c.in_err-check.ensures)
 
 pub returns : goal.returns
-returns c =
-    texts_pass _ _ _ c.names_required-required.ensures _ _ (omega arith) c.part_of-entries.ensures.contents c.part_of-text.ensures.contents _
-    c.unsound_fault.ensures c.in_default.is
+returns c = 
+    texts_pass c.args.o _ _ c.names_required.ensures _ c.in_ok-known.ensures.0 c.in_ok-known.ensures.1 _ _ c.part_of-metrics.ensures.contents
+    c.part_of-strings.ensures.contents _ c.unsound_fault.ensures _ c.in_ok-check.ensures

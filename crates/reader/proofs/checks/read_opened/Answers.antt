@@ -1,28 +1,12 @@
--- What is accepted is held against its declared size: 16 where it is shorter, 17 where longer; a wanted length is 16 too.
-use Rattle.head.proofs.Facts.{open_met}
-use Rattle.reader.proofs.Readers.{files}
+-- The checks give the verdict; an accepted file keeps its table, and else the buffer is filled.
+use mathlib.Core.Path.{sym, ap, ◌∙◌}
+use Rattle.lists.specs.Filled.{filled}
+use Rattle.reader.proofs.Readers.{opened_kept, opened_filled}
 use Rattle.reader.proofs.checks.read_opened.Goals as goal
 
-pub returns-then-size-file : goal.returns-then-size-file
-returns-then-size-file c = search files depth 6
+pub returns-then-is_err : goal.returns-then-is_err
+returns-then-is_err c = 
+    opened_filled _ _ _ _ _ c.check_whole-verdict.ensures (sym c.is_err.ensures.value ∙ c.if-is_err.true) (c.fill.ensures ∙ ap filled c.check_whole-verdict.auto.predecessors)
 
-pub returns-in-Refused : goal.returns-in-Refused
-returns-in-Refused c = search files depth 6
-
-pub returns-in-Refused-check_rest : goal.returns-in-Refused-check_rest
-returns-in-Refused-check_rest c = search files depth 6
-
-pub returns-then-file-size : goal.returns-then-file-size
-returns-then-file-size c = search files depth 6
-
-pub returns-else-size-file : goal.returns-else-size-file
-returns-else-size-file c = search files depth 6
-
-pub returns-in-Wanted-check_rest : goal.returns-in-Wanted-check_rest
-returns-in-Wanted-check_rest c = search files depth 6
-
-pub returns-in-Wanted : goal.returns-in-Wanted
-returns-in-Wanted c = search files depth 6
-
-pub check_rest-requires : goal.check_rest-requires
-check_rest-requires c = search open_met
+pub returns-else-is_err : goal.returns-else-is_err
+returns-else-is_err c = opened_kept _ _ _ _ c.check_whole-verdict.ensures (sym c.is_err.ensures.value ∙ c.if-is_err.false)

@@ -1,16 +1,12 @@
--- The checks give the verdict; an accepted file keeps its table, and in the two other cases the buffer is filled.
-use Rattle.reader.proofs.Readers.{reads_accepted, reads_refused, reads_wanted}
-use mathlib.Core.Path.{ap, ◌∙◌}
+-- The checks give the verdict; an accepted file keeps its table, and else the buffer is filled.
+use mathlib.Core.Path.{sym, ap, ◌∙◌}
 use Rattle.lists.specs.Filled.{filled}
+use Rattle.reader.proofs.Readers.{reads_kept, reads_filled}
 use Rattle.reader.proofs.checks.read_prefix.Goals as goal
 
-pub returns-in-Refused : goal.returns-in-Refused
-returns-in-Refused c =
-    reads_refused _ _ _ _ _ _ c.check_all.ensures c.in-Refused.is (c.fill.ensures ∙ ap filled c.check_all.auto.predecessors)
+pub returns-then-is_err : goal.returns-then-is_err
+returns-then-is_err c = 
+    reads_filled _ _ _ _ _ c.check_all-verdict.ensures (sym c.is_err.ensures.value ∙ c.if-is_err.true) (c.fill.ensures ∙ ap filled c.check_all-verdict.auto.predecessors)
 
-pub returns-in-Wanted : goal.returns-in-Wanted
-returns-in-Wanted c =
-    reads_wanted _ _ _ _ _ _ c.check_all.ensures c.in-Wanted.is (c.fill-in-Wanted.ensures ∙ ap filled c.check_all.auto.predecessors)
-
-pub returns-in-Accepted : goal.returns-in-Accepted
-returns-in-Accepted c = reads_accepted _ _ _ _ _ c.check_all.ensures c.in-Accepted.is
+pub returns-else-is_err : goal.returns-else-is_err
+returns-else-is_err c = reads_kept _ _ _ _ c.check_all-verdict.ensures (sym c.is_err.ensures.value ∙ c.if-is_err.false)
