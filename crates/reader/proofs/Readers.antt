@@ -16,7 +16,7 @@ use Rattle.incremental.specs.Plan.{answer_of}
 use Rattle.head.specs.declared.checks.Opening.{Opening}
 use Rattle.reader.specs.declared.verdict.Acceptance.{Acceptance}
 use Rattle.reader.specs.Verdict.{Acceptable, Reads}
-use Rattle.reader.specs.Checks.{rest_plan, read_plan, whole, file_answer, ReadsFile, ReadsOpened}
+use Rattle.reader.specs.Checks.{rest_plan, read_plan, whole, file_answer, ReadsOpened}
 use Rattle.reader.specs.Private.{verdict_of, whole_stop, WholeAnswer}
 use Rattle.std.specs.Prelude.{Err, Ok, Result, is_err, true, false}
 use Rattle.incremental.specs.declared.Stop.TheVariants.{Refused, Wanted}

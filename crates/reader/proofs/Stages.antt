@@ -30,7 +30,7 @@ use Rattle.volumes.proofs.Laws.{volumes_room}
 use Rattle.reader.specs.declared.verdict.Acceptance.{Acceptance}
 use Rattle.reader.specs.Verdict.{Acceptable}
 use Rattle.reader.specs.Checks.{names_in, trace_required, names_required, volumes_required, link_at, record_of}
-use Rattle.reader.specs.Checks.{counts_plan, fits_plan, texts_plan, trace_plan, volumes_plan, rest_plan}
+use Rattle.reader.specs.Checks.{counts_plan, fits_plan, texts_plan, trace_plan, volumes_plan}
 use Rattle.reader.specs.Private.{TraceAnswer, EntriesFit, verdict_of}
 use Rattle.std.specs.Result.{IsErrAnd}
 use Rattle.std.proofs.lemmas.Result.{err_from_is_err_and}

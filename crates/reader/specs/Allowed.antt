@@ -14,7 +14,6 @@ use Rattle.volumes.specs.SoundVolume.{SoundVolume}
 use Rattle.reader.specs.declared.verdict.Acceptance.{Acceptance}
 use Rattle.reader.specs.Checks.{nexts_in, record_of}
 use Rattle.std.specs.Prelude.{Ok, Result, Some}
-use Rattle.incremental.specs.declared.Stop.{Stop}
 
 -- what the layout allows of the bytes `p`: the version, its constants, the name's length and the sections are those of `o`
 pub record Allowed (p : List ℕ) (o : Opening) : Type 0 where

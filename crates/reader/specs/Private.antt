@@ -1,6 +1,5 @@
 -- What only private contracts need: what each stage answers, and what is known after it.
 use Rattle.std.specs.Prelude.{◌≡◌, List, ℕ, ◌*◌, ◌≤◌}
-use Rattle.lists.specs.Filled.{filled}
 use Rattle.layout.specs.Versions.{volume_entry}
 use Rattle.incremental.specs.Decision.{accept, refuse, refusal}
 use Rattle.layout.specs.Head.{declared_size_at}

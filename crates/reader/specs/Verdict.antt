@@ -7,7 +7,6 @@ use Rattle.lists.specs.Filled.{filled}
 use Rattle.reader.specs.declared.verdict.RunTimes.{RunTimes}
 use Rattle.reader.specs.declared.verdict.Acceptance.{Acceptance}
 use Rattle.std.specs.Prelude.{Err, Ok, Result}
-use Rattle.head.specs.declared.checks.Opening.{Opening}
 use Rattle.incremental.specs.declared.Stop.TheVariants.{Refused, Wanted}
 use Rattle.incremental.specs.declared.Stop.{Stop}
 

@@ -22,7 +22,7 @@ use Rattle.trace.specs.Links.{nexts, chains}
 use Rattle.trace.proofs.Steps.{length-nexts}
 use Rattle.reader.specs.declared.verdict.Acceptance.{Acceptance}
 use Rattle.reader.specs.Verdict.{Acceptable, verdict_in, values_of as read_values, buffer_after as read_buffer}
-use Rattle.reader.specs.Checks.{nexts_in, link_at, record_of, size_of, prefix_answer, file_answer, ReadsOpened}
+use Rattle.reader.specs.Checks.{accepted_in, nexts_in, link_at, record_of, size_of, prefix_answer, file_answer, ReadsOpened}
 use Rattle.reader.proofs.Values.{accepted_answer, refused_answer}
 use Rattle.reader.proofs.Taken.{links_few}
 use Rattle.reader.proofs.Free.{free_clear}
@@ -33,11 +33,9 @@ use Rattle.walk.specs.Private.{WalkFits, After, no_visits, Accepts}
 use Rattle.walk.proofs.Written.{written_all}
 use Rattle.walk.proofs.EveryEntry.{every_entry}
 use Rattle.std.specs.Prelude.{Err, Ok, Result}
-use Rattle.walk.specs.declared.Walked.{Walked}
-use Rattle.walk.specs.Walk.{steps_walked}
 
 -- a decision gives all of the promise
-by_decision : (p buffer order : List ℕ) (d : Decision Visited) (r : Result Walked Refusal) (buffer' order' : List ℕ)
+by_decision : (p buffer order : List ℕ) (d : Decision Visited) (r : Result Visits Refusal) (buffer' order' : List ℕ)
     → walked p (length buffer) (length order) ≡ d → values_of r ≡ decision_values d → order' ≡ order_after d order → buffer' ≡ buffer_after d (length buffer)
     → Walks p buffer order r buffer' order'
 by_decision p buffer order d r buffer' order' e a b c = record { answer = rw e a; placed = rw e b; held = rw e c }
@@ -46,7 +44,7 @@ by_decision p buffer order d r buffer' order' e a b c = record { answer = rw e a
 pub walks_refused : (p buffer order after : List ℕ) (v : Result (Acceptance × Opening) Refusal) (f : Refusal) → ReadsOpened p buffer v after → v ≡ Err f
     → (file_answer p (length buffer) ≡ decided (refuse f) → walked p (length buffer) (length order) ≡ refuse f) → Walks p buffer order (Err f) after order
 walks_refused p buffer order after v f r q first =
-    let e = refused_answer (file_answer p (length buffer)) f (ap (λ (x : Result (Acceptance × Opening) Refusal). read_values (verdict_in x)) (sym q) ∙ r.reads.verdict) in
+    let e = refused_answer (file_answer p (length buffer)) f (ap (λ (x : Result (Acceptance × Opening) Refusal). read_values (verdict_in (accepted_in x))) (sym q) ∙ r.reads.verdict) in
     by_decision p buffer order (refuse f) _ _ _ (first e) refl refl (r.reads.buffer ∙ ap (λ (x : Answer Acceptable). read_buffer x (length buffer)) e)
 
 -- ---- the whole-file reader accepts
@@ -54,7 +52,7 @@ pub reader_accepts : (p buffer after : List ℕ) (v : Result (Acceptance × Open
     → length after ≡ length buffer → Accepts p after o
 reader_accepts p buffer after v a o r q l =
     let m = length buffer in
-    let y = accepted_answer (file_answer p m) a (ap (λ (x : Result (Acceptance × Opening) Refusal). read_values (verdict_in x)) (sym q) ∙ r.reads.verdict) in
+    let y = accepted_answer (file_answer p m) a (ap (λ (x : Result (Acceptance × Opening) Refusal). read_values (verdict_in (accepted_in x))) (sym q) ∙ r.reads.verdict) in
     record {
       given = y.0;
       answer = ap (file_answer p) l ∙ y.1;
@@ -63,7 +61,7 @@ reader_accepts p buffer after v a o r q l =
     }
 
 -- only the length of the buffer counts
-pub walks_length : (p buffer after order order' buffer' : List ℕ) (r : Result Walked Refusal) → length after ≡ length buffer → Walks p after order r buffer' order'
+pub walks_length : (p buffer after order order' buffer' : List ℕ) (r : Result Visits Refusal) → length after ≡ length buffer → Walks p after order r buffer' order'
     → Walks p buffer order r buffer' order'
 walks_length p buffer after order order' buffer' r l w =
     record { answer = rw (← l) w.answer; placed = rw (← l) w.placed; held = rw (← l) w.held }
@@ -149,7 +147,7 @@ module _ (p buffer : List ℕ) (o : Opening) (a : Accepts p buffer o) where
         rw e (by_decision p buffer order (refuse (refusal 23 0 0)) _ _ _ (rw (a.answer, a.opens, lt-ltb _ _ few)) refl refl b)
 
     pub walks_all : (r : Visits) (order' : List ℕ) → link_count o.layout o.head ≤ length order
-        → After (blocks_in o p) (walk (nexts_in o p)) no_visits order r order' → Walks p buffer order (Ok (steps_walked r.steps r.total)) buffer order'
+        → After (blocks_in o p) (walk (nexts_in o p)) no_visits order r order' → Walks p buffer order (Ok r) buffer order'
     unfolding walked
     walks_all r order' l w =
         let room : length (nexts_in o p) ≤ length order = omega (arith, size) in
@@ -165,5 +163,5 @@ module _ (p buffer : List ℕ) (o : Opening) (a : Accepts p buffer o) where
     pub walks_all_at : (section : List ℕ) (n : ℕ) (r : Visits) (order' : List ℕ) → section ≡ part o.head.trace p
         → n ≡ link_count o.layout o.head → n ≤ length order
         → After (blocks section 12 n) (walk (nexts section 12 n)) no_visits order r order'
-        → Walks p buffer order (Ok (steps_walked r.steps r.total)) buffer order'
+        → Walks p buffer order (Ok r) buffer order'
     walks_all_at section n r order' e q l w = walks_all r order' (omega arith) (rw (e, q, links-12, blocks-12) at w)

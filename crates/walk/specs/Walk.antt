@@ -1,4 +1,5 @@
 -- REQUEST 112, every trace entry once: the chains of a file, walked from each head in index order, and the block counts along them.
+use Rattle.walk.specs.declared.Visits.{Visits}
 use Rattle.std.specs.Prelude.{◌≡◌, Bool, List, [], ◌∷◌, ◌++◌, ℕ, zero, suc, ◌+◌, ◌*◌, eqb, ltb, length, get_or, drop}
 use Rattle.lists.specs.Count.{pick}
 use Rattle.lists.specs.Those.{those}
@@ -18,7 +19,6 @@ use Rattle.reader.specs.Checks.{nexts_in, file_answer}
 use Rattle.reader.specs.Verdict.{Acceptable}
 use Rattle.std.specs.Prelude.{Err, Ok, Option, Result}
 use Rattle.incremental.specs.declared.Fault.{Fault}
-use Rattle.walk.specs.declared.Walked.{Walked}
 
 -- ---- the list, by the next indexes `s`
 
@@ -121,9 +121,12 @@ walked_values n t = record { kind = 0; number = 0; index = 0; offset = 0; steps 
 abbrev pub refused_values : Refusal → Values
 refused_values r = record { kind = 1; number = r.number; index = r.index; offset = r.offset; steps = 0; total = 0 }
 
+abbrev pub steps_walked : ℕ → ℕ → Visits
+steps_walked n t = record { steps = n; total = t }
+
 -- what each case of the answer says
-abbrev pub values_of : Result Walked Refusal → Values
-values_of (Ok w) = walked_values w.steps w.total
+abbrev pub values_of : Result Visits Refusal → Values
+values_of (Ok v) = walked_values v.steps v.total
 values_of (Err r) = refused_values r
 
 abbrev pub decision_values : Decision Visited → Values
@@ -140,7 +143,7 @@ abbrev pub buffer_after : Decision Visited → ℕ → List ℕ
 buffer_after (accept v) m = v.table
 buffer_after (refuse r) m = filled m
 
-pub record Walks (p buffer order : List ℕ) (r : Result Walked Refusal) (buffer' order' : List ℕ) : Type 0 where
+pub record Walks (p buffer order : List ℕ) (r : Result Visits Refusal) (buffer' order' : List ℕ) : Type 0 where
   pub answer : values_of r ≡ decision_values (walked p (length buffer) (length order))
   pub placed : order' ≡ order_after (walked p (length buffer) (length order)) order
   pub held : buffer' ≡ buffer_after (walked p (length buffer) (length order)) (length buffer)

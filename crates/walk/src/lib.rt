@@ -9,22 +9,14 @@ ghost use Rattle.walk.specs.Private.{ChainFits, WalkFits, After, no_visits, Acce
 
 use head::Opening;
 use incremental::Refusal;
-use reader::FileVerdict;
-
-// The steps taken and the sum of the block counts, or the refusal.
-#[derive(Clone, Copy)]
-pub enum WalkAnswer {
-    Walked { steps: usize, total: u64 },
-    Refused(Refusal),
-}
 
 const END: u32 = 4294967295;
 
 // How many entries have been visited, and what their block counts add up to.
-#[derive(Clone, Copy)]
-struct Visits {
-    steps: usize,
-    total: u64,
+#[derive(Clone, Copy, Debug, PartialEq, Eq)]
+pub struct Visits {
+    pub steps: usize,
+    pub total: u64,
 }
 
 // The size of a trace entry that has a next index, the same in every version. The walk waits for each entry's next index, and a product
@@ -60,10 +52,7 @@ fn walk_chain(section: &[u8], entries: u32, head: u32, before: Visits, order: &m
         steps += 1;
         j = field_at(section, j, NEXT);
     }
-    Visits {
-        steps: steps,
-        total: total,
-    }
+    Visits { steps, total }
 }
 
 // The chains of all heads in index order. A head is an entry without a predecessor.
@@ -73,18 +62,21 @@ fn walk_chains(section: &[u8], entries: u32, predecessors: &[u32], order: &mut [
         order.new }
 {
     let mut visits = Visits { steps: 0, total: 0 };
-    let mut h = 0;
-    while h < entries {
+    for h in 0..entries {
         if predecessors[h as usize] == END {
             visits = walk_chain(section, entries, h, visits, order);
         }
-        h += 1;
     }
     visits
 }
 
 // The walk of a file that is accepted: 23, or all chains.
-fn walk_opened(file: &[u8], o: Opening, predecessors: &mut [u32], order: &mut [u32]) -> WalkAnswer
+fn walk_opened(
+    file: &[u8],
+    o: Opening,
+    predecessors: &mut [u32],
+    order: &mut [u32],
+) -> Result<Visits, Refusal>
     requires { Accepts file.now predecessors.old o }
     ensures { Walks file.now predecessors.old order.old result predecessors.new order.new }
 {
@@ -93,22 +85,16 @@ fn walk_opened(file: &[u8], o: Opening, predecessors: &mut [u32], order: &mut [u
     let entries = sections::link_count(l, head);
     if order.len() < entries as usize {
         lists::fill(predecessors);
-        return WalkAnswer::Refused(incremental::refuse(23, 0, 0));
+        return Err(incremental::refuse(23, 0, 0));
     }
     let section = sections::part_of(file, head.trace);
-    let visits = walk_chains(section, entries, predecessors, order);
-    WalkAnswer::Walked {
-        steps: visits.steps,
-        total: visits.total,
-    }
+    Ok(walk_chains(section, entries, predecessors, order))
 }
 
 // All chains of a file from each head in index order, and the sum of the block counts along them.
-pub fn walk(file: &[u8], predecessors: &mut [u32], order: &mut [u32]) -> WalkAnswer
+pub fn walk(file: &[u8], predecessors: &mut [u32], order: &mut [u32]) -> Result<Visits, Refusal>
     ensures { Walks file.now predecessors.old order.old result predecessors.new order.new }
 {
-    match reader::read_opened(file, predecessors) {
-        FileVerdict::Accepted(_, o) => walk_opened(file, o, predecessors, order),
-        FileVerdict::Refused(r) => WalkAnswer::Refused(r),
-    }
+    let (_, opening) = reader::read_opened(file, predecessors)?;
+    walk_opened(file, opening, predecessors, order)
 }

@@ -8,6 +8,7 @@ use Rattle.incremental.specs.declared.Refusal.{Refusal}
 use Rattle.reader.specs.Checks.{file_answer}
 use Rattle.walk.specs.Walk.{walked}
 use Rattle.walk.proofs.File.{walks_refused, reader_accepts, walks_length}
+use Rattle.std.proofs.lemmas.Result.{err_from_is_err_and}
 use Rattle.walk.proofs.walk.Goals as goal
 
 -- 23 is not looked at where the reader refuses
@@ -16,13 +17,12 @@ unfolding walked
 reader-first p m n f e = rw e refl
 
 pub walk_opened-requires : goal.walk_opened-requires
-walk_opened-requires c =
-    reader_accepts _ _ _ _ _ _ c.read_opened.ensures c.in-Accepted.is c.read_opened.auto.predecessors
+walk_opened-requires c = reader_accepts _ _ _ _ _ _ c.read_opened.ensures c.in_ok-opening.was c.read_opened.auto.predecessors
 
-pub returns-in-Accepted : goal.returns-in-Accepted
-returns-in-Accepted c =
-    walks_length _ _ _ _ _ _ _ c.read_opened.auto.predecessors c.walk_opened.ensures
+pub returns : goal.returns
+returns c = walks_length _ _ _ _ _ _ _ c.read_opened.auto.predecessors c.walk_opened.ensures
 
-pub returns-in-Refused : goal.returns-in-Refused
-returns-in-Refused c =
-    walks_refused _ _ _ _ _ _ c.read_opened.ensures c.in-Refused.is (reader-first _ _ _ _)
+pub returns-in_err-opening : goal.returns-in_err-opening
+returns-in_err-opening c =
+    let e = err_from_is_err_and c.from_residual.result c.from_residual.ensures.1 in
+    rw (e.1, e.2) (walks_refused _ _ _ _ _ _ c.read_opened.ensures c.in_err-opening.was (reader-first _ _ _ _))

@@ -1,6 +1,6 @@
 -- After h entries the chains of the heads below h are written, one behind the other.
 use mathlib.Core.Path.{◌≡◌}
-use Prim.Native.Nat.{◌-◌, ◌≤◌}
+use Prim.Native.Nat.{◌≤◌}
 use lib.ListN.{length}
 use Rattle.trace.specs.Links.{nexts}
 use Rattle.walk.specs.Walk.{blocks}
@@ -13,6 +13,3 @@ invariant-loop-h l =
     (l.h ≤ l.entries)
     × (length l.order ≡ length l.initial.order)
     × After (blocks l.section 12 l.entries) (below (nexts l.section 12 l.entries) l.h) no_visits l.initial.order l.visits l.order
-
-abbrev pub decreases-loop-h : goal.decreases-loop-h
-decreases-loop-h l = l.entries - l.h

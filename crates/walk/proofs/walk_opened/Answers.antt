@@ -3,8 +3,8 @@ use native.Mathlib.Omega.{arith}
 use Rattle.walk.proofs.File.{walks_short, walk_fits_at, section_whole, walks_all_at}
 use Rattle.walk.proofs.walk_opened.Goals as goal
 
-pub walk_chains-visits-requires : goal.walk_chains-visits-requires
-walk_chains-visits-requires c =
+pub walk_chains-requires : goal.walk_chains-requires
+walk_chains-requires c =
     let links = c.link_count-entries.ensures in
     let bytes = c.part_of-section.ensures.contents in
     (walk_fits_at _ _ _ c.requires _ _ _ bytes links (omega arith), section_whole _ _ _ c.requires _ _ bytes links)
@@ -16,4 +16,4 @@ returns-then-order-entries c =
 pub returns : goal.returns
 returns c =
     walks_all_at _ _ _ c.requires _ _ _ _ _ c.part_of-section.ensures.contents c.link_count-entries.ensures (omega arith)
-    c.walk_chains-visits.ensures
+    c.walk_chains.ensures
