@@ -193,6 +193,6 @@ unfolding entry_checks
 entry_directories s i place e p q = rw (p, q)
 
 -- one volume, for code that has its entry's place in the file and in the section at hand
-pub volume_checked : (s : List ℕ) (v : Layout) (start i : ℕ) {place e : ℕ} (d : Decision Unit) → place ≡ entry_offset start (volume_entry v) i
-    → e ≡ entry_at v i → d ≡ entry_checks s i place e → d ≡ volume_checks s v start i
-volume_checked s v start i d p q h = rw (← p, ← q) h
+pub volume_checked : (s : List ℕ) (v : Layout) (start i : ℕ) {place e : ℕ} {b : List ℕ} (d : Decision Unit) → place ≡ entry_offset start (volume_entry v) i
+    → b ≡ s → e ≡ entry_at v i → d ≡ entry_checks b i place e → d ≡ volume_checks s v start i
+volume_checked s v start i d p z q h = rw (← p, ← z, ← q) h

@@ -82,84 +82,131 @@ fn entry_at(l: Layout, i: u32) -> usize
     i as usize * (l.volume_entry as usize)
 }
 
-// Whether the path is empty or ends within the section.
-fn path_fits(section: &[u8], entry: usize) -> bool
-    requires { entry < 2 ^ 48 }
-    ensures { result ≡ path_fits section.now entry }
-{
-    let count = little_endian::u32_at(section, entry + 4) as usize;
-    if count == 0 {
-        return true;
-    }
-    let at = little_endian::u32_at(section, entry) as usize;
-    at + 2 * count <= section.len()
+// A volume entry of a section.
+#[derive(Clone, Copy)]
+struct Entry<'a> {
+    section: &'a [u8],
+    at: usize,
+    ghost low: { at < 2 ^ 48 },
 }
 
-// The number of file references: 0 where their data has no bytes.
-fn reference_count(section: &[u8], entry: usize) -> u32
-    requires { entry < 2 ^ 48 }
-    ensures { result ≡ reference_count section.now entry }
-{
-    if little_endian::u32_at(section, entry + 24) == 0 {
-        return 0;
-    }
-    let at = little_endian::u32_at(section, entry + 20) as usize;
-    little_endian::u32_at(section, at + 4)
-}
-
-// Whether the data of the file references is empty, or lies within the section and holds as many as it says.
-fn references_fit(section: &[u8], entry: usize) -> bool
-    requires { entry < 2 ^ 48 }
-    ensures { result ≡ references_fit section.now entry }
-{
-    let size = little_endian::u32_at(section, entry + 24) as usize;
-    if size == 0 {
-        return true;
-    }
-    if size < 8 {
-        return false;
-    }
-    let at = little_endian::u32_at(section, entry + 20) as usize;
-    if section.len() < at + size {
-        return false;
-    }
-    let count = reference_count(section, entry) as usize;
-    8 + 8 * count <= size
-}
-
-// A step over each directory string of volume i. Each step goes on by at least 4 bytes, so the section's end stops a count
-// that is too high.
-fn check_directories(section: &[u8], i: u32, place: usize, entry: usize) -> Result<(), Refusal>
-    requires { entry < 2 ^ 48 }
-    ensures { decision_of result ≡ directories_of section.now i place entry }
-{
-    let count = little_endian::u32_at(section, entry + 32);
-    let start = little_endian::u32_at(section, entry + 28) as usize;
-    let mut cursor = Cursor { at: start };
-    for _ in 0..count {
-        match cursor.step(section) {
-            Ok(next) => {
-                cursor = next;
-            }
-            Err(StepFault::Past) => return refused(14, i, place),
-            Err(StepFault::Unended) => return refused(15, i, place),
+impl<'a> Entry<'a> {
+    fn of(section: &'a [u8], l: Layout, i: u32) -> Entry<'a>
+        ensures { (result.section.now ≡ section.now) × (result.at ≡ entry_at l i) }
+    {
+        Entry {
+            section,
+            at: entry_at(l, i),
         }
     }
-    Ok(())
-}
 
-// Path, references, directories of volume i, in this order.
-fn check_entry(section: &[u8], i: u32, place: usize, entry: usize) -> Result<(), Refusal>
-    requires { entry < 2 ^ 48 }
-    ensures { decision_of result ≡ entry_checks section.now i place entry }
-{
-    if !path_fits(section, entry) {
-        return refused(14, i, place);
+    // Whether the path is empty or ends within the section.
+    fn path_fits(self) -> bool
+        ensures { result ≡ path_fits self.entry.section.now self.entry.at }
+    {
+        let count = little_endian::u32_at(self.section, self.at + 4) as usize;
+        if count == 0 {
+            return true;
+        }
+        let at = little_endian::u32_at(self.section, self.at) as usize;
+        at + 2 * count <= self.section.len()
     }
-    if !references_fit(section, entry) {
-        return refused(14, i, place);
+
+    // The number of file references: 0 where their data has no bytes.
+    fn reference_count(self) -> u32
+        ensures { result ≡ reference_count self.entry.section.now self.entry.at }
+    {
+        if little_endian::u32_at(self.section, self.at + 24) == 0 {
+            return 0;
+        }
+        let at = little_endian::u32_at(self.section, self.at + 20) as usize;
+        little_endian::u32_at(self.section, at + 4)
     }
-    check_directories(section, i, place, entry)
+
+    // Whether the data of the file references is empty, or lies within the section and holds as many as it says.
+    fn references_fit(self) -> bool
+        ensures { result ≡ references_fit self.entry.section.now self.entry.at }
+    {
+        let size = little_endian::u32_at(self.section, self.at + 24) as usize;
+        if size == 0 {
+            return true;
+        }
+        if size < 8 {
+            return false;
+        }
+        let at = little_endian::u32_at(self.section, self.at + 20) as usize;
+        if self.section.len() < at + size {
+            return false;
+        }
+        let count = self.reference_count() as usize;
+        8 + 8 * count <= size
+    }
+
+    // Where the directories start in the section, and how many there are.
+    fn directories_at(self) -> usize
+        ensures { result ≡ directories_at self.entry.section.now self.entry.at }
+    {
+        little_endian::u32_at(self.section, self.at + 28) as usize
+    }
+
+    fn directory_count(self) -> u32
+        ensures { result ≡ directory_count self.entry.section.now self.entry.at }
+    {
+        little_endian::u32_at(self.section, self.at + 32)
+    }
+
+    // A step over each directory string, of volume i. Each step goes on by at least 4 bytes, so the section's end stops a count
+    // that is too high.
+    fn check_directories(self, i: u32, place: usize) -> Result<(), Refusal>
+        ensures { decision_of result ≡ directories_of self.entry.section.now i place self.entry.at }
+    {
+        let count = self.directory_count();
+        let mut cursor = Cursor {
+            at: self.directories_at(),
+        };
+        for _ in 0..count {
+            match cursor.step(self.section) {
+                Ok(next) => {
+                    cursor = next;
+                }
+                Err(StepFault::Past) => return refused(14, i, place),
+                Err(StepFault::Unended) => return refused(15, i, place),
+            }
+        }
+        Ok(())
+    }
+
+    // Path, references, directories of volume i, in this order.
+    fn check(self, i: u32, place: usize) -> Result<(), Refusal>
+        ensures { decision_of result ≡ entry_checks self.entry.section.now i place self.entry.at }
+    {
+        if !self.path_fits() {
+            return refused(14, i, place);
+        }
+        if !self.references_fit() {
+            return refused(14, i, place);
+        }
+        self.check_directories(i, place)
+    }
+
+    // Where the path starts: 0 where it is empty.
+    fn path_start(self) -> usize
+        ensures { result ≡ pick (eqb (path_count self.entry.section.now self.entry.at) 0) 0 (path_at self.entry.section.now self.entry.at) }
+    {
+        if little_endian::u32_at(self.section, self.at + 4) == 0 {
+            return 0;
+        }
+        little_endian::u32_at(self.section, self.at) as usize
+    }
+
+    // The path's units before its first zero unit, or all of them.
+    fn path_units(self) -> usize
+        ensures { result ≡ path_units self.entry.section.now self.entry.at }
+    {
+        let start = little_endian::u32_at(self.section, self.at);
+        let count = little_endian::u32_at(self.section, self.at + 4);
+        little_endian::first_zero_unit(self.section, start, count).unwrap_or(count as usize)
+    }
 }
 
 // Checks 14 and 15 on volume i of a section that starts at `start` in the file.
@@ -167,7 +214,7 @@ pub fn check_volume(section: &[u8], l: Layout, start: u32, i: u32) -> Result<(),
     ensures { decision_of result ≡ volume_checks section.now l start i }
 {
     let place = layout::entry_offset(start, l.volume_entry, i);
-    check_entry(section, i, place, entry_at(l, i))
+    Entry::of(section, l, i).check(i, place)
 }
 
 // Check 8, then checks 14 and 15 on each of `count` volumes of a section that starts at `start` in the file.
@@ -182,39 +229,18 @@ pub fn check_volumes(section: &[u8], l: Layout, start: u32, count: u32) -> Resul
     Ok(())
 }
 
-// Where the path starts: 0 where it is empty.
-fn path_start(section: &[u8], entry: usize) -> usize
-    requires { entry < 2 ^ 48 }
-    ensures { result ≡ pick (eqb (path_count section.now entry) 0) 0 (path_at section.now entry) }
-{
-    if little_endian::u32_at(section, entry + 4) == 0 {
-        return 0;
-    }
-    little_endian::u32_at(section, entry) as usize
-}
-
-// The path's units before its first zero unit, or all of them.
-fn path_units(section: &[u8], entry: usize) -> usize
-    requires { entry < 2 ^ 48 }
-    ensures { result ≡ path_units section.now entry }
-{
-    let start = little_endian::u32_at(section, entry);
-    let count = little_endian::u32_at(section, entry + 4);
-    little_endian::first_zero_unit(section, start, count).unwrap_or(count as usize)
-}
-
 // The facts of volume i, and of reference k of volume i.
 pub fn volume_at(section: &[u8], l: Layout, i: u32) -> Volume
     ensures { result ≡ volume_of section.now (entry_at l i) }
 {
-    let entry = entry_at(l, i);
+    let entry = Entry::of(section, l, i);
     Volume {
-        created: little_endian::u64_at(section, entry + 8),
-        serial: little_endian::u32_at(section, entry + 16),
-        references: reference_count(section, entry),
-        directories: little_endian::u32_at(section, entry + 32),
-        path: path_start(section, entry),
-        units: path_units(section, entry),
+        created: little_endian::u64_at(section, entry.at + 8),
+        serial: little_endian::u32_at(section, entry.at + 16),
+        references: entry.reference_count(),
+        directories: entry.directory_count(),
+        path: entry.path_start(),
+        units: entry.path_units(),
     }
 }
 
@@ -222,21 +248,21 @@ pub fn volume_at(section: &[u8], l: Layout, i: u32) -> Volume
 pub fn directories_at(section: &[u8], l: Layout, i: u32) -> usize
     ensures { result ≡ directories_at section.now (entry_at l i) }
 {
-    little_endian::u32_at(section, entry_at(l, i) + 28) as usize
+    Entry::of(section, l, i).directories_at()
 }
 
 pub fn directory_count(section: &[u8], l: Layout, i: u32) -> u32
     ensures { result ≡ directory_count section.now (entry_at l i) }
 {
-    little_endian::u32_at(section, entry_at(l, i) + 32)
+    Entry::of(section, l, i).directory_count()
 }
 
 // Reference k of volume i: eight bytes each, behind the eight that start the list.
 pub fn reference_at(section: &[u8], l: Layout, i: u32, k: u32) -> Reference
     ensures { result ≡ reference_of section.now (entry_at l i) k }
 {
-    let entry = entry_at(l, i);
-    let start = little_endian::u32_at(section, entry + 20) as usize;
+    let entry = Entry::of(section, l, i);
+    let start = little_endian::u32_at(section, entry.at + 20) as usize;
     let at = start + 8 + 8 * (k as usize);
     Reference {
         index: little_endian::u48_at(section, at),

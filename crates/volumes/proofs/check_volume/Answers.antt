@@ -3,5 +3,4 @@ use Rattle.volumes.proofs.Laws.{volume_checked}
 use Rattle.volumes.proofs.check_volume.Goals as goal
 
 pub returns : goal.returns
-returns c = volume_checked _ c.args.l _ _ _ c.entry_offset-place.ensures.0 c.entry_at.ensures.0
-    c.check_entry.ensures
+returns c = volume_checked _ c.args.l _ _ _ c.entry_offset-place.ensures.0 c.of.ensures.0 c.of.ensures.1 c.check.ensures

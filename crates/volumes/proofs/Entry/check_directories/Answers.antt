@@ -7,7 +7,7 @@ use native.Mathlib.Omega.{arith}
 use Rattle.incremental.specs.Decision.{decision_of}
 use Rattle.volumes.specs.Volumes.{directory_checks, directories_at}
 use Rattle.volumes.proofs.Laws.{directories_start, directories_step, directories_end}
-use Rattle.volumes.proofs.check_directories.Goals as goal
+use Rattle.volumes.proofs.Entry.check_directories.Goals as goal
 
 fault_as : {f g : StepFault} → f ≡ g → ◌≡◌ {A = Result Cursor StepFault} (Err f) (Err g)
 fault_as e = ap (λ (f : StepFault). Err f) e
@@ -21,9 +21,9 @@ returns-in-Err-Past c =
 pub loop-init : goal.loop-init
 loop-init c =
     let a = c.args in
-    let s = a.section.now in
-      ap (λ (n : ℕ). directory_checks s a.i a.place n (directories_at s a.entry)) (sym c.u32_at-count.ensures)
-          ∙ ap (λ (x : ℕ). directory_checks s a.i a.place c.u32_at-count.result x) (sym c.u32_at-start.ensures) ∙ directories_start _ _ _ _ _
+    let s = a.self.section.now in
+    ap (λ (n : ℕ). directory_checks s a.i a.place n (directories_at s a.self.at)) (sym c.directory_count-count.ensures)
+    ∙ ap (λ (x : ℕ). directory_checks s a.i a.place c.directory_count-count.result x) (sym c.directories_at.ensures) ∙ directories_start _ _ _ _ _
 
 pub loop-preserved : goal.loop-preserved
 loop-preserved c =

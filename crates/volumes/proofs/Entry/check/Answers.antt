@@ -2,7 +2,7 @@
 use mathlib.Core.Path.{ap, sym, ◌∙◌}
 use Rattle.incremental.specs.Decision.{decision_of}
 use Rattle.volumes.proofs.Laws.{entry_path, entry_references, entry_directories}
-use Rattle.volumes.proofs.check_entry.Goals as goal
+use Rattle.volumes.proofs.Entry.check.Goals as goal
 
 pub returns-then-not-references_fit : goal.returns-then-not-references_fit
 returns-then-not-references_fit c =

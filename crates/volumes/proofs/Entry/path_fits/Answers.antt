@@ -1,7 +1,7 @@
 -- A path of no units fits anywhere; any other must end within the section, and 32-bit numbers wrap no sum.
 use native.Mathlib.Omega.{arith}
 use Rattle.volumes.proofs.Laws.{path_none, path_some}
-use Rattle.volumes.proofs.path_fits.Goals as goal
+use Rattle.volumes.proofs.Entry.path_fits.Goals as goal
 
 pub returns-then-count-eq0 : goal.returns-then-count-eq0
 returns-then-count-eq0 c = path_none _ _ (omega arith)

@@ -1,7 +1,7 @@
 -- A path without units stands at the section's start, and any other at its offset.
 use mathlib.Core.Path.{sym, ◌∙◌}
 use borrow.Author.Tests.{eq-eqb, ne_eqb}
-use Rattle.volumes.proofs.path_start.Goals as goal
+use Rattle.volumes.proofs.Entry.path_start.Goals as goal
 
 pub returns : goal.returns
 returns c = rw (ne_eqb _ 0 (λ z. c.if-u32_at-eq0.false (c.u32_at.ensures ∙ z))) c.u32_at-2.ensures

@@ -2,9 +2,9 @@
 use mathlib.Core.Path.{◌≡◌}
 use Prim.Native.Nat.{◌-◌}
 use Rattle.volumes.specs.Volumes.{directory_checks, directory_count, directories_at}
-use Rattle.volumes.proofs.check_directories.Given as goal
+use Rattle.volumes.proofs.Entry.check_directories.Given as goal
 
 abbrev pub invariant-loop : goal.invariant-loop
 invariant-loop l =
-    directory_checks l.section l.i l.place (directory_count l.section l.entry) (directories_at l.section l.entry)
-    ≡ directory_checks l.section l.i l.place (l.count - l.counter) l.cursor.at
+    directory_checks l.self.section.now l.i l.place (directory_count l.self.section.now l.self.at) (directories_at l.self.section.now l.self.at)
+    ≡ directory_checks l.self.section.now l.i l.place (l.count - l.counter) l.cursor.at

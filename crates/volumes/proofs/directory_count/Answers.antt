@@ -1,5 +1,0 @@
--- The field is read at its offset in the entry, which the entry's place gives.
-use Rattle.volumes.proofs.directory_count.Goals as goal
-
-pub returns : goal.returns
-returns c = cc
