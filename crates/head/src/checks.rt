@@ -83,5 +83,6 @@ pub fn read_open(file: &[u8]) -> Result<Opening, Stop>
     ensures { answer_of result ≡ run open_plan file.now }
 {
     let start = read_start(file)?;
-    check_sections(file, check_form(file, start)?)
+    let formed = check_form(file, start)?;
+    check_sections(file, formed)
 }

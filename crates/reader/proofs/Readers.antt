@@ -18,21 +18,24 @@ use Rattle.reader.specs.declared.verdict.Acceptance.{Acceptance}
 use Rattle.reader.specs.Verdict.{Acceptable, Reads}
 use Rattle.reader.specs.Checks.{rest_plan, read_plan, whole, file_answer, ReadsOpened}
 use Rattle.reader.specs.Private.{verdict_of, whole_stop, WholeAnswer}
-use Rattle.std.specs.Prelude.{Err, Ok, Result, is_err, true, false}
+use Rattle.std.specs.Prelude.{Err, Ok, Result}
 use Rattle.incremental.specs.declared.Stop.TheVariants.{Refused, Wanted}
 use Rattle.incremental.specs.declared.Stop.{Stop}
 
 -- a verdict of all checks, once the working buffer is seen to: an acceptance keeps its table, and after anything else the buffer is filled
-pub reads_kept : (answer : Answer Acceptable) (m : ℕ) (after : List ℕ) (v : Result Acceptance Stop) → verdict_of v after ≡ answer → is_err v ≡ false
-    → Reads answer m v after
-reads_kept answer m after (Ok a) e q = rw (← e) (record { verdict = refl; buffer = refl })
-reads_kept answer m after (Err s) e q = never cc
+pub reads_kept : (answer : Answer Acceptable) (m : ℕ) (after : List ℕ) (v : Result Acceptance Stop) (a : Acceptance) → verdict_of v after ≡ answer → v ≡ Ok a
+    → Reads answer m (Ok a) after
+reads_kept answer m after v a e q =
+    let x : decided (accept (record { fields = a; table = after })) ≡ answer = rw q at e in
+    rw (← x) (record { verdict = refl; buffer = refl })
 
-pub reads_filled : (answer : Answer Acceptable) (m : ℕ) (after last : List ℕ) (v : Result Acceptance Stop) → verdict_of v after ≡ answer → is_err v ≡ true
-    → last ≡ filled m → Reads answer m v last
-reads_filled answer m after last (Ok a) e q f = never cc
-reads_filled answer m after last (Err (Refused r)) e q f = rw (← e) (record { verdict = refl; buffer = f })
-reads_filled answer m after last (Err (Wanted k)) e q f = rw (← e) (record { verdict = refl; buffer = f })
+pub reads_filled : (answer : Answer Acceptable) (m : ℕ) (after last : List ℕ) (v : Result Acceptance Stop) (s : Stop) → verdict_of v after ≡ answer → v ≡ Err s
+    → last ≡ filled m → Reads answer m (Err s) last
+reads_filled answer m after last v s e q f = go s (rw q at e)
+  where
+    go : (s : Stop) → verdict_of (Err s) after ≡ answer → Reads answer m (Err s) last
+    go (Refused r) e = rw (← e) (record { verdict = refl; buffer = f })
+    go (Wanted k) e = rw (← e) (record { verdict = refl; buffer = f })
 
 -- ---- the whole-file reader: what it answers, by what checks 1 to 6 and the rest gave
 module _ (p : List ℕ) (m : ℕ) where
@@ -78,13 +81,12 @@ module _ (p : List ℕ) (m : ℕ) where
 
 -- the working buffer of `buffer`'s length afterwards
 module _ (p buffer : List ℕ) where
-  pub opened_kept : (r : Result (Acceptance × Opening) Refusal) (after : List ℕ) → WholeAnswer p (length buffer) r after → is_err r ≡ false → ReadsOpened p buffer r after
-  opened_kept (Ok (a, o)) after w q =
-      let t = w.accepted a o refl in
-      record { reads = rw t.0 (record { verdict = refl; buffer = refl }); opens = λ b u y. (w.accepted b u y).1 }
-  opened_kept (Err f) after w q = never cc
+  pub opened_kept : (r : Result (Acceptance × Opening) Refusal) (x : Acceptance × Opening) (after : List ℕ) → WholeAnswer p (length buffer) r after → r ≡ Ok x
+      → ReadsOpened p buffer (Ok x) after
+  opened_kept r (a, o) after w q =
+      let t = w.accepted a o q in
+      record { reads = rw t.0 (record { verdict = refl; buffer = refl }); opens = λ b u y. (w.accepted b u (q ∙ y)).1 }
 
-  pub opened_filled : (r : Result (Acceptance × Opening) Refusal) (after last : List ℕ) → WholeAnswer p (length buffer) r after → is_err r ≡ true
-      → last ≡ filled (length buffer) → ReadsOpened p buffer r last
-  opened_filled (Ok x) after last w q f = never cc
-  opened_filled (Err f) after last w q h = record { reads = rw (w.refused f refl) (record { verdict = refl; buffer = h }); opens = λ a o z. never cc }
+  pub opened_filled : (r : Result (Acceptance × Opening) Refusal) (f : Refusal) (after last : List ℕ) → WholeAnswer p (length buffer) r after → r ≡ Err f
+      → last ≡ filled (length buffer) → ReadsOpened p buffer (Err f) last
+  opened_filled r f after last w q h = record { reads = rw (w.refused f q) (record { verdict = refl; buffer = h }); opens = λ a o z. never cc }

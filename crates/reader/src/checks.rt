@@ -129,8 +129,7 @@ fn check_volumes(file: &[u8], o: Opening) -> Result<(), Stop>
 {
     let section = o.head.volumes;
     let volumes = sections::part_of(reach(file, volumes_required(o))?, section);
-    volumes::check_volumes(volumes, o.layout, section.at, section.count)?;
-    Ok(())
+    Ok(volumes::check_volumes(volumes, o.layout, section.at, section.count)?)
 }
 
 // Checks 7 to 15 and the record.
@@ -159,11 +158,13 @@ fn check_all(file: &[u8], predecessors: &mut [u32]) -> Result<Acceptance, Stop>
 pub fn read_prefix(file: &[u8], predecessors: &mut [u32]) -> Result<Acceptance, Stop>
     ensures { ReadsPrefix file.now predecessors.old result predecessors.new }
 {
-    let verdict = check_all(file, predecessors);
-    if verdict.is_err() {
-        lists::fill(predecessors);
+    match check_all(file, predecessors) {
+        Ok(accepted) => Ok(accepted),
+        Err(stop) => {
+            lists::fill(predecessors);
+            Err(stop)
+        }
     }
-    verdict
 }
 
 // Refusal 16 or 17 of a file that is not as long as it says.
@@ -209,11 +210,13 @@ fn check_whole(file: &[u8], predecessors: &mut [u32]) -> Result<(Acceptance, Ope
 pub fn read_opened(file: &[u8], predecessors: &mut [u32]) -> Result<(Acceptance, Opening), Refusal>
     ensures { ReadsOpened file.now predecessors.old result predecessors.new }
 {
-    let verdict = check_whole(file, predecessors);
-    if verdict.is_err() {
-        lists::fill(predecessors);
+    match check_whole(file, predecessors) {
+        Ok(accepted) => Ok(accepted),
+        Err(refusal) => {
+            lists::fill(predecessors);
+            Err(refusal)
+        }
     }
-    verdict
 }
 
 // The verdict on a whole file.

@@ -7,12 +7,12 @@ pub returns-in_err-start : goal.returns-in_err-start
 unfolding open_plan
 returns-in_err-start c = exit_stop _ _ _ c.from_residual.ensures.1 (then_stops start_plan _ _ _ c.in_err-start.ensures)
 
-pub returns-in_err-check_form : goal.returns-in_err-check_form
+pub returns-in_err-formed : goal.returns-in_err-formed
 unfolding open_plan
-returns-in_err-check_form c =
-    exit_stop _ _ _ c.from_residual-in_err-check_form.ensures.1
-    (then_on start_plan _ _ _ _ c.in_ok-start.ensures (then_stops (form_plan _) _ _ _ c.in_err-check_form.ensures))
+returns-in_err-formed c =
+    exit_stop _ _ _ c.from_residual-in_err-formed.ensures.1
+    (then_on start_plan _ _ _ _ c.in_ok-start.ensures (then_stops (form_plan _) _ _ _ c.in_err-formed.ensures))
 
 pub returns : goal.returns
 unfolding open_plan
-returns c = then_on start_plan _ _ _ _ c.in_ok-start.ensures (then_on (form_plan _) _ _ _ _ c.in_ok-check_form.ensures c.check_sections.ensures)
+returns c = then_on start_plan _ _ _ _ c.in_ok-start.ensures (then_on (form_plan _) _ _ _ _ c.in_ok-formed.ensures c.check_sections.ensures)

@@ -11,14 +11,14 @@ returns-in_err-reach c = exit_wanted _ _ _ _ c.from_residual.ensures.1 c.in_err-
 
 pub returns-in_err-check : goal.returns-in_err-check
 unfolding counts_plan
-returns-in_err-check c = 
+returns-in_err-check c =
     exit_refused _ _ _ c.from_residual-in_err-check.ensures.1
     (reach_on _ _ _ _ _ c.in_ok-reach.ensures.0 c.in_ok-reach.ensures.1
     (check_refused 7 _ _ _ _ _ c.in_err-check.ensures (places_at _ _ _ _ c.places_fault.ensures c.link_count.ensures)))
 
 pub returns-in_err-check-2 : goal.returns-in_err-check-2
 unfolding counts_plan
-returns-in_err-check-2 c = 
+returns-in_err-check-2 c =
     exit_refused _ _ _ c.from_residual-in_err-check-2.ensures.1
     (reach_on _ _ _ _ _ c.in_ok-reach.ensures.0 c.in_ok-reach.ensures.1
     (check_on 7 _ _ _ _ _ _ c.in_ok-check.ensures (places_at _ _ _ _ c.places_fault.ensures c.link_count.ensures)
@@ -26,7 +26,7 @@ returns-in_err-check-2 c =
 
 pub returns : goal.returns
 unfolding counts_plan
-returns c = 
+returns c =
     reach_on _ _ _ _ _ c.in_ok-reach.ensures.0 c.in_ok-reach.ensures.1
     (check_on 7 _ _ _ _ _ _ c.in_ok-check.ensures (places_at _ _ _ _ c.places_fault.ensures c.link_count.ensures)
     (check_on 8 _ _ _ _ _ _ c.in_ok-check-2.ensures c.entries_fault.ensures (decide_it _ _ _ refl)))

@@ -10,11 +10,11 @@ returns-in_err-reach c = exit_wanted _ _ _ _ c.from_residual.ensures.1 c.in_err-
 
 pub returns-in_err-check : goal.returns-in_err-check
 unfolding fits_plan
-returns-in_err-check c = 
+returns-in_err-check c =
     exit_refused _ _ _ c.from_residual-in_err-check.ensures.1
     (fits_refused c.args.o _ _ c.in_ok-reach.ensures.0 c.in_ok-reach.ensures.1 _ c.part_of-metrics.ensures.contents _ c.misfit_fault.ensures _ c.in_err-check.ensures)
 
 pub returns : goal.returns
 unfolding fits_plan
-returns c = 
+returns c =
     fits_pass c.args.o _ _ c.in_ok-reach.ensures.0 c.in_ok-reach.ensures.1 _ c.part_of-metrics.ensures.contents _ c.misfit_fault.ensures _ c.in_ok-check.ensures

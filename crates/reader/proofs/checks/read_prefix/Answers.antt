@@ -1,12 +1,11 @@
 -- The checks give the verdict; an accepted file keeps its table, and else the buffer is filled.
-use mathlib.Core.Path.{sym, ap, ◌∙◌}
+use mathlib.Core.Path.{ap, ◌∙◌}
 use Rattle.lists.specs.Filled.{filled}
 use Rattle.reader.proofs.Readers.{reads_kept, reads_filled}
 use Rattle.reader.proofs.checks.read_prefix.Goals as goal
 
-pub returns-then-is_err : goal.returns-then-is_err
-returns-then-is_err c = 
-    reads_filled _ _ _ _ _ c.check_all-verdict.ensures (sym c.is_err.ensures.value ∙ c.if-is_err.true) (c.fill.ensures ∙ ap filled c.check_all-verdict.auto.predecessors)
+pub returns-in-Ok : goal.returns-in-Ok
+returns-in-Ok c = reads_kept _ _ _ _ _ c.check_all.ensures c.in-Ok.is
 
-pub returns-else-is_err : goal.returns-else-is_err
-returns-else-is_err c = reads_kept _ _ _ _ c.check_all-verdict.ensures (sym c.is_err.ensures.value ∙ c.if-is_err.false)
+pub returns-in-Err : goal.returns-in-Err
+returns-in-Err c = reads_filled _ _ _ _ _ _ c.check_all.ensures c.in-Err.is (c.fill.ensures ∙ ap filled c.check_all.auto.predecessors)
