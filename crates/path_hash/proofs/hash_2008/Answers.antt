@@ -4,4 +4,4 @@ use Rattle.path_hash.proofs.Laws.{vista_2008}
 use Rattle.path_hash.proofs.hash_2008.Goals as goal
 
 pub returns : goal.returns
-returns c = c.hash_numbers.ensures ∙ vista_2008 _
+returns g c = c.carry_on.ensures ∙ vista_2008 _
