@@ -41,10 +41,10 @@ eight_steps h c0 c1 c2 c3 c4 c5 c6 c7 =
     (omega arith))
 
 -- the plain step at each item of a list, by the number that it is
-pub plain-fold : {A : Type 0} (value : A → ℕ) (h : ℕ) (s : List A) → fold (λ a x. step a (value x)) h s ≡ plain h (map value s)
+pub fold_plain : {A : Type 0} (value : A → ℕ) (h : ℕ) (s : List A) → fold (λ a x. step a (value x)) h s ≡ plain h (map value s)
 unfolding plain
-plain-fold value h [] = refl
-plain-fold value h (c ∷ s) = plain-fold value (step h (value c)) s
+fold_plain value h [] = refl
+fold_plain value h (c ∷ s) = fold_plain value (step h (value c)) s
 
 -- every plain hash is below 2 ^ 32
 pub plain-lt : (s : List ℕ) (h : ℕ) → h < 2 ^ 32 → plain h s < 2 ^ 32
@@ -78,9 +78,9 @@ plain-eight s h l =
     ∙ plain_more s _ 7 8 (omega arith) refl)
 
 -- and of a list of items that stand for numbers
-pub plain-eight_items : {A : Type 0} (value : A → ℕ) (s t : List A) (h : ℕ) → 8 ≤ length s → t ≡ drop 8 s
+pub eight_items : {A : Type 0} (value : A → ℕ) (s t : List A) (h : ℕ) → 8 ≤ length s → t ≡ drop 8 s
     → plain h (map value s) ≡ plain (eight_at h (map value s) 0) (map value t)
-plain-eight_items value s t h l e =
+eight_items value s t h l e =
     plain-eight (map value s) h (rw (length-map s value) l) ∙ rw (e, ← drop-map value 8 s)
 
 -- the step needs the first eight numbers alone

@@ -82,6 +82,7 @@ pub fn xp_end(h: u32) -> u32
 }
 
 // A hash is carried on over more numbers: the plain step at each of them, eight at a time as long as there are eight.
+#[tactic(auto, using(crate::proofs::Laws::eight_items))]
 pub fn carry_on<T: Number>(from: u32, numbers: &[T]) -> u32
     ensures { result ≡ plain from (map T.value numbers.now) }
 {
@@ -106,7 +107,8 @@ pub fn hash_xp<T: Number>(numbers: &[T]) -> u32
     xp_end(carry_on(0, numbers))
 }
 
-// Vista and 2008 are equal on every list (`vista_2008`).
+// Vista and 2008 are equal on every list.
+#[tactic(auto, using(crate::proofs::Laws::vista_2008))]
 pub fn hash_2008<T: Number>(numbers: &[T]) -> u32
     ensures { result ≡ hash2008 (map T.value numbers.now) }
 {

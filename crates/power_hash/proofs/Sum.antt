@@ -31,6 +31,3 @@ powers_vista cs = go (leb (length cs) 1024)
     go : (b : Bool) → pick b ((314159 * 37 ^ length cs + power_sum cs) % 2 ^ 32) (plain 314159 cs) ≡ vista cs
     go true = sym (plain-sum cs 314159 (lit< tt))
     go false = refl
-
-pub plain_hash : (s : List ℕ) (r : ℕ) → r ≡ vista s → r ≡ hash_powers s
-plain_hash s r e = e ∙ sym (powers_vista s)

@@ -22,14 +22,14 @@ const MORE: u32 = 11309724;
 // The most numbers that the table serves.
 const TABLE_SIZE: usize = 1024;
 
-// The table keeps its rule.
+// The table, which keeps the rule: proved once, here.
 fn power_table() -> &'static [u32; 1024]
     ensures { PowerTable result.now }
 {
     &POWERS
 }
 
-// 37 to the k by squaring: the cost grows with the logarithm of k.
+// 37 to the k by squaring: the cost grows with the logarithm of k. The library's `wrapping_pow` takes exponents of 32 bits alone.
 fn raised(from: u32, k: usize) -> u32
     ensures { result ≡ from * 37 ^ k % 2 ^ 32 }
 {
@@ -62,6 +62,7 @@ fn sum_powers<T: Number>(numbers: &[T]) -> u32
 }
 
 // The Vista hash of a list of numbers: up to 1,024 of them by the powers of 37, past that by the plain step.
+#[tactic(auto, using(crate::proofs::Sum::powers_vista))]
 pub fn hash_powers<T: Number>(numbers: &[T]) -> u32
     ensures { result ≡ hash_powers (map T.value numbers.now) }
 {
@@ -72,6 +73,7 @@ pub fn hash_powers<T: Number>(numbers: &[T]) -> u32
 }
 
 // The old hash plus the difference of the starts' hashes times the power of what is kept.
+#[tactic(auto, using(crate::proofs::Swaps::swap_turn))]
 fn swapped(hash: u32, new: u32, old: u32, kept: usize) -> u32
     ensures { result ≡ (hash + wrap_sub new old * 37 ^ kept) % 2 ^ 32 }
 {
