@@ -6,7 +6,7 @@ ghost use Rattle.hivesaddle.specs.Output.{Answered};
 ghost use Rattle.hivesaddle.specs.Private.{said_by};
 
 use crate::replies::{Reply, one, put_reply};
-use power_hash::Swap;
+use power_hash::TooLong;
 
 pub fn hs_hash_xp(numbers: &[u32]) -> u32
     ensures { result ≡ xp numbers.now }
@@ -29,19 +29,19 @@ pub fn hs_hash_2008(numbers: &[u32]) -> u32
 pub fn hs_hash_xp_bytes(text: &[u8]) -> u32
     ensures { result ≡ xp text.now }
 {
-    path_hash::hash_xp_bytes(text)
+    path_hash::hash_xp(text)
 }
 
 pub fn hs_hash_vista_bytes(text: &[u8]) -> u32
     ensures { result ≡ vista text.now }
 {
-    path_hash::hash_vista_bytes(text)
+    path_hash::hash_vista(text)
 }
 
 pub fn hs_hash_2008_bytes(text: &[u8]) -> u32
     ensures { result ≡ hash2008 text.now }
 {
-    path_hash::hash_2008_bytes(text)
+    path_hash::hash_2008(text)
 }
 
 // The Vista hash on the table of powers of 37.
@@ -54,7 +54,7 @@ pub fn hs_hash_powers(numbers: &[u32]) -> u32
 pub fn hs_hash_powers_bytes(text: &[u8]) -> u32
     ensures { result ≡ hash_powers text.now }
 {
-    power_hash::hash_powers_bytes(text)
+    power_hash::hash_powers(text)
 }
 
 // The refusal of a count that exceeds the old list, and what stands for the hash then.
@@ -62,12 +62,12 @@ const TOO_LONG: u32 = 25;
 
 const NO_HASH: u64 = 0;
 
-fn swap_reply(answer: Swap) -> Reply
+fn swap_reply(answer: Result<u32, TooLong>) -> Reply
     ensures { said_by result ≡ swap_said answer }
 {
     match answer {
-        Swap::Swapped(h) => one(0, h as u64),
-        Swap::TooLong => one(TOO_LONG, NO_HASH),
+        Ok(h) => one(0, h as u64),
+        Err(TooLong) => one(TOO_LONG, NO_HASH),
     }
 }
 
@@ -82,6 +82,6 @@ pub fn hs_hash_swap(old_hash: u32, old: &[u32], p: u64, start: &[u32], out: &mut
 pub fn hs_hash_swap_bytes(old_hash: u32, old: &[u8], p: u64, start: &[u8], out: &mut [u64]) -> u32
     ensures { Answered (swap_said (swap_answer old_hash old.now p start.now)) result out.old out.new }
 {
-    let answer = power_hash::hash_swap_bytes(old_hash, old, p as usize, start);
-    put_reply(swap_reply(answer), out)
+    let text_answer = power_hash::hash_swap(old_hash, old, p as usize, start);
+    put_reply(swap_reply(text_answer), out)
 }

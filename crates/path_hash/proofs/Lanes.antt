@@ -1,10 +1,10 @@
 -- Eight bytes of one number, joined in lanes, take the eight-number step.
-use Rattle.std.proofs.Common.{◌≡◌, ℕ, ◌+◌, ◌-◌, ◌*◌, ◌/◌, ◌%◌, ◌^◌, ◌<◌, List, get_or, ap, ◌∙◌, arith, lit<}
+use Rattle.std.proofs.Common.{◌≡◌, ℕ, ◌+◌, ◌-◌, ◌*◌, ◌/◌, ◌%◌, ◌^◌, ◌<◌, List, get_or, take, ap, ◌∙◌, arith, lit<, get_or-take}
 use lib.Bits.{bit_and, and_block, and_le_r, and_mask}
 use lib.Pow.{low}
-use Rattle.little_endian.specs.Number.{le}
+use Rattle.std.specs.Int.{w64, from_le_bytes}
 use Rattle.path_hash.specs.Hash.{eight_sum, eight, eight_at}
-use Rattle.path_hash.proofs.Laws.{same-mod, wrap_add}
+use Rattle.path_hash.proofs.Laws.{same-mod, wrap_add, eight_first}
 
 -- a mask keeps the lower half of the lowest lane
 lane : (k e o w m : ℕ) → e < 2 ^ k → o * 2 ^ k + e < 2 ^ (k + k) → 2 ^ k - 1 < 2 ^ (k + k)
@@ -79,19 +79,24 @@ module _ (a b c d p q r s : ℕ) (la : a < 256) (lb : b < 256) (lc : c < 256) (l
       (37 ^ 8 * h + eight_sum a b c d p q r s)
       (817 * h) (22 * a) (omega arith))
 
-le-eight : (s : List ℕ) (i : ℕ)
-    → le 8 s i
-    ≡ get_or s i 0
-    + 256 * (get_or s (i + 1) 0 + 256 * (get_or s (i + 2) 0 + 256 * (get_or s (i + 3) 0
-    + 256 * (get_or s (i + 4) 0 + 256 * (get_or s (i + 5) 0 + 256 * (get_or s (i + 6) 0 + 256 * get_or s (i + 7) 0))))))
-unfolding le
-le-eight s i =
-    let e : (k : ℕ) → i + k + 1 ≡ i + (k + 1) = λ k. omega arith in
-    rw (e 1, e 2, e 3, e 4, e 5, e 6) (omega arith)
+le-eight : (s : List ℕ)
+    → from_le_bytes w64 s
+    ≡ get_or s 0 0
+    + 256 * (get_or s 1 0 + 256 * (get_or s 2 0 + 256 * (get_or s 3 0 + 256 * (get_or s 4 0 + 256 * (get_or s 5 0 + 256 * (get_or s 6 0 + 256 * get_or s 7 0))))))
+le-eight s = omega arith
 
--- THE BYTES OF A LIST FROM i TAKE THE EIGHT-NUMBER STEP
-pub text_eight : (s : List ℕ) (h i : ℕ) → ((k : ℕ) → get_or s k 0 < 256) → step_of h (fours_of (pairs_of (le 8 s i))) ≡ eight_at h s i
-text_eight s h i l =
-    stepped _ _ _ _ _ _ _ _ (l i) (l (i + 1)) (l (i + 2)) (l (i + 3)) (l (i + 4)) (l (i + 5)) (l (i + 6)) (l (i + 7)) h _
-    (fours _ _ _ _ _ _ _ _ (l i) (l (i + 1)) (l (i + 2)) (l (i + 3)) (l (i + 4)) (l (i + 5)) (l (i + 6)) (l (i + 7)) _
-    (pairs _ _ _ _ _ _ _ _ (l i) (l (i + 1)) (l (i + 2)) (l (i + 3)) (l (i + 4)) (l (i + 5)) (l (i + 6)) (l (i + 7)) _ (le-eight s i)))
+-- THE FIRST EIGHT BYTES OF A TEXT TAKE THE EIGHT-NUMBER STEP
+pub text_eight : (s t : List ℕ) (h : ℕ) → ((k : ℕ) → get_or s k 0 < 256) → t ≡ take 8 s
+    → step_of h (fours_of (pairs_of (from_le_bytes w64 t))) ≡ eight_at h s 0
+text_eight s t h fits e =
+    let l : (k : ℕ) → k < 8 → get_or t k 0 < 256 = λ k j. rw (e, get_or-take 8 s k 0 j) (fits k) in
+    let a = l 0 (lit< tt) in
+    let b = l 1 (lit< tt) in
+    let c = l 2 (lit< tt) in
+    let d = l 3 (lit< tt) in
+    let p = l 4 (lit< tt) in
+    let q = l 5 (lit< tt) in
+    let r = l 6 (lit< tt) in
+    let o = l 7 (lit< tt) in
+    stepped _ _ _ _ _ _ _ _ a b c d p q r o h _ (fours _ _ _ _ _ _ _ _ a b c d p q r o _ (pairs _ _ _ _ _ _ _ _ a b c d p q r o _ (le-eight t)))
+    ∙ eight_first s t h e

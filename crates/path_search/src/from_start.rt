@@ -19,7 +19,7 @@ fn path_from_in(file: &[u8], o: Opening, volume: usize, start: &[u8]) -> Option<
         return None;
     }
     let version = o.version;
-    let from = path_hash::carry_bytes(crate::hash_start(version), start);
+    let from = path_hash::carry_on(crate::hash_start(version), start);
     crate::search_in(file, o, path, from)
 }
 

@@ -76,7 +76,7 @@ fn number_of(path: &[u8], name: &[u8], sought: Sought) -> u32
         return NO_NUMBER;
     }
     let cut = path.len();
-    let hash = path_hash::carry_bytes(sought.from, &name[cut..]);
+    let hash = path_hash::carry_on(sought.from, &name[cut..]);
     let version = sought.version;
     number_for(sought.stored, hash_end(version, hash))
 }

@@ -1,4 +1,3 @@
-pub mod Powers
 pub mod Products
 pub mod Sum
 pub mod Swaps

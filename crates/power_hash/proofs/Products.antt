@@ -1,11 +1,7 @@
 -- Products and powers modulo 2 ^ 32.
-use Rattle.std.proofs.Common.{◌≡◌, ℕ, zero, suc, ◌+◌, ◌*◌, ◌/◌, ◌%◌, ◌^◌, ◌<◌, ◌≤◌, sym, refl, ap, ◌∙◌, lt_of_le_of_lt, le_of_lt, mul-le-mul_left, mul-lt-mul_of_pos_right, pow-suc, arith, lit<}
+use Rattle.std.proofs.Common.{◌≡◌, ℕ, zero, suc, ◌+◌, ◌*◌, ◌/◌, ◌%◌, ◌^◌, ◌<◌, ◌≤◌, sym, refl, ap, ◌∙◌, pow-suc, arith}
 use native.Mathlib.Nat.{div-add-mod, pow-zero}
 use Rattle.path_hash.proofs.Laws.{same-mod}
-
--- two numbers of 32 bits have a product of 64
-pub product_fits : {a b : ℕ} → a < 2 ^ 32 → b < 2 ^ 32 → a * b < 2 ^ 64
-product_fits {a} {b} l m = lt_of_le_of_lt (mul-le-mul_left a (le_of_lt m)) (mul-lt-mul_of_pos_right l (lit< tt))
 
 -- a factor's multiples of 2 ^ 32 may be taken off before a product
 pub mod_times : (x A P : ℕ) → (x % 2 ^ 32 * A + P) % 2 ^ 32 ≡ (x * A + P) % 2 ^ 32

@@ -1,13 +1,13 @@
 -- The swap of a start gives the hash of the joined list.
-use Rattle.std.proofs.Common.{◌≡◌, ℕ, zero, suc, ◌+◌, ◌-◌, ◌*◌, ◌/◌, ◌%◌, ◌^◌, ◌<◌, ◌≤◌, List, [], ◌∷◌, ◌++◌, length, take, drop, sym, refl, ap, ◌∙◌, arith, lit<, length-drop, le-leb}
+use Rattle.std.proofs.Common.{◌≡◌, ℕ, zero, suc, ◌+◌, ◌-◌, ◌*◌, ◌/◌, ◌%◌, ◌^◌, ◌<◌, ◌≤◌, List, [], ◌∷◌, ◌++◌, length, take, drop, map, Ok, sym, refl, ap, mod-eq_of_lt, arith, lit<, length-drop, le-leb}
 use native.Mathlib.Nat.{div-add-mod, add-mod-mod}
-use borrow.Author.Tests.{lt-leb}
+use Rattle.std.proofs.lemmas.List.{length-map, take-map}
+use Rattle.std.specs.List.{IsSplitAt}
 use Rattle.lists.specs.Answer.{Answers}
 use Rattle.lists.proofs.Answers.{answers}
 use Rattle.path_hash.specs.Hash.{step, plain, vista, wrap_sub}
-use Rattle.path_hash.proofs.Laws.{same-mod, plain-append, plain-lt, wrapped}
+use Rattle.path_hash.proofs.Laws.{same-mod, plain-append, plain-lt}
 use Rattle.power_hash.specs.Powers.{power_sum, swap_hash, swap_answer, swap_said}
-use Rattle.power_hash.specs.declared.Swap.TheVariants.{Swapped, TooLong}
 use Rattle.power_hash.proofs.Sum.{plain-sum}
 
 -- a list is its first p numbers and the others
@@ -41,21 +41,19 @@ swap_joined old start p l =
       ap (λ (k : ℕ). k * A) t,
     )))
 
--- what the code gives for the swap's hash
-pub swap_turn : (h new old kept d x r : ℕ) → d < 2 ^ 32 → (d + old) % 2 ^ 32 ≡ new → x ≡ d * 37 ^ kept % 2 ^ 32 → r ≡ (h + x) % 2 ^ 32
-    → r ≡ (h + wrap_sub new old * 37 ^ kept) % 2 ^ 32
-swap_turn h new old kept d x r l e m f =
-    let y : d ≡ wrap_sub new old = wrapped d new old l (omega arith) in
-    f ∙ rw (m, ← y) (add-mod-mod h (d * 37 ^ kept) (2 ^ 32))
+-- what the code gives for the swap's hash: the difference wraps as in the definition
+pub swap_turn : (h new old kept : ℕ) → old < 2 ^ 32
+    → (h + (new + (2 ^ 32 - old)) % 2 ^ 32 * 37 ^ kept % 2 ^ 32) % 2 ^ 32 ≡ (h + wrap_sub new old * 37 ^ kept) % 2 ^ 32
+unfolding wrap_sub
+swap_turn h new old kept l = rw (mod-eq_of_lt l) (add-mod-mod h ((new + (2 ^ 32 - old)) % 2 ^ 32 * 37 ^ kept) (2 ^ 32))
 
--- the two answers
-pub answer_long : (h p : ℕ) (old start : List ℕ) → length old < p → Answers swap_said (swap_answer h old p start) TooLong
-answer_long h p old start l =
-    answers swap_said (swap_answer h old p start) TooLong (sym (rw (lt-leb p (length old) l)))
-
-pub answer_swapped : (h p a b r : ℕ) (old start : List ℕ) → p ≤ length old → a ≡ vista start → b ≡ vista (take p old)
-    → r ≡ (h + wrap_sub a b * 37 ^ (length old - p)) % 2 ^ 32 → Answers swap_said (swap_answer h old p start) (Swapped r)
+-- the swap's answer, where the old list is split
+pub answer_swapped : {A : Type 0} (value : A → ℕ) (h p r : ℕ) (old start before kept : List A) → IsSplitAt old p before kept
+    → r ≡ (h + wrap_sub (vista (map value start)) (vista (map value before)) * 37 ^ length kept) % 2 ^ 32
+    → Answers swap_said (swap_answer h (map value old) p (map value start)) (Ok r)
 unfolding swap_hash
-answer_swapped h p a b r old start l e d f =
-    answers swap_said (swap_answer h old p start) (Swapped r)
-    (rw (le-leb p (length old) l, ← e, ← d, ← f))
+answer_swapped value h p r old start before kept split e =
+    let n : length kept ≡ length old - p = omega (arith, split.4) in
+    let l : p ≤ length (map value old) = rw (length-map old value) split.0 in
+    answers swap_said (swap_answer h (map value old) p (map value start)) (Ok r)
+    (rw (le-leb p (length (map value old)) l, length-map old value, take-map value p old, ← split.1, ← n, ← e))

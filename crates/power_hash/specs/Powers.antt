@@ -1,10 +1,9 @@
 -- Request 109: a second engine for the Vista hash, on a table of powers of 37, and the hash of a path whose start is swapped.
-use Rattle.std.specs.Prelude.{◌≡◌, ℕ, ◌+◌, ◌-◌, ◌*◌, ◌%◌, ◌^◌, ◌<◌, List, [], ◌∷◌, length, take, nat_le, slice_index, slice_index_or}
+use Rattle.std.specs.Prelude.{◌≡◌, ℕ, ◌+◌, ◌-◌, ◌*◌, ◌%◌, ◌^◌, ◌<◌, List, [], ◌∷◌, length, take, nat_le, slice_index, slice_index_or, Result, Ok, Err}
 use Rattle.lists.specs.Answer.{Said}
 use Rattle.lists.specs.Count.{pick}
 use Rattle.path_hash.specs.Hash.{plain, vista, wrap_sub}
-use Rattle.power_hash.specs.declared.Swap.{Swap}
-use Rattle.power_hash.specs.declared.Swap.TheVariants.{Swapped, TooLong}
+use Rattle.power_hash.specs.declared.TooLong.{TooLong}
 
 -- a table of 1,024 powers of 37: each entry is 37 times the one before, modulo 2 to the 32
 pub record PowerTable (t : List ℕ) : Type 0 where
@@ -26,10 +25,10 @@ unfoldable pub swap_hash : ℕ → List ℕ → ℕ → List ℕ → ℕ
 swap_hash h old p start = (h + wrap_sub (vista start) (vista (take p old)) * 37 ^ (length old - p)) % 2 ^ 32
 
 -- the first p numbers swapped for another list; 25 where p exceeds the old list's length
-abbrev pub swap_answer : ℕ → List ℕ → ℕ → List ℕ → Swap
-swap_answer h old p start = pick (nat_le p (length old)) (Swapped (swap_hash h old p start)) TooLong
+abbrev pub swap_answer : ℕ → List ℕ → ℕ → List ℕ → Result ℕ TooLong
+swap_answer h old p start = pick (nat_le p (length old)) (Ok (swap_hash h old p start)) (Err (record {}))
 
 -- what each case says: 0 with the new hash, or 25 with hash 0
-abbrev pub swap_said : Swap → Said
-swap_said (Swapped h) = record { number = 0; values = h ∷ [] }
-swap_said TooLong = record { number = 25; values = 0 ∷ [] }
+abbrev pub swap_said : Result ℕ TooLong → Said
+swap_said (Ok h) = record { number = 0; values = h ∷ [] }
+swap_said (Err e) = record { number = 25; values = 0 ∷ [] }

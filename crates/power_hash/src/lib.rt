@@ -1,170 +1,92 @@
 // The Vista hash on a table of powers of 37, and the hash of a path whose start is swapped.
 #![tactic(auto)]
 
-ghost use Rattle.std.specs.Prelude.{◌≡◌, ◌+◌, ◌*◌, ◌%◌, ◌^◌, ◌≤◌, length};
+ghost use Rattle.std.specs.Prelude.{◌≡◌, ◌+◌, ◌*◌, ◌%◌, ◌^◌, ◌≤◌, length, map};
 ghost use Rattle.lists.specs.Answer.{Answers};
 ghost use Rattle.path_hash.specs.Hash.{vista, wrap_sub};
-ghost use Rattle.power_hash.specs.Private.{Entries};
-ghost use Rattle.power_hash.specs.Powers.{hash_powers, swap_answer, swap_said};
+ghost use Rattle.power_hash.specs.Powers.{PowerTable, hash_powers, swap_answer, swap_said};
 
 mod entries;
 
-use entries::{FIRST, POWERS};
-use path_hash::VISTA_START;
+use entries::POWERS;
+use path_hash::{Number, VISTA_START};
 
-#[derive(Clone, Copy)]
-pub enum Swap {
-    Swapped(u32),
-    TooLong,
-}
+// More numbers were to be swapped than there are.
+#[derive(Clone, Copy, Debug, PartialEq, Eq)]
+pub struct TooLong;
 
 // 36 times the start, added to each number: 314159 times 37^n is 314159 and 36 times 314159 times each of the n powers below it. So
 // the start needs no power of its own.
 const MORE: u32 = 11309724;
 
-// The most numbers that the table serves, and its first entries alone.
+// The most numbers that the table serves.
 const TABLE_SIZE: usize = 1024;
 
-const FIRST_SIZE: usize = 256;
-
-fn times(a: u32, b: u32) -> u32
-    ensures { result ≡ a * b % 2 ^ 32 }
+// The table, which keeps the rule: proved once, here.
+fn power_table() -> &'static [u32; 1024]
+    ensures { PowerTable result.now }
 {
-    ((a as u64) * (b as u64) % 4294967296) as u32
+    &POWERS
 }
 
-// 37 to the k by squaring: the cost grows with the logarithm of k.
+// 37 to the k by squaring: the cost grows with the logarithm of k. The library's `wrapping_pow` takes exponents of 32 bits alone.
 fn raised(from: u32, k: usize) -> u32
     ensures { result ≡ from * 37 ^ k % 2 ^ 32 }
 {
     let mut r = from;
-    let mut b = 37;
+    let mut b = 37u32;
     let mut q = k;
     while 0 < q {
         if q % 2 == 1 {
-            r = times(r, b);
+            r = r.wrapping_mul(b);
         }
-        b = times(b, b);
-        q = q / 2;
+        b = b.wrapping_mul(b);
+        q /= 2;
     }
     r
 }
 
 // Each number times its power, and the start, added up. The products don't wait for each other, and the compiler takes eight at once.
-fn sum_numbers(cs: &[u32], t: &[u32]) -> u32
-    requires { (length cs.now ≤ length t.now) × Entries t.now }
-    ensures { result ≡ vista cs.now }
+fn sum_powers<T: Number>(numbers: &[T]) -> u32
+    requires { length numbers.now ≤ 1024 }
+    ensures { result ≡ vista (map T.value numbers.now) }
 {
-    let n = cs.len();
-    let mut sum = 0;
-    let mut i = 0;
-    while i < n {
-        let c = std::num::wrapping_add_u32(cs[i], MORE);
-        sum = std::num::wrapping_add_u32(sum, times(c, t[n - 1 - i]));
-        i += 1;
-    }
-    std::num::wrapping_add_u32(sum, VISTA_START)
-}
-
-fn sum_bytes(text: &[u8], t: &[u32]) -> u32
-    requires { (length text.now ≤ length t.now) × Entries t.now }
-    ensures { result ≡ vista text.now }
-{
-    let n = text.len();
-    let mut sum = 0;
-    let mut i = 0;
-    while i < n {
-        let b = std::num::wrapping_add_u32(text[i] as u32, MORE);
-        sum = std::num::wrapping_add_u32(sum, times(b, t[n - 1 - i]));
-        i += 1;
-    }
-    std::num::wrapping_add_u32(sum, VISTA_START)
-}
-
-// A table is laid out anew in each call of the function that lends it, so each has its own.
-fn numbers_by_first(cs: &[u32]) -> u32
-    requires { length cs.now ≤ 256 }
-    ensures { result ≡ vista cs.now }
-{
-    sum_numbers(cs, &FIRST)
-}
-
-fn numbers_by_all(cs: &[u32]) -> u32
-    requires { length cs.now ≤ 1024 }
-    ensures { result ≡ vista cs.now }
-{
-    sum_numbers(cs, &POWERS)
-}
-
-fn bytes_by_first(text: &[u8]) -> u32
-    requires { length text.now ≤ 256 }
-    ensures { result ≡ vista text.now }
-{
-    sum_bytes(text, &FIRST)
-}
-
-fn bytes_by_all(text: &[u8]) -> u32
-    requires { length text.now ≤ 1024 }
-    ensures { result ≡ vista text.now }
-{
-    sum_bytes(text, &POWERS)
+    let powers = &power_table()[..numbers.len()];
+    numbers
+        .iter()
+        .zip(powers.iter().rev())
+        .fold(0u32, |sum, (number, power)| {
+            sum.wrapping_add(number.wide().wrapping_add(MORE).wrapping_mul(*power))
+        })
+        .wrapping_add(VISTA_START)
 }
 
 // The Vista hash of a list of numbers: up to 1,024 of them by the powers of 37, past that by the plain step.
-pub fn hash_powers(cs: &[u32]) -> u32
-    ensures { result ≡ hash_powers cs.now }
+#[tactic(auto, using(crate::proofs::Sum::powers_vista))]
+pub fn hash_powers<T: Number>(numbers: &[T]) -> u32
+    ensures { result ≡ hash_powers (map T.value numbers.now) }
 {
-    if TABLE_SIZE < cs.len() {
-        return path_hash::hash_vista(cs);
+    if TABLE_SIZE < numbers.len() {
+        return path_hash::hash_vista(numbers);
     }
-    if FIRST_SIZE < cs.len() {
-        return numbers_by_all(cs);
-    }
-    numbers_by_first(cs)
-}
-
-// The same of a text, each byte of which is a number.
-pub fn hash_powers_bytes(text: &[u8]) -> u32
-    ensures { result ≡ hash_powers text.now }
-{
-    if TABLE_SIZE < text.len() {
-        return path_hash::hash_vista_bytes(text);
-    }
-    if FIRST_SIZE < text.len() {
-        return bytes_by_all(text);
-    }
-    bytes_by_first(text)
+    sum_powers(numbers)
 }
 
 // The old hash plus the difference of the starts' hashes times the power of what is kept.
+#[tactic(auto, using(crate::proofs::Swaps::swap_turn))]
 fn swapped(hash: u32, new: u32, old: u32, kept: usize) -> u32
     ensures { result ≡ (hash + wrap_sub new old * 37 ^ kept) % 2 ^ 32 }
 {
-    std::num::wrapping_add_u32(hash, raised(std::num::wrapping_sub_u32(new, old), kept))
+    hash.wrapping_add(raised(new.wrapping_sub(old), kept))
 }
 
 // The first p numbers of the old list swapped for another start. Only the starts are read, so the cost does not grow with what is
 // kept, but for the logarithm of its length.
-pub fn hash_swap(old_hash: u32, old: &[u32], p: usize, start: &[u32]) -> Swap
-    ensures { Answers swap_said (swap_answer old_hash old.now p start.now) result }
+pub fn hash_swap<T: Number>(old_hash: u32, old: &[T], p: usize, start: &[T]) -> Result<u32, TooLong>
+    ensures { Answers swap_said (swap_answer old_hash (map T.value old.now) p (map T.value start.now)) result }
 {
-    let n = old.len();
-    if n < p {
-        return Swap::TooLong;
-    }
+    let (first, kept) = old.split_at_checked(p).ok_or(TooLong)?;
     let new = path_hash::hash_vista(start);
-    let before = path_hash::hash_vista(&old[..p]);
-    Swap::Swapped(swapped(old_hash, new, before, n - p))
-}
-
-pub fn hash_swap_bytes(old_hash: u32, old: &[u8], p: usize, start: &[u8]) -> Swap
-    ensures { Answers swap_said (swap_answer old_hash old.now p start.now) result }
-{
-    let size = old.len();
-    if size < p {
-        return Swap::TooLong;
-    }
-    let new = path_hash::hash_vista_bytes(start);
-    let before = path_hash::hash_vista_bytes(&old[..p]);
-    Swap::Swapped(swapped(old_hash, new, before, size - p))
+    let before = path_hash::hash_vista(first);
+    Ok(swapped(old_hash, new, before, kept.len()))
 }

@@ -1,6 +1,7 @@
 -- The reply says what the call answered.
+use Rattle.std.proofs.lemmas.List.{map-id}
 use Rattle.hivesaddle.proofs.hashes.hs_hash_swap.Goals as goal
 
 pub returns : goal.returns
 returns c =
-    rw (c.swap_reply.ensures, c.hash_swap-answer.ensures.answer) at c.put_reply.ensures
+    rw (c.swap_reply.ensures, c.hash_swap-answer.ensures.answer, map-id c.args.old.now, map-id c.args.start.now) at c.put_reply.ensures

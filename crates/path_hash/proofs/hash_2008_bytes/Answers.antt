@@ -1,7 +1,0 @@
--- The 2008 hash is the Vista hash on every list.
-use Rattle.std.proofs.Common.{◌∙◌}
-use Rattle.path_hash.proofs.Laws.{vista_2008}
-use Rattle.path_hash.proofs.hash_2008_bytes.Goals as goal
-
-pub returns : goal.returns
-returns c = c.carry_bytes.ensures ∙ vista_2008 _
