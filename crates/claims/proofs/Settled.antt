@@ -45,8 +45,8 @@ use Rattle.walk.specs.Walk.{Values, values_of}
 use Rattle.walk.specs.declared.WalkAnswer.{WalkAnswer}
 use Rattle.walk.specs.declared.WalkAnswer.TheVariants as walk_answer
 use Rattle.readings.specs.Replay.{said_of}
-use Rattle.readings.specs.declared.ReplayAnswer.{ReplayAnswer}
-use Rattle.readings.specs.declared.ReplayAnswer.TheVariants as replay_answer
+use Rattle.readings.specs.declared.BadLine.{BadLine}
+use Rattle.std.proofs.Common.{Result, Ok, Err}
 use Rattle.hivesaddle.specs.Output.{Answered, ReadOut}
 use Rattle.claims.specs.Settled.{Settles₁, Settles₂, SettlesPart, Settled}
 
@@ -107,12 +107,12 @@ walk : (r : WalkAnswer) → walk_back (values_of r) ≡ r
 walk (walk_answer.Walked n t) = refl
 walk (walk_answer.Refused x) = refl
 
-abbrev replay_back : Said → ReplayAnswer
-replay_back v = pick (eqb v.number 0) replay_answer.Replayed (replay_answer.Refused (get_or v.values 0 0))
+abbrev replay_back : Said → Result Unit BadLine
+replay_back v = pick (eqb v.number 0) (Ok tt) (Err (record { number = get_or v.values 0 0 }))
 
-replay : (r : ReplayAnswer) → replay_back (said_of r) ≡ r
-replay replay_answer.Replayed = refl
-replay (replay_answer.Refused x) = refl
+replay : (r : Result Unit BadLine) → replay_back (said_of r) ≡ r
+replay (Ok x) = refl
+replay (Err x) = refl
 
 abbrev line_back : LineAnswer → ReadLine
 line_back a = pick (eqb a.number 0) (read_line.Line a.fields) read_line.Refused
