@@ -30,8 +30,8 @@ use Rattle.reader.proofs.Values.{same_values}
 use Rattle.lists.specs.Pairs.{PairsListed}
 use Rattle.walk.specs.Walk.{Values, values_of}
 use Rattle.readings.specs.Replay.{said_of}
-use Rattle.readings.specs.declared.ReplayAnswer.{ReplayAnswer}
-use Rattle.readings.specs.declared.ReplayAnswer.TheVariants as replay_answer
+use Rattle.readings.specs.declared.BadLine.{BadLine}
+use Rattle.std.proofs.Common.{Result, Ok, Err}
 use Rattle.hivesaddle.specs.Output.{Answered, ReadOut}
 use Rattle.claims.specs.Settled.{Settles₁, Settles₂, SettlesPart, Settled}
 use Rattle.std.specs.Prelude.{Err, None, Ok, Option, Result, Some}
@@ -98,12 +98,12 @@ walk : (r : Result Walked Refusal) → walk_back (values_of r) ≡ r
 walk (Ok w) = refl
 walk (Err x) = refl
 
-abbrev replay_back : Said → ReplayAnswer
-replay_back v = pick (eqb v.number 0) replay_answer.Replayed (replay_answer.Refused (get_or v.values 0 0))
+abbrev replay_back : Said → Result Unit BadLine
+replay_back v = pick (eqb v.number 0) (Ok tt) (Err (record { number = get_or v.values 0 0 }))
 
-replay : (r : ReplayAnswer) → replay_back (said_of r) ≡ r
-replay replay_answer.Replayed = refl
-replay (replay_answer.Refused x) = refl
+replay : (r : Result Unit BadLine) → replay_back (said_of r) ≡ r
+replay (Ok x) = refl
+replay (Err x) = refl
 
 abbrev line_back : LineAnswer → ReadLine
 line_back a = pick (eqb a.number 0) (read_line.Line a.fields) read_line.Refused

@@ -5,19 +5,19 @@ ghost use Rattle.hivesaddle.specs.Output.{ReplayOut, progress_of, BeginOut, Feed
 ghost use Rattle.hivesaddle.specs.Private.{said_by};
 
 use crate::replies::{Reply, one, put_reply, three, two};
-use readings::{Progress, ReplayAnswer};
+use readings::{BadLine, Progress};
 
 // The number of a refused recording, and the line's where none is bad.
 const BAD_LINE: u32 = 22;
 
 const NO_LINE: u64 = 0;
 
-fn replay_reply(answer: ReplayAnswer) -> Reply
+fn replay_reply(answer: Result<(), BadLine>) -> Reply
     ensures { said_by result ≡ said_of answer }
 {
     match answer {
-        ReplayAnswer::Replayed => one(0, NO_LINE),
-        ReplayAnswer::Refused(line) => one(BAD_LINE, line),
+        Ok(()) => one(0, NO_LINE),
+        Err(line) => one(BAD_LINE, line.number),
     }
 }
 
@@ -68,10 +68,7 @@ pub fn hs_replay_feed(
         answers.old result answers.new out.old out.new }
 {
     let fed = readings::feed(
-        Progress {
-            lines: lines,
-            bad: bad,
-        },
+        Progress { lines, bad },
         piece,
         times,
         boards,
@@ -96,10 +93,7 @@ pub fn hs_replay_finish(
     ensures { FinishOut (progress_of lines bad) waiting times.now boards.now work.old answers.old result
         work.new answers.new out.old out.new }
 {
-    let p = Progress {
-        lines: lines,
-        bad: bad,
-    };
+    let p = Progress { lines, bad };
     let ended = readings::finish(p, waiting as usize, times, boards, work, answers);
     put_reply(replay_reply(ended), out)
 }

@@ -11,7 +11,6 @@ pub mod Passes
 pub mod Answering
 pub mod BestReading
 pub mod Points
-pub mod Signed
 pub mod Framing
 pub mod Feeding
 pub mod PieceSteps

@@ -1,6 +1,6 @@
 -- THE PROGRAM: however its input is cut, it writes the output of the whole. The end of a run gives the answers, whose lines are the best
 -- readings', or the refusal, which the buffer has room for.
-use Rattle.std.proofs.Common.{◌≡◌, ℕ, suc, ◌+◌, ◌-◌, ◌*◌, ◌^◌, ◌<◌, ◌≤◌, min, Bool, true, false, eqb, List, [], ◌∷◌, ◌++◌, map, length, take, drop, refl, ap, ◌∙◌, arith, length-append, length-drop, length-take-le}
+use Rattle.std.proofs.Common.{◌≡◌, ℕ, suc, ◌+◌, ◌-◌, ◌*◌, ◌^◌, ◌<◌, ◌≤◌, min, Bool, true, false, eqb, List, [], ◌∷◌, ◌++◌, map, length, take, drop, refl, ap, ◌∙◌, arith, length-append, length-drop, length-take-le, Result, Ok, Err}
 use Rattle.lists.specs.Answer.{Said}
 use Rattle.lists.specs.Count.{pick}
 use Rattle.lists.proofs.Tests.{never}
@@ -11,8 +11,7 @@ use Rattle.text.specs.Ascii.{ascii}
 use Rattle.text.specs.Decimal.{decimal}
 use Rattle.text.proofs.Decimal.{decimal_short}
 use Rattle.text.proofs.Growth.{put_whole}
-use Rattle.readings.specs.declared.ReplayAnswer.{ReplayAnswer}
-use Rattle.readings.specs.declared.ReplayAnswer.TheVariants.{Replayed, Refused}
+use Rattle.readings.specs.declared.BadLine.{BadLine}
 use Rattle.readings.specs.Recording.{Recorded, readings, bad_line, before, reading_in, recorded_from}
 use Rattle.readings.specs.Replay.{place_of, said_of, saying_of}
 use Rattle.readings.specs.Feeding.{joined}
@@ -60,24 +59,24 @@ refused_size n l =
 
 module _ (ls : List (List ℕ)) (starts : ℕ) (given buffer : List ℕ) (afters : List (List ℕ)) (output : List ℕ) (s : starts ≡ length ls)
     (room : 32 ≤ length buffer) where
-  writes_output : (r : ReplayAnswer) (rec : Recorded) → said_of r ≡ saying_of rec → (x : List ℕ)
+  writes_output : (r : Result Unit BadLine) (rec : Recorded) → said_of r ≡ saying_of rec → (x : List ℕ)
       → given ≡ tabulate (4 * length ls) (place_of rec (map time_in ls) (map board_in ls)) ++ x → ((n : ℕ) → rec ≡ bad_line n → n < 10 ^ 20)
       → WritesResult r starts given buffer afters output → output ≡ output_for ls rec
-  writes_output Replayed (readings rs) e x g b w =
+  writes_output (Ok _) (readings rs) e x g b w =
       let i : starts - 0 ≡ length ls = omega arith in
       writes_lines given starts 0 buffer afters output w
       ∙ ap (answer_lines given 0) i
       ∙ ap (λ (a : List ℕ). answer_lines a 0 (length ls)) g
       ∙ lines_best (readings rs) ls x
-  writes_output Replayed (bad_line n) e x g b w = absurd (omega (arith, ap (λ (y : Said). y.number) e))
-  writes_output (Refused line) (readings rs) e x g b w = absurd (omega (arith, ap (λ (y : Said). y.number) e))
-  writes_output (Refused line) (bad_line n) e x g b w =
-      let v : ◌≡◌ {A = List ℕ} (line ∷ []) (n ∷ []) = ap (λ (y : Said). y.values) e in
-      let z : line ≡ n = cc in
+  writes_output (Ok _) (bad_line n) e x g b w = absurd (omega (arith, ap (λ (y : Said). y.number) e))
+  writes_output (Err line) (readings rs) e x g b w = absurd (omega (arith, ap (λ (y : Said). y.number) e))
+  writes_output (Err line) (bad_line n) e x g b w =
+      let v : ◌≡◌ {A = List ℕ} (line.number ∷ []) (n ∷ []) = ap (λ (y : Said). y.values) e in
+      let z : line.number ≡ n = cc in
       let i : w.0 ≡ w.0 - 0 = omega arith in
       w.3
       ∙ ap (λ (k : ℕ). take k w.1) i
-      ∙ put_whole buffer 0 (refused_line line) w.0 w.1 w.2 (omega arith) (omega (arith, room, refused_size line (rw z (b n refl))))
+      ∙ put_whole buffer 0 (refused_line line.number) w.0 w.1 w.2 (omega arith) (omega (arith, room, refused_size line.number (rw z (b n refl))))
       ∙ ap refused_line z
 
 -- nothing has been taken: the whole input is to come

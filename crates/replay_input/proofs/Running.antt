@@ -1,6 +1,6 @@
 -- A whole run of the program: the start lines of the bytes at hand are those of all bytes, whatever comes behind, and once the recording has
 -- begun the steps are its pieces, so that the end gives the answers of the whole input.
-use Rattle.std.proofs.Common.{◌≡◌, ℕ, ◌+◌, ◌-◌, ◌*◌, ◌%◌, ◌^◌, ◌<◌, ◌≤◌, true, false, ltb, List, [], ◌∷◌, ◌++◌, map, length, take, drop, sym, refl, ap, ◌∙◌, subst, append_assoc, append-nil, arith, length-append, length-drop, length-take-le, drop-drop, ltb-false, ltb-true}
+use Rattle.std.proofs.Common.{◌≡◌, ℕ, ◌+◌, ◌-◌, ◌*◌, ◌%◌, ◌^◌, ◌<◌, ◌≤◌, true, false, ltb, List, [], ◌∷◌, ◌++◌, map, length, take, drop, sym, refl, ap, ◌∙◌, subst, append_assoc, append-nil, arith, length-append, length-drop, length-take-le, drop-drop, ltb-false, ltb-true, Result}
 use lib.ListN.{length-map}
 use lib.Seq.{sets, length-sets}
 use Rattle.lists.specs.Table.{tabulate}
@@ -9,7 +9,7 @@ use Rattle.lists.proofs.Tests.{by_test}
 use Rattle.lines.specs.Lines.{lines_in}
 use Rattle.lines.proofs.Leading.{leading_fit, leading_few}
 use Rattle.readings.specs.declared.pieces.Progress.{Progress}
-use Rattle.readings.specs.declared.ReplayAnswer.{ReplayAnswer}
+use Rattle.readings.specs.declared.BadLine.{BadLine}
 use Rattle.readings.specs.Recording.{Recorded, recorded_from}
 use Rattle.readings.specs.Replay.{place_of, answer_count, said_of, saying_of}
 use Rattle.readings.specs.Feeding.{Midway, served_count, begun_work, begun_answers, fed_by, fed_answers, Finishes, FeedsAll, joined}
@@ -31,12 +31,12 @@ use Rattle.replay_input.proofs.StartLines.{Small, small_append, small_leading, s
 pub record Gives (q : InputRead) (size : ℕ) (last : Input) (held : Lists) : Type 0 where
   pub starts : last.stage.starts ≡ length q.starts
   pub size_is : length held.buffer ≡ size
-  pub ends : (r : ReplayAnswer) (work' answers' : List ℕ) → Ends last held.times held.boards held.work held.answers r work' answers'
+  pub ends : (r : Result Unit BadLine) (work' answers' : List ℕ) → Ends last held.times held.boards held.work held.answers r work' answers'
       → (said_of r ≡ saying_of q.recording)
       × (x : List ℕ)
       × (answers' ≡ tabulate (4 * length q.starts) (place_of q.recording (map time_in q.starts) (map board_in q.starts)) ++ x)
 
-module _ (last : Input) (held : Lists) (f : StartsFit last.stage.starts held.times held.boards) (r : ReplayAnswer) (work' answers' : List ℕ)
+module _ (last : Input) (held : Lists) (f : StartsFit last.stage.starts held.times held.boards) (r : Result Unit BadLine) (work' answers' : List ℕ)
     (e : Ends last held.times held.boards held.work held.answers r work' answers') where
   abbrev t : Stage
   t = last.stage
@@ -82,7 +82,7 @@ module _ (most : ℕ) (ks : List (List ℕ)) (l : Lists) (room_is : HasRoom most
   pieces-give : length s < 23 → 2 * length ks + length s + length (joined ps) < 2 ^ 64 → (last : Midway)
       → FeedsAll times boards order
       (record { progress = record { lines = length ks; bad = 0 }; waiting = s; answers = begun_answers times boards l.work l.answers }) ps last
-      → (r : ReplayAnswer) (answers' : List ℕ)
+      → (r : Result Unit BadLine) (answers' : List ℕ)
       → Finishes last.progress (length last.waiting) times boards order last.answers r (filled (length order)) answers'
       → (said_of r ≡ saying_of rec) × (x : List ℕ) × (answers' ≡ tabulate (4 * length ks) (place_of rec times boards) ++ x)
   pieces-give h b last f r answers' g =

@@ -1,5 +1,5 @@
 -- Start lines are stored one after another: those stored and those still to come make up all that the bytes begin with.
-use Rattle.std.proofs.Common.{◌≡◌, ℕ, suc, ◌+◌, ◌-◌, ◌*◌, ◌<◌, ◌≤◌, min, true, false, List, [], ◌∷◌, ◌++◌, map, length, take, drop, set, sym, refl, ap, ◌∙◌, append_assoc, append-nil, add-zero, arith, length-append, length-drop, drop-drop}
+use Rattle.std.proofs.Common.{◌≡◌, ℕ, suc, ◌+◌, ◌-◌, ◌*◌, ◌<◌, ◌≤◌, true, false, List, [], ◌∷◌, ◌++◌, map, length, take, drop, set, sym, refl, ap, ◌∙◌, append_assoc, append-nil, add-zero, arith, length-append, length-drop, drop-drop}
 use mathlib.Core.List.{map-append}
 use lib.ListN.{length-map}
 use lib.Seq.{sets, length-sets}
@@ -13,24 +13,23 @@ sets_more l i [] v = ap (λ (j : ℕ). set l j v) (sym (add-zero i))
 sets_more l i (u ∷ vs) v = sets_more (set l i u) (suc i) vs v ∙ ap (λ (j : ℕ). set (sets (set l i u) (suc i) vs) j v) (omega arith)
 
 -- the first k start lines are stored
-pub record Storing (s : List ℕ) (n held : ℕ) (times boards : List ℕ) (k at : ℕ) (times' boards' : List ℕ) : Type 0 where
+pub record Storing (s : List ℕ) (n held : ℕ) (times boards : List ℕ) (k : ℕ) (times' boards' : List ℕ) : Type 0 where
   pub within : k ≤ n
-  pub place : at ≡ 19 * k
-  pub reach : at ≤ length s
+  pub reach : 19 * k ≤ length s
   pub done : List (List ℕ)
   pub many : length done ≡ k
-  pub split : leading 18 n s ≡ done ++ leading 18 (n - k) (drop at s)
+  pub split : leading 18 n s ≡ done ++ leading 18 (n - k) (drop (19 * k) s)
   pub times'_are : times' ≡ sets times held (map time_in done)
   pub boards'_are : boards' ≡ sets boards held (map board_in done)
 
-pub storing_start : (s : List ℕ) (n held : ℕ) (times boards : List ℕ) → Storing s n held times boards 0 0 times boards
+pub storing_start : (s : List ℕ) (n held : ℕ) (times boards : List ℕ) → Storing s n held times boards 0 times boards
 storing_start s n held times boards =
     let e : n - 0 ≡ n = omega arith in
-    record { within = omega arith; place = refl; reach = omega arith; done = []; many = refl; split = rw e; times'_are = refl; boards'_are = refl }
+    record { within = omega arith; reach = omega arith; done = []; many = refl; split = rw e; times'_are = refl; boards'_are = refl }
 
-module _ (s : List ℕ) (n held : ℕ) (times boards : List ℕ) (k at : ℕ) (times' boards' : List ℕ) (c : Storing s n held times boards k at times' boards') where
-  pub storing_fits : is_line 18 (take 19 (drop at s)) ≡ true → at + 19 ≤ length s
-  storing_fits e = omega (arith, line_long 18 (drop at s) e, length-drop at s)
+module _ (s : List ℕ) (n held : ℕ) (times boards : List ℕ) (k : ℕ) (times' boards' : List ℕ) (c : Storing s n held times boards k times' boards') where
+  pub storing_fits : is_line 18 (take 19 (drop (19 * k) s)) ≡ true → 19 * (k + 1) ≤ length s
+  storing_fits e = omega (arith, line_long 18 (drop (19 * k) s) e, length-drop (19 * k) s)
 
   pub storing_sizes : (length times' ≡ length times) × (length boards' ≡ length boards)
   storing_sizes = (
@@ -38,24 +37,25 @@ module _ (s : List ℕ) (n held : ℕ) (times boards : List ℕ) (k at : ℕ) (t
     ap length c.boards'_are ∙ length-sets boards held (map board_in c.done),
   )
 
-  more : k < n → is_line 18 (take 19 (drop at s)) ≡ true → leading 18 (n - k) (drop at s) ≡ take 19 (drop at s) ∷ leading 18 (n - (k + 1)) (drop (at + 19) s)
-  more l e = let d : n - k ≡ suc (n - (k + 1)) = omega arith in rw (d, ← drop-drop 19 at s) (leading_more 18 (n - (k + 1)) (drop at s) e)
+  more : k < n → is_line 18 (take 19 (drop (19 * k) s)) ≡ true → leading 18 (n - k) (drop (19 * k) s) ≡ take 19 (drop (19 * k) s) ∷ leading 18 (n - (k + 1)) (drop (19 * (k + 1)) s)
+  more l e = let d : n - k ≡ suc (n - (k + 1)) = omega arith in
+      let m : 19 * k + 19 ≡ 19 * (k + 1) = omega arith in
+      rw (d, ← m, ← drop-drop 19 (19 * k) s) (leading_more 18 (n - (k + 1)) (drop (19 * k) s) e)
 
-  pub storing_step : (times'' boards'' : List ℕ) (line : List ℕ) → k < n → line ≡ take 19 (drop at s) → is_line 18 line ≡ true
+  pub storing_step : (times'' boards'' : List ℕ) (line : List ℕ) → k < n → line ≡ take 19 (drop (19 * k) s) → is_line 18 line ≡ true
       → times'' ≡ set times' (held + k) (time_in line) → boards'' ≡ set boards' (held + k) (board_in line)
-      → Storing s n held times boards (k + 1) (at + 19) times'' boards''
+      → Storing s n held times boards (k + 1) times'' boards''
   storing_step times'' boards'' line l q e x y =
-      let f : is_line 18 (take 19 (drop at s)) ≡ true = ap (is_line 18) (sym q) ∙ e in
+      let f : is_line 18 (take 19 (drop (19 * k) s)) ≡ true = ap (is_line 18) (sym q) ∙ e in
       record {
         within = omega arith;
-        place = omega (arith, c.place);
         reach = storing_fits f;
         done = c.done ++ line ∷ [];
         many = length-append c.done (line ∷ []) ∙ omega (arith, c.many);
         split =
             c.split
-            ∙ ap (λ (z : List (List ℕ)). c.done ++ z) (more l f ∙ ap (λ (z : List ℕ). z ∷ leading 18 (n - (k + 1)) (drop (at + 19) s)) (sym q))
-            ∙ sym (append_assoc c.done (line ∷ []) (leading 18 (n - (k + 1)) (drop (at + 19) s)));
+            ∙ ap (λ (z : List (List ℕ)). c.done ++ z) (more l f ∙ ap (λ (z : List ℕ). z ∷ leading 18 (n - (k + 1)) (drop (19 * (k + 1)) s)) (sym q))
+            ∙ sym (append_assoc c.done (line ∷ []) (leading 18 (n - (k + 1)) (drop (19 * (k + 1)) s)));
         times'_are = x ∙ stored times time_in c.times'_are;
         boards'_are = y ∙ stored boards board_in c.boards'_are;
       }
@@ -69,10 +69,10 @@ module _ (s : List ℕ) (n held : ℕ) (times boards : List ℕ) (k at : ℕ) (t
           ∙ ap (sets l held) (sym (map-append f c.done (line ∷ [])))
 
   -- no start line is left
-  ended : leading 18 (n - k) (drop at s) ≡ [] → leading 18 n s ≡ c.done
+  ended : leading 18 (n - k) (drop (19 * k) s) ≡ [] → leading 18 n s ≡ c.done
   ended e = c.split ∙ ap (λ (z : List (List ℕ)). c.done ++ z) e ∙ append-nil c.done
 
-  stored-all : n ≡ room held times boards → leading 18 (n - k) (drop at s) ≡ [] → TakesStarts s held times boards k times' boards'
+  stored-all : n ≡ room held times boards → leading 18 (n - k) (drop (19 * k) s) ≡ [] → TakesStarts s held times boards k times' boards'
   stored-all m e =
       let d : leading 18 (room held times boards) s ≡ c.done = ap (λ (j : ℕ). leading 18 j s) (sym m) ∙ ended e in
       record {
@@ -81,16 +81,11 @@ module _ (s : List ℕ) (n held : ℕ) (times boards : List ℕ) (k at : ℕ) (t
         boards'_are = c.boards'_are ∙ ap (λ (z : List (List ℕ)). sets boards held (map board_in z)) (sym d);
       }
 
-  pub storing_stop : n ≡ room held times boards → is_line 18 (take 19 (drop at s)) ≡ false → TakesStarts s held times boards k times' boards'
-  storing_stop m e = stored-all m (leading_none 18 (n - k) (drop at s) e)
+  pub storing_stop : n ≡ room held times boards → is_line 18 (take 19 (drop (19 * k) s)) ≡ false → TakesStarts s held times boards k times' boards'
+  storing_stop m e = stored-all m (leading_none 18 (n - k) (drop (19 * k) s) e)
 
-  pub storing_full : n ≡ room held times boards → n ≤ k → TakesStarts s held times boards k times' boards'
+  pub storing_full : n ≡ room held times boards → n ≤ k → TakesStarts s held times boards n times' boards'
   unfolding leading
-  storing_full m l = stored-all m (let d : n - k ≡ 0 = omega arith in rw d)
-
--- there is no place
-pub no_room : (s : List ℕ) (held : ℕ) (times boards : List ℕ) → min (length times) (length boards) ≤ held → TakesStarts s held times boards 0 times boards
-unfolding leading
-no_room s held times boards l =
-    let e : room held times boards ≡ 0 = omega arith in
-    record { count = rw e; times'_are = rw e; boards'_are = rw e }
+  storing_full m l =
+      let e : k ≡ n = omega (arith, c.within) in
+      rw e at (stored-all m (let d : n - k ≡ 0 = omega arith in rw d))

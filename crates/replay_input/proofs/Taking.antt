@@ -1,21 +1,17 @@
 -- What the steps leave, of what the functions that they call leave; and how many of the bytes are used.
-use Rattle.std.proofs.Common.{◌≡◌, ℕ, ◌+◌, ◌-◌, ◌*◌, ◌%◌, ◌^◌, ◌<◌, ◌≤◌, min, true, false, eqb, ltb, List, map, length, take, drop, sym, refl, ap, ◌∙◌, arith, length-drop, take_all, ltb-true, le-ltb, lt-ltb}
-use lib.ListN.{length-replicate}
+use Rattle.std.proofs.Common.{◌≡◌, ℕ, ◌+◌, ◌-◌, ◌*◌, ◌%◌, ◌^◌, ◌<◌, ◌≤◌, min, true, false, eqb, ltb, List, map, length, take, drop, refl, ap, ◌∙◌, arith, length-drop, take_all, ltb-true, le-ltb, lt-ltb}
 use lib.Seq.{length-sets}
-use Rattle.lists.specs.Filled.{empty, filled}
 use Rattle.lists.proofs.Tests.{by_test}
 use Rattle.lines.specs.Lines.{leading}
 use Rattle.lines.proofs.Leading.{leading_fit, leading_few}
-use Rattle.readings.specs.declared.pieces.Begun.{Begun}
 use Rattle.readings.specs.declared.pieces.Progress.{Progress}
 use Rattle.readings.specs.declared.pieces.Fed.{Fed}
-use Rattle.readings.specs.declared.ReplayAnswer.{ReplayAnswer}
-use Rattle.readings.specs.Feeding.{frame_count, waits, begun_work, begun_answers, fed_by, Begins, Feeds, Finishes}
+use Rattle.readings.specs.Feeding.{frame_count, waits, fed_by}
 use Rattle.replay_input.specs.declared.steps.Stage.{Stage}
 use Rattle.replay_input.specs.declared.steps.Input.{Input}
 use Rattle.replay_input.specs.declared.steps.Took.{Took}
 use Rattle.replay_input.specs.Starts.{time_in, board_in, room, TakesStarts}
-use Rattle.replay_input.specs.Program.{recording_taken, recording_begun, starts_taken, bytes_taken, fitting_stage, brought_forward, Steps, Ends}
+use Rattle.replay_input.specs.Program.{recording_taken, starts_taken, bytes_taken, fitting_stage, brought_forward, Steps}
 use Rattle.replay_input.specs.Private.{StartsFit, RecordingBegins, TakesBytes}
 
 -- ---- how many bytes are used: what is left can still become a line
@@ -47,35 +43,10 @@ bytes_used t s times boards work answers =
 
 -- ---- the recording
 
-module _ (starts : ℕ) (s times boards work answers : List ℕ) (r : Fed) (answers' : List ℕ) where
-  pub recording_takes : (p : Progress) → Feeds p s (take starts times) (take starts boards) work answers r answers'
-      → TakesBytes (recording_taken starts p s times boards work answers)
-      (record { stage = record { starts = starts; starting = false; progress = r.progress }; used = r.used }) times boards work answers'
-  recording_takes p f =
-      record {
-        stage = ap (λ (x : Fed). record { starts = starts; starting = false; progress = x.progress }) f.says;
-        used = ap (λ (x : Fed). x.used) f.says;
-        timed = refl;
-        boarded = refl;
-        working = refl;
-        given = f.given;
-      }
-
-  pub recording_begins : (lines : ℕ) (q : Begun) (work₁ answers₁ : List ℕ)
-      → Begins (take starts times) (take starts boards) work answers q work₁ answers₁
-      → Feeds (record { lines = lines; bad = 0 }) s (take starts times) (take starts boards) work₁ answers₁ r answers'
-      → RecordingBegins (recording_begun starts lines s times boards work answers) r work₁ answers'
-  recording_begins lines q work₁ answers₁ b f =
-      record {
-        progress = ap (λ (x : Fed). x.progress) f.says;
-        used = ap (λ (x : Fed). x.used) f.says;
-        working = b.working;
-        given = rw (b.working, b.given) at f.given;
-      }
-
-  pub begun_used : (lines : ℕ) (work' : List ℕ) → RecordingBegins (recording_begun starts lines s times boards work answers) r work' answers'
-      → r.used ≤ length s
-  begun_used lines work' b = omega (arith, b.used, (fed_used (record { lines = lines; bad = 0 }) s).0)
+pub begin_used : (lines : ℕ) (s times boards work answers : List ℕ) (r : Fed) (work' answers' : List ℕ)
+    → RecordingBegins lines s times boards work answers r work' answers' → r.used ≤ length s
+begin_used lines s times boards work answers r work' answers' b =
+    omega (arith, ap (λ (x : Fed). x.used) b.says, (fed_used (record { lines = lines; bad = 0 }) s).0)
 
 -- ---- more starts
 
@@ -104,18 +75,19 @@ module _ (s : List ℕ) (held : ℕ) (times boards : List ℕ) (k : ℕ) (times'
 
     -- the recording begins behind the starts
     pub starts_begin : (r : Fed) (work' answers' : List ℕ) → 19 ≤ length s - 19 * k
-        → RecordingBegins (recording_begun (held + k) lines (take (length s - 19 * k) (drop (19 * k) s)) times' boards' work answers) r work' answers'
+        → RecordingBegins lines (take (length s - 19 * k) (drop (19 * k) s)) (take (held + k) times') (take (held + k) boards') work answers r work' answers'
         → TakesBytes (starts_taken ks held before s times boards work answers)
         (record { stage = record { starts = held + k; starting = false; progress = r.progress }; used = 19 * k + r.used })
         times' boards' work' answers'
     starts_begin r work' answers' n b =
         let e = g.count in
         let q = le-ltb (length (drop (19 * length ks) s)) 19 (omega (arith, e, length-drop (19 * length ks) s)) in
-        let f = rw (take_all (length s - 19 * k) (drop (19 * k) s) (omega (arith, length-drop (19 * k) s)), g.times'_are, g.boards'_are, l, e) at b in
+        let z = take_all (length s - 19 * k) (drop (19 * k) s) (omega (arith, length-drop (19 * k) s)) in
+        let f = rw (z, g.times'_are, g.boards'_are, l, e) at b in
         rw q
         (record {
-          stage = rw (e, f.progress);
-          used = rw (e, f.used);
+          stage = rw e (ap (λ (x : Fed). record { starts = held + length ks; starting = false; progress = x.progress }) f.says);
+          used = rw e (ap (λ (x : Fed). 19 * length ks + x.used) f.says);
           timed = g.times'_are;
           boarded = g.boards'_are;
           working = f.working;
@@ -165,34 +137,3 @@ pub step_within : (buffer : List ℕ) (end : ℕ) (input : Input) (times boards 
     → r.kept ≤ length buffer
 step_within buffer end input times boards work answers r buffer' times' boards' work' answers' h =
     omega (arith, ap (λ (x : Input). x.kept) h.says)
-
--- ---- the end
-pub ends_begun : (p : Progress) (kept : ℕ) (times boards work answers : List ℕ) (q : Begun) (work₁ answers₁ : List ℕ) (r : ReplayAnswer)
-    (work' answers' : List ℕ) → Begins times boards work answers q work₁ answers₁ → Finishes p kept times boards work₁ answers₁ r work' answers'
-    → Finishes p kept times boards (begun_work times boards work answers) (begun_answers times boards work answers) r work' answers'
-ends_begun p kept times boards work answers q work₁ answers₁ r work' answers' b f = rw (b.working, b.given) at f
-
-module _ (input : Input) (stage : Stage) (times boards work answers : List ℕ) (r : ReplayAnswer) (work' answers' : List ℕ)
-    (e : stage ≡ fitting_stage input.stage times boards) where
-  pub ends_recording : stage.starting ≡ false
-      → Finishes stage.progress input.kept (take stage.starts times) (take stage.starts boards) work answers r work' answers'
-      → Ends input times boards work answers r work' answers'
-  ends_recording s f =
-      let b : input.stage.starting ≡ false = ap (λ (x : Stage). x.starting) (sym e) ∙ s in
-      let g = rw e at f in
-      record { says = g.says; given = rw b g.given; working = g.working }
-
-  pub ends_starting : stage.starting ≡ true
-      → Finishes stage.progress input.kept (take stage.starts times) (take stage.starts boards)
-      (begun_work (take stage.starts times) (take stage.starts boards) work answers)
-      (begun_answers (take stage.starts times) (take stage.starts boards) work answers) r work' answers'
-      → length work' ≡ length work → Ends input times boards work answers r work' answers'
-  ends_starting s f z =
-      let b : input.stage.starting ≡ true = ap (λ (x : Stage). x.starting) (sym e) ∙ s in
-      let w = begun_work (take stage.starts times) (take stage.starts boards) work answers in
-      let g = rw e at f in
-      record {
-        says = g.says;
-        given = rw b g.given;
-        working = f.working ∙ ap filled (sym (length-replicate (length w) empty) ∙ sym (ap length f.working) ∙ z);
-      }

@@ -1,5 +1,5 @@
 -- Which line an answer has, and as many whole lines as fit, one behind the other.
-use Rattle.std.proofs.Common.{◌≡◌, ℕ, zero, suc, ◌+◌, ◌-◌, ◌*◌, ◌<◌, ◌≤◌, List, [], ◌∷◌, ◌++◌, length, get_or, take, drop, sym, refl, ap, ◌∙◌, append_assoc, append-nil, arith, length-append, length-drop, take_all, drop-drop, take_at, drop_at, eq-eqb, ne_eqb, le-leb}
+use Rattle.std.proofs.Common.{◌≡◌, ℕ, zero, suc, ◌+◌, ◌-◌, ◌*◌, ◌<◌, ◌≤◌, List, [], ◌∷◌, ◌++◌, length, get_or, take, drop, sym, refl, ap, ◌∙◌, append_assoc, append-nil, arith, length-append, length-drop, take_all, drop-drop, take_at, drop_at, eq-eqb, ne_eqb, le-leb, Option, None, Some}
 use borrow.Author.Tests.{lt-leb}
 use Rattle.digits.specs.Hex.{hex_digits}
 use Rattle.digits.proofs.Hex.{length_digits}
@@ -8,37 +8,45 @@ use Rattle.text.specs.Decimal.{decimal}
 use Rattle.text.specs.Put.{Put}
 use Rattle.text.proofs.Growth.{put_then}
 use Rattle.replay_input.specs.declared.Written.{Written}
-use Rattle.replay_input.specs.Text.{answer_line, answer_lines, fitting_lines, PutsAnswers}
+use Rattle.lists.proofs.Tests.{by_test, never}
+use Rattle.replay_input.specs.Private.{answer_held}
+use Rattle.replay_input.specs.Text.{is_none, answer_line, answer_lines, fitting_lines, PutsAnswers}
 use Rattle.replay_input.specs.Input.{refused_line}
 
 -- ---- a line
 
+-- the line of a time, a board and a temperature
+abbrev pub digits : ℕ × ℕ × ℕ → List ℕ
+digits t = hex_digits 16 t.0 ++ (hex_digits 2 t.1 ++ (hex_digits 4 t.2 ++ (10 ∷ [])))
+
+pub digits_size : (t : ℕ × ℕ × ℕ) → length (digits t) ≡ 23
+digits_size t = simp length-append (omega (arith, length_digits 16 t.0, length_digits 2 t.1, length_digits 4 t.2))
+
+pub digits_put : (t : ℕ × ℕ × ℕ) {o p q n m : List ℕ} {at r u v e : ℕ} → Put o at (hex_digits 16 t.0) r p → Put p r (hex_digits 2 t.1) u q
+    → Put q u (hex_digits 4 t.2) v n → Put n v (10 ∷ []) e m → Put o at (digits t) e m
+digits_put t f g k j = put_then f (put_then g (put_then k j))
+
 module _ (a : List ℕ) (i : ℕ) where
-  pub none_past : length a ≤ 4 * i + 3 → ascii "none\n" ≡ answer_line a i
+  -- an answer whose four numbers are there
+  pub held_zero : 4 * i + 3 < length a → get_or a (4 * i) 0 ≡ 0 → None ≡ answer_held a i
+  held_zero l e = rw (lt-leb (length a) (4 * i + 3) l, eq-eqb (get_or a (4 * i) 0) 0 e)
+
+  pub held_some : 4 * i + 3 < length a → (get_or a (4 * i) 0 ≡ 0 → ⊥)
+      → Some (get_or a (4 * i + 1) 0, get_or a (4 * i + 2) 0, get_or a (4 * i + 3) 0) ≡ answer_held a i
+  held_some l h = rw (lt-leb (length a) (4 * i + 3) l, ne_eqb (get_or a (4 * i) 0) 0 h)
+
+  pub line_none : answer_held a i ≡ None → ascii "none\n" ≡ answer_line a i
   unfolding answer_line
-  none_past l = rw (le-leb (length a) (4 * i + 3) l)
+  line_none e = by_test (is_none a i) (λ q. rw q) (λ q. never (cc (rw q at e)))
 
-  pub none_held : 4 * i + 3 < length a → get_or a (4 * i) 0 ≡ 0 → ascii "none\n" ≡ answer_line a i
+  pub line_held : (t : ℕ × ℕ × ℕ) → answer_held a i ≡ Some t → digits t ≡ answer_line a i
   unfolding answer_line
-  none_held l e = rw (lt-leb (length a) (4 * i + 3) l, eq-eqb (get_or a (4 * i) 0) 0 e)
-
-  -- the digits of three numbers
-  abbrev digits : List ℕ
-  digits = hex_digits 16 (get_or a (4 * i + 1) 0) ++ (hex_digits 2 (get_or a (4 * i + 2) 0) ++ (hex_digits 4 (get_or a (4 * i + 3) 0) ++ (10 ∷ [])))
-
-  pub digits_held : 4 * i + 3 < length a → (get_or a (4 * i) 0 ≡ 0 → ⊥) → digits ≡ answer_line a i
-  unfolding answer_line
-  digits_held l h = rw (lt-leb (length a) (4 * i + 3) l, ne_eqb (get_or a (4 * i) 0) 0 h)
-
-  pub digits_size : length digits ≡ 23
-  digits_size =
-      simp length-append
-      (omega
-      (arith, length_digits 16 (get_or a (4 * i + 1) 0), length_digits 2 (get_or a (4 * i + 2) 0), length_digits 4 (get_or a (4 * i + 3) 0)))
-
-  pub digits_put : {o p q n m : List ℕ} {at r t u e : ℕ} → Put o at (hex_digits 16 (get_or a (4 * i + 1) 0)) r p
-      → Put p r (hex_digits 2 (get_or a (4 * i + 2) 0)) t q → Put q t (hex_digits 4 (get_or a (4 * i + 3) 0)) u n → Put n u (10 ∷ []) e m → Put o at digits e m
-  digits_put f g k j = put_then f (put_then g (put_then k j))
+  line_held t e =
+      by_test (is_none a i) (λ q. never (cc (rw q at e)))
+      (λ q.
+      let f : ◌≡◌ {A = Option (ℕ × ℕ × ℕ)} (Some (get_or a (4 * i + 1) 0, get_or a (4 * i + 2) 0, get_or a (4 * i + 3) 0)) (Some t) = rw q at e in
+      let z : (get_or a (4 * i + 1) 0, get_or a (4 * i + 2) 0, get_or a (4 * i + 3) 0) ≡ t = cc in
+      rw q (ap digits (sym z)))
 
 pub refused_line_lem : (line : ℕ) {o p n m : List ℕ} {r t e : ℕ} → Put o 0 (ascii "refused 22 ") r p → Put p r (decimal line) t n → Put n t (10 ∷ []) e m
     → Put o 0 (refused_line line) e m

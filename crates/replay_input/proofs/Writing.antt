@@ -10,7 +10,7 @@ use Rattle.replay_input.specs.Starts.{time_in, board_in}
 use Rattle.replay_input.specs.Input.{best_line, best_lines}
 use Rattle.replay_input.specs.Text.{answer_line, answer_lines, fitting_lines}
 use Rattle.replay_input.specs.Program.{WritesFrom}
-use Rattle.replay_input.proofs.Text.{none_held, digits_held, lines_split}
+use Rattle.replay_input.proofs.Text.{held_zero, held_some, line_none, line_held, lines_split}
 
 -- ---- a buffer at a time
 
@@ -50,11 +50,11 @@ line-best : (a : List ℕ) (i : ℕ) (b : Best) → 4 * i + 3 < length a → ((j
 unfolding best_line
 line-best a i none l h =
     let e : 4 * i ≡ 4 * i + 0 = omega arith in
-    sym (none_held a i l (ap (λ (k : ℕ). get_or a k 0) e ∙ h 0 (omega arith)))
+    sym (line_none a i (sym (held_zero a i l (ap (λ (k : ℕ). get_or a k 0) e ∙ h 0 (omega arith)))))
 line-best a i (one r) l h =
     let e : 4 * i ≡ 4 * i + 0 = omega arith in
     let f : get_or a (4 * i) 0 ≡ 1 = ap (λ (k : ℕ). get_or a k 0) e ∙ h 0 (omega arith) in
-    sym (digits_held a i l (λ z. omega (arith, f))) ∙ rw (h 1 (omega arith), h 2 (omega arith), h 3 (omega arith))
+    sym (line_held a i _ (sym (held_some a i l (λ z. omega (arith, f))))) ∙ rw (h 1 (omega arith), h 2 (omega arith), h 3 (omega arith))
 
 -- the start at place i of some lines
 abbrev answer_in : Recorded → List (List ℕ) → ℕ → Best

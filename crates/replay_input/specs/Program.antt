@@ -1,13 +1,12 @@
 -- REQUEST 110, the program's work between reading and writing, in steps through one buffer. What stands between two steps, for any numbers
 -- in the lists, nobody needs to know: what a whole run writes is the claim `Program`.
-use Rattle.std.specs.Prelude.{◌≡◌, ℕ, ◌+◌, ◌-◌, ◌*◌, ◌%◌, ◌^◌, ◌<◌, ◌≤◌, min, true, false, List, [], ◌∷◌, ◌++◌, map, length, take, drop, nat_lt}
+use Rattle.std.specs.Prelude.{◌≡◌, ℕ, ◌+◌, ◌-◌, ◌*◌, ◌%◌, ◌^◌, ◌<◌, ◌≤◌, min, true, false, List, [], ◌∷◌, ◌++◌, map, length, take, drop, nat_lt, ⊤, Result, Ok, Err}
 use Rattle.std.proofs.lemmas.List.Edits.{sets}
 use Rattle.lists.specs.Count.{pick}
 use Rattle.lists.specs.Filled.{filled}
 use Rattle.lines.specs.Lines.{leading}
 use Rattle.text.specs.Put.{Put}
-use Rattle.readings.specs.declared.ReplayAnswer.{ReplayAnswer}
-use Rattle.readings.specs.declared.ReplayAnswer.TheVariants.{Replayed, Refused}
+use Rattle.readings.specs.declared.BadLine.{BadLine}
 use Rattle.readings.specs.declared.pieces.Progress.{Progress}
 use Rattle.readings.specs.Replay.{said_of}
 use Rattle.readings.specs.Feeding.{begun_work, begun_answers, fed_by, fed_answers, end_said, end_answers, joined}
@@ -123,7 +122,7 @@ stage_ended t kept times boards work answers =
     end_answers t.progress kept (take t.starts times) (take t.starts boards) (end_work t times boards work answers)
     (end_begun t times boards work answers)
 
-pub record Ends (input : Input) (times boards work answers : List ℕ) (r : ReplayAnswer) (work' answers' : List ℕ) : Type 0 where
+pub record Ends (input : Input) (times boards work answers : List ℕ) (r : Result ⊤ BadLine) (work' answers' : List ℕ) : Type 0 where
   pub says : said_of r ≡ end_said input.stage.progress input.kept
   pub given : answers' ≡ stage_ended (fitting_stage input.stage times boards) input.kept times boards work answers
   pub working : work' ≡ filled (length work)
@@ -169,17 +168,17 @@ WritesFrom answers starts k buffer (after ∷ afters) output =
     × WritesFrom answers starts r.next after afters more
 
 -- a line for each start, or only the refusal
-abbrev pub WritesResult : ReplayAnswer → ℕ → List ℕ → List ℕ → List (List ℕ) → List ℕ → Type 0
-WritesResult Replayed starts answers buffer afters output = WritesFrom answers starts 0 buffer afters output
-WritesResult (Refused line) starts answers buffer afters output =
-    (n : ℕ) × (after : List ℕ) × Put buffer 0 (refused_line line) n after × (output ≡ take n after)
+abbrev pub WritesResult : Result ⊤ BadLine → ℕ → List ℕ → List ℕ → List (List ℕ) → List ℕ → Type 0
+WritesResult (Ok _) starts answers buffer afters output = WritesFrom answers starts 0 buffer afters output
+WritesResult (Err line) starts answers buffer afters output =
+    (n : ℕ) × (after : List ℕ) × Put buffer 0 (refused_line line.number) n after × (output ≡ take n after)
 
 -- the program: the input in pieces, and what it writes
 pub record ProgramRuns (l : Lists) (pieces : List (List ℕ)) (output : List ℕ) : Type 0 where
   pub last : Input
   pub held : Lists
   pub takes : TakesAll nothing_read l pieces last held
-  pub answer : ReplayAnswer
+  pub answer : Result ⊤ BadLine
   pub working : List ℕ
   pub given : List ℕ
   pub ends : Ends last held.times held.boards held.work held.answers answer working given

@@ -1,15 +1,15 @@
 // The program's input in steps: the starts, and then the recording. What is left of a line waits at the front of the buffer.
-ghost use Rattle.std.specs.Prelude.{◌≡◌, ◌-◌, ◌≤◌, min, true, length, take};
-ghost use Rattle.readings.specs.Feeding.{begun_work, begun_answers, Feeds, Finishes};
+ghost use Rattle.std.specs.Prelude.{◌≡◌, ◌-◌, ◌≤◌, min, true, length};
 ghost use Rattle.lines.specs.Lines.{leading};
 ghost use Rattle.replay_input.specs.Starts.{room};
-ghost use Rattle.replay_input.specs.Program.{nothing_read, recording_taken, recording_begun, starts_taken, bytes_taken, brought_forward, Steps, Ends};
-ghost use Rattle.replay_input.specs.Private.{StartsFit, RecordingBegins, TakesBytes};
+ghost use Rattle.replay_input.specs.Program.{nothing_read, recording_taken, starts_taken, bytes_taken, brought_forward, Steps, Ends};
+ghost use Rattle.replay_input.specs.Private.{StartsFit, TakesBytes, RecordingBegins};
 
-use crate::{START_BYTES, least, take_starts};
-use readings::{Fed, Progress, ReplayAnswer};
+use crate::{START_BYTES, take_starts};
+use readings::{BadLine, Fed, Progress};
 
-// How many starts have been taken and whether more may come, and how far the recording is.
+// How many starts have been taken and whether more may come, and how far the recording is. No enum: both parts count the starts and the
+// lines, and it would leave out some of the numbers that the promises are for.
 #[derive(Clone, Copy)]
 pub struct Stage {
     pub starts: usize,
@@ -45,44 +45,21 @@ pub fn begin_input() -> Input
     }
 }
 
-// The frames of some bytes.
-fn take_frames(
-    bytes: &[u8],
-    p: Progress,
-    starts: usize,
-    times: &[u64],
-    boards: &[u8],
-    work: &[u32],
-    answers: &mut [u64],
-) -> Fed
-    requires { StartsFit starts times.now boards.now }
-    ensures { Feeds p bytes.now (take starts times.now) (take starts boards.now) work.now
-        answers.old result answers.new }
-{
-    readings::feed(p, bytes, &times[..starts], &boards[..starts], work, answers)
-}
-
 // The recording begins with some bytes, behind so many lines.
 fn begin_recording(
     bytes: &[u8],
     lines: u64,
-    starts: usize,
     times: &[u64],
     boards: &[u8],
     work: &mut [u32],
     answers: &mut [u64],
 ) -> Fed
-    requires { StartsFit starts times.now boards.now }
-    ensures { RecordingBegins
-        (recording_begun starts lines bytes.now times.now boards.now work.old answers.old) result
+    ensures { RecordingBegins lines bytes.now times.now boards.now work.old answers.old result
         work.new answers.new }
 {
-    readings::begin(&times[..starts], &boards[..starts], work, answers);
-    let p = Progress {
-        lines: lines,
-        bad: 0,
-    };
-    take_frames(bytes, p, starts, times, boards, work, answers)
+    readings::begin(times, boards, work, answers);
+    let p = Progress { lines, bad: 0 };
+    readings::feed(p, bytes, times, boards, work, answers)
 }
 
 // More starts may come behind so many, which take so many lines and bytes.
@@ -91,14 +68,11 @@ fn still_starting(starts: usize, lines: u64, used: usize) -> Took
 {
     Took {
         stage: Stage {
-            starts: starts,
+            starts,
             starting: true,
-            progress: Progress {
-                lines: lines,
-                bad: 0,
-            },
+            progress: Progress { lines, bad: 0 },
         },
-        used: used,
+        used,
     }
 }
 
@@ -118,22 +92,26 @@ fn take_starting(
         stage.progress.lines bytes.now times.old boards.old work.old answers.old)
         result times.new boards.new work.new answers.new }
 {
-    let held = stage.starts;
-    let k = take_starts(bytes, held, times, boards);
-    let starts = held + k;
+    let k = take_starts(bytes, stage.starts, times, boards);
+    let starts = stage.starts + k;
     let at = START_BYTES * k;
-    let before = stage.progress;
-    let lines = std::num::wrapping_add_u64(before.lines, k as u64);
+    let lines = stage.progress.lines.wrapping_add(k as u64);
     if bytes.len() - at < START_BYTES {
         return still_starting(starts, lines, at);
     }
-    let fed = begin_recording(&bytes[at..], lines, starts, times, boards, work, answers);
-    let after = fed.progress;
+    let fed = begin_recording(
+        &bytes[at..],
+        lines,
+        &times[..starts],
+        &boards[..starts],
+        work,
+        answers,
+    );
     Took {
         stage: Stage {
-            starts: starts,
+            starts,
             starting: false,
-            progress: after,
+            progress: fed.progress,
         },
         used: at + fed.used,
     }
@@ -155,14 +133,19 @@ fn take_recording(
         result times.now boards.now work.now answers.new }
 {
     let starts = stage.starts;
-    let before = stage.progress;
-    let fed = take_frames(bytes, before, starts, times, boards, work, answers);
-    let after = fed.progress;
+    let fed = readings::feed(
+        stage.progress,
+        bytes,
+        &times[..starts],
+        &boards[..starts],
+        work,
+        answers,
+    );
     Took {
         stage: Stage {
-            starts: starts,
+            starts,
             starting: false,
-            progress: after,
+            progress: fed.progress,
         },
         used: fed.used,
     }
@@ -194,10 +177,8 @@ fn carry_over(buffer: &mut [u8], used: usize, end: usize) -> usize
     ensures { (result ≡ end - used) × (buffer.new ≡ brought_forward buffer.old used end) }
 {
     let rest = end - used;
-    let mut k = 0;
-    while k < rest {
+    for k in 0..rest {
         buffer[k] = buffer[used + k];
-        k += 1;
     }
     rest
 }
@@ -206,12 +187,9 @@ fn carry_over(buffer: &mut [u8], used: usize, end: usize) -> usize
 fn fitting(stage: Stage, times: usize, boards: usize) -> Stage
     ensures { result ≡ record { starts = min stage.starts (min times boards); starting = stage.starting; progress = stage.progress } }
 {
-    let starts = least(stage.starts, least(times, boards));
-    let progress = stage.progress;
     Stage {
-        starts: starts,
-        starting: stage.starting,
-        progress: progress,
+        starts: stage.starts.min(times.min(boards)),
+        ..stage
     }
 }
 
@@ -228,72 +206,33 @@ pub fn take_step(
     ensures { Steps buffer.old end input times.old boards.old work.old answers.old result
         buffer.new times.new boards.new work.new answers.new }
 {
-    let upto = least(end, buffer.len());
-    let before = input.stage;
-    let stage = fitting(before, times.len(), boards.len());
+    let upto = end.min(buffer.len());
+    let stage = fitting(input.stage, times.len(), boards.len());
     let took = take_bytes(&buffer[..upto], stage, times, boards, work, answers);
-    let after = took.stage;
     let kept = carry_over(buffer, took.used, upto);
     Input {
-        stage: after,
-        kept: kept,
+        stage: took.stage,
+        kept,
     }
 }
 
-// The input has ended before a recording began.
-fn end_starting(
-    p: Progress,
-    kept: usize,
-    starts: usize,
-    times: &[u64],
-    boards: &[u8],
-    work: &mut [u32],
-    answers: &mut [u64],
-) -> ReplayAnswer
-    requires { StartsFit starts times.now boards.now }
-    ensures { Finishes p kept (take starts times.now) (take starts boards.now)
-        (begun_work (take starts times.now) (take starts boards.now) work.old answers.old)
-        (begun_answers (take starts times.now) (take starts boards.now) work.old answers.old) result
-        work.new answers.new }
-{
-    readings::begin(&times[..starts], &boards[..starts], work, answers);
-    end_recording(p, kept, starts, times, boards, work, answers)
-}
-
-// The recording has ended.
-fn end_recording(
-    p: Progress,
-    kept: usize,
-    starts: usize,
-    times: &[u64],
-    boards: &[u8],
-    work: &mut [u32],
-    answers: &mut [u64],
-) -> ReplayAnswer
-    requires { StartsFit starts times.now boards.now }
-    ensures { Finishes p kept (take starts times.now) (take starts boards.now) work.old answers.old result
-        work.new answers.new }
-{
-    readings::finish(p, kept, &times[..starts], &boards[..starts], work, answers)
-}
-
-// The input has ended: the answers for the starts, or the refusal.
+// The input has ended: the answers for the starts, or the refusal. Where more starts could come, the recording has no line.
 pub fn end_input(
     input: Input,
     times: &[u64],
     boards: &[u8],
     work: &mut [u32],
     answers: &mut [u64],
-) -> ReplayAnswer
+) -> Result<(), BadLine>
     ensures { Ends input times.now boards.now work.old answers.old result work.new
         answers.new }
 {
-    let before = input.stage;
-    let ended = fitting(before, times.len(), boards.len());
+    let ended = fitting(input.stage, times.len(), boards.len());
     let starts = ended.starts;
-    let p = ended.progress;
+    let times = &times[..starts];
+    let boards = &boards[..starts];
     if ended.starting {
-        return end_starting(p, input.kept, starts, times, boards, work, answers);
+        readings::begin(times, boards, work, answers);
     }
-    end_recording(p, input.kept, starts, times, boards, work, answers)
+    readings::finish(ended.progress, input.kept, times, boards, work, answers)
 }

@@ -1,14 +1,10 @@
 -- `none` and its line feed, or 22 digits and theirs.
-use Rattle.std.proofs.Common.{length, sym, ap, ◌∙◌, arith}
-use Rattle.replay_input.proofs.Text.{none_past, none_held, digits_held, digits_size}
+use Rattle.std.proofs.Common.{length, sym, ap, ◌∙◌}
+use Rattle.replay_input.proofs.Text.{line_none, line_held, digits_size}
 use Rattle.replay_input.proofs.line_size.Goals as goal
 
-pub returns-then-answers-i : goal.returns-then-answers-i
-returns-then-answers-i c = ap length (none_past _ _ (omega arith))
+pub returns-in-None : goal.returns-in-None
+returns-in-None c = ap length (line_none _ _ (sym c.answer_held.ensures ∙ c.in-None.is))
 
-pub returns-else-answers-i-eq0 : goal.returns-else-answers-i-eq0
-returns-else-answers-i-eq0 c = let s = c.args in
-    sym (digits_size s.answers.now s.i) ∙ ap length (digits_held _ _ (omega arith) (λ z. omega arith))
-
-pub returns-then-answers-i-eq0 : goal.returns-then-answers-i-eq0
-returns-then-answers-i-eq0 c = ap length (none_held _ _ (omega arith) (omega arith))
+pub returns-in-Some : goal.returns-in-Some
+returns-in-Some c = sym (digits_size _) ∙ ap length (line_held _ _ _ (sym c.answer_held.ensures ∙ c.in-Some.is))

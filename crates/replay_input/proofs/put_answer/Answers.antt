@@ -1,17 +1,11 @@
--- None where the start is past the end or its first number is 0; else the digits of the other three.
-use Rattle.std.proofs.Common.{arith}
-use Rattle.replay_input.proofs.Text.{none_past, none_held, digits_held, digits_put}
+-- `none`, or the digits of the three numbers.
+use Rattle.std.proofs.Common.{sym, ◌∙◌}
+use Rattle.replay_input.proofs.Text.{digits_put, line_none, line_held}
 use Rattle.replay_input.proofs.put_answer.Goals as goal
 
-pub returns-then-answers-i : goal.returns-then-answers-i
-returns-then-answers-i c = let s = c.args in
-    rw (← none_past s.answers.now s.i (omega (arith, c.if-answers-i.true))) c.put_all.ensures
+pub returns-in-None : goal.returns-in-None
+returns-in-None c = rw (← line_none _ _ (sym c.answer_held.ensures ∙ c.in-None.is)) c.put_all.ensures
 
-pub returns-then-answers-from-eq0 : goal.returns-then-answers-from-eq0
-returns-then-answers-from-eq0 c = let s = c.args in
-    rw (← none_held s.answers.now s.i (omega (arith, c.if-answers-i.false)) c.if-answers-from-eq0.true) c.put_all-then-answers-from-eq0.ensures
-
-pub returns : goal.returns
-returns c = let s = c.args in
-    rw (← digits_held s.answers.now s.i (omega (arith, c.if-answers-i.false)) c.if-answers-from-eq0.false)
-    (digits_put s.answers.now s.i c.put_hex-a.ensures c.put_hex-b.ensures c.put_hex-c.ensures c.put.ensures)
+pub returns-in-Some : goal.returns-in-Some
+returns-in-Some c =
+    rw (← line_held _ _ _ (sym c.answer_held.ensures ∙ c.in-Some.is)) (digits_put _ c.put_hex-a.ensures c.put_hex-b.ensures c.put_hex-c.ensures c.put.ensures)

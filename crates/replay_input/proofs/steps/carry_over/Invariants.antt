@@ -5,6 +5,3 @@ use Rattle.replay_input.proofs.steps.carry_over.Given as goal
 
 abbrev pub invariant-loop-k : goal.invariant-loop-k
 invariant-loop-k l = (l.k ≤ l.end - l.used) × (l.buffer ≡ moved_up l.initial.buffer l.used l.k)
-
-abbrev pub decreases-loop-k : goal.decreases-loop-k
-decreases-loop-k l = l.end - l.used - l.k

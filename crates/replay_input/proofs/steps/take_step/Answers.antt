@@ -4,7 +4,7 @@ use Rattle.replay_input.proofs.Taking.{fitting-fits, bytes_used, step_takes}
 use Rattle.replay_input.proofs.steps.take_step.Goals as goal
 
 pub slice_bounds-take_bytes-end-2 : goal.slice_bounds-take_bytes-end-2
-slice_bounds-take_bytes-end-2 c = sym (length-take-le _ _ (omega (arith, c.least-upto.ensures)))
+slice_bounds-take_bytes-end-2 c = sym (length-take-le _ _ (omega (arith, c.min-upto.ensures)))
 
 pub returns : goal.returns
 returns c = search (rules, step_takes)
@@ -14,7 +14,7 @@ take_bytes-took-requires c = search (rules, fitting-fits)
 
 pub carry_over-kept-requires : goal.carry_over-kept-requires
 carry_over-kept-requires c =
-    let n = c.least-upto in
+    let n = c.min-upto in
     let s = c.args in
     let e : length (take n.result s.buffer.now) ≡ n.result = length-take-le _ _ (omega (arith, n.ensures)) in
     let u = bytes_used c.fitting-stage.result (take n.result s.buffer.now) s.times.now s.boards.now s.work.now s.answers.now in
