@@ -1,15 +1,2 @@
-pub mod Slots
-pub mod Rows
-pub mod RowStores
-pub mod RowOfHash
-pub mod Entries
-pub mod Faults
-pub mod Taking
-pub mod Starts
 pub mod Signed
-pub mod Means
-pub mod FinishedRow
-pub mod RefusalAndRows
-pub mod Order
-pub mod Facts
-pub mod Putting
+pub mod Places
