@@ -1,3 +1,4 @@
 pub mod Signed
 pub mod Places
 pub mod Changing
+pub mod Putting
