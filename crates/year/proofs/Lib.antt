@@ -5,3 +5,5 @@ pub mod Counts
 pub mod Gathered
 pub mod Signed
 pub mod Putting
+pub mod Starts
+pub mod Taking
