@@ -3,7 +3,12 @@ pub mod Changing
 pub mod Entries
 pub mod Counts
 pub mod Gathered
-pub mod Signed
-pub mod Putting
 pub mod Starts
 pub mod Taking
+pub mod Signed
+pub mod Means
+pub mod FinishedRow
+pub mod Filling
+pub mod Order
+pub mod Facts
+pub mod Putting
