@@ -31,7 +31,12 @@ use Rattle.lists.specs.Pairs.{PairsListed}
 use Rattle.walk.specs.Walk.{Values, values_of}
 use Rattle.readings.specs.Replay.{said_of}
 use Rattle.readings.specs.declared.BadLine.{BadLine}
-use Rattle.std.proofs.Common.{Result, Ok, Err}
+use Rattle.std.specs.Prelude.{IfOk}
+use Rattle.year.specs.Year.{Refusal as YearRefused, number_of, refused_by}
+use Rattle.year.specs.declared.YearRefusal.{YearRefusal}
+use Rattle.year.specs.declared.Fault.{Fault}
+use Rattle.year.specs.declared.Fault.TheVariants as fault
+use Rattle.year.proofs.Taking.{numbered}
 use Rattle.hivesaddle.specs.Output.{Answered, ReadOut}
 use Rattle.claims.specs.Settled.{Settles₁, Settles₂, SettlesPart, Settled}
 use Rattle.std.specs.Prelude.{Err, None, Ok, Option, Result, Some}
@@ -119,7 +124,26 @@ written : (r : WrittenLine) → written_back (written_number r) ≡ r
 written written_line.Written = refl
 written written_line.Refused = refl
 
+abbrev year_refusal_back : Refusal → YearRefusal
+year_refusal_back f = record { fault = pick (eqb f.number 18) fault.BadLine (pick (eqb f.number 24) fault.TooManyHashes fault.TooManyItems); place = f.place }
+
+year_refusal : (e : YearRefusal) → year_refusal_back (refused_by {A = ℕ} (Err e)) ≡ e
+year_refusal e = ap (λ (f : Fault). record { fault = f; place = e.place }) (same e.fault)
+  where
+    same : (f : Fault) → pick (eqb (number_of f) 18) fault.BadLine (pick (eqb (number_of f) 24) fault.TooManyHashes fault.TooManyItems) ≡ f
+    same fault.BadLine = refl
+    same fault.TooManyHashes = refl
+    same fault.TooManyItems = refl
+
 -- ---- promises that several functions have
+
+-- the refusal, and where there is none the value
+year_given : {A : Type 0} (v : A) (f : Refusal) (r s : Result A YearRefusal) → refused_by r ≡ f → refused_by s ≡ f → IfOk r (λ x. x ≡ v)
+    → IfOk s (λ x. x ≡ v) → r ≡ s
+year_given v f (Ok x) (Ok y) a b p q = ap Ok (p ∙ sym q)
+year_given v f (Ok x) (Err e) a b p q = absurd (numbered e (ap (λ (f : Refusal). f.number) (b ∙ sym a)))
+year_given v f (Err d) (Ok y) a b p q = absurd (numbered d (ap (λ (f : Refusal). f.number) (a ∙ sym b)))
+year_given v f (Err d) (Err e) a b p q = ap Err (sym (year_refusal d) ∙ ap year_refusal_back (a ∙ sym b) ∙ year_refusal e)
 
 part : (bytes : Bor (List ℕ)) (at len : ℕ) → SettlesPart (IsPart bytes at len)
 part bytes at len r s p q =
@@ -203,21 +227,8 @@ settled =
           let m : r.bytes ≡ s.bytes = cc in
           (λ t. record { next = n t; bytes = m t }, cc);
       replay_input_put_refused = λ line out. put out 0 _;
-      year_year_table = λ bytes hashes answers r s p q. λ t.
-          record {
-            number = (p.number ∙ sym q.number) t;
-            place = (p.place ∙ sym q.place) t;
-            table = (p.table ∙ sym q.table) t;
-          };
-      year_year_rows = λ bytes hashes answers rows r s a b p q. (
-        λ t.
-            record {
-              number = (p.number ∙ sym q.number) t;
-              place = (p.place ∙ sym q.place) t;
-              count = (p.count ∙ sym q.count) t;
-            },
-        cc,
-      );
+      year_year_table = λ bytes hashes answers r s p q. year_given _ _ r s p.refusal q.refusal p.table q.table;
+      year_year_rows = λ bytes hashes answers rows r s a b p q. (year_given _ _ r s p.refusal q.refusal p.count q.count, cc);
       hivesaddle_hs_hash_swap = λ h old p new out. answered _ out;
       hivesaddle_hs_hash_swap_bytes = λ h old p new out. answered _ out;
       hivesaddle_hs_places = λ bytes out. answered _ out;

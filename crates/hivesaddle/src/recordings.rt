@@ -2,10 +2,11 @@
 ghost use Rattle.std.specs.Prelude.{◌≡◌};
 ghost use Rattle.readings.specs.Replay.{said_of};
 ghost use Rattle.hivesaddle.specs.Output.{ReplayOut, progress_of, BeginOut, FeedOut, FinishOut, YearOut};
-ghost use Rattle.hivesaddle.specs.Private.{said_by};
+ghost use Rattle.hivesaddle.specs.Private.{said_by, rows_said};
 
 use crate::replies::{Reply, one, put_reply, three, two};
 use readings::{BadLine, Progress};
+use year::YearRefusal;
 
 // The number of a refused recording, and the line's where none is bad.
 const BAD_LINE: u32 = 22;
@@ -98,6 +99,15 @@ pub fn hs_replay_finish(
     put_reply(replay_reply(ended), out)
 }
 
+fn year_reply(answer: Result<usize, YearRefusal>) -> Reply
+    ensures { said_by result ≡ rows_said answer }
+{
+    match answer {
+        Ok(count) => two(0, 0, count as u64),
+        Err(refusal) => two(refusal.fault.number(), refusal.place as u64, 0),
+    }
+}
+
 // The table at year's end: 0, or refusal 18, 24 or 26.
 pub fn hs_year_table(
     lines: &[u8],
@@ -110,8 +120,5 @@ pub fn hs_year_table(
         out.new }
 {
     let answer = year::year_rows(lines, hashes, answers, rows);
-    put_reply(
-        two(answer.number, answer.place as u64, answer.count as u64),
-        out,
-    )
+    put_reply(year_reply(answer), out)
 }

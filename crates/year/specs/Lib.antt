@@ -1,3 +1,4 @@
 pub mod Year
 pub mod Facts
 pub mod Private
+pub mod Inside
