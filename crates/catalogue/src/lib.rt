@@ -47,6 +47,7 @@ impl From<NoLine> for Unwritten {
 }
 
 // The fields of a line of digits whose size has that width.
+#[tactic(auto, using(crate::proofs::Line::number_small, lines::proofs::Lines::line_number), unfolding(crate::specs::Line::fields_in))]
 fn fields_of(line: &[u8], width: usize) -> Fields
     requires { (width ≤ 8) × (is_line (width + 18) line.now ≡ true) }
     ensures { result ≡ fields_in width line.now }
@@ -60,6 +61,7 @@ fn fields_of(line: &[u8], width: usize) -> Fields
 }
 
 // Whether fields can form a line: a known version, and a size from the end of its head to the limit.
+#[tactic(auto, using(crate::proofs::Line::form_known, crate::proofs::Line::form_unknown))]
 fn can_form(fields: Fields, limit: u32) -> bool
     ensures { result ≡ can_form limit fields }
 {
@@ -88,6 +90,7 @@ fn formed(fields: Fields, limit: u32) -> Result<Fields, NoLine>
 }
 
 // The fields of a line of that width and limit.
+#[tactic(auto, using(crate::proofs::Line::read_formed, crate::proofs::Line::read_no_line))]
 fn read_as(line: &[u8], width: usize, limit: u32) -> Result<Fields, NoLine>
     requires { width ≤ 8 }
     ensures { read_answer result ≡ reading_as width limit line.now }
@@ -99,6 +102,7 @@ fn read_as(line: &[u8], width: usize, limit: u32) -> Result<Fields, NoLine>
 }
 
 // A line's fields. Its length tells an old line.
+#[tactic(auto, using(crate::proofs::Line::read_old, crate::proofs::Line::read_new))]
 pub fn read_line(line: &[u8]) -> Result<Fields, NoLine>
     ensures { read_answer result ≡ reading line.now }
 {
@@ -110,6 +114,7 @@ pub fn read_line(line: &[u8]) -> Result<Fields, NoLine>
 }
 
 // The digits of the fields and the line feed, where there is room for them.
+#[tactic(auto, using(crate::proofs::NumbersWritten::line_written))]
 fn write_fields(output: &mut [u8], fields: Fields, width: usize)
     requires { width + 19 ≤ length output.old }
     ensures { output.new ≡ line_of width fields ++ drop (width + 19) output.old }

@@ -7,6 +7,7 @@ use native.Mathlib.Omega.{arith}
 use lib.Dec.{eqb}
 use lib.ListN.{get_or}
 use denote.Ref.{Bor}
+use Rattle.std.specs.Prelude.{Result, Ok, Err}
 use Rattle.lists.specs.Answer.{Said}
 use Rattle.lists.specs.Count.{pick}
 use Rattle.lists.specs.Part.{IsPart}
@@ -19,11 +20,10 @@ use Rattle.incremental.specs.Decision.{Decision, accept, refuse, refusal, checke
 use Rattle.incremental.specs.Plan.{Answer, decided, wants, run}
 use Rattle.incremental.specs.declared.Checked.{Checked}
 use Rattle.incremental.specs.declared.Checked.TheVariants as checked
-use Rattle.catalogue.specs.Line.{LineAnswer, read_answer, written_number}
-use Rattle.catalogue.specs.declared.ReadLine.{ReadLine}
-use Rattle.catalogue.specs.declared.ReadLine.TheVariants as read_line
-use Rattle.catalogue.specs.declared.WrittenLine.{WrittenLine}
-use Rattle.catalogue.specs.declared.WrittenLine.TheVariants as written_line
+use Rattle.catalogue.specs.Line.{LineAnswer, read_answer, no_line, Writing}
+use Rattle.catalogue.specs.declared.Fields.{Fields}
+use Rattle.catalogue.specs.declared.NoLine.{NoLine}
+use Rattle.catalogue.specs.declared.Unwritten.{Unwritten}
 use Rattle.head.specs.Checks.{start_of, open_of, open_plan}
 use Rattle.head.specs.declared.checks.Start.{Start}
 use Rattle.head.specs.declared.checks.StartAnswer.{StartAnswer}
@@ -114,19 +114,19 @@ replay : (r : ReplayAnswer) → replay_back (said_of r) ≡ r
 replay replay_answer.Replayed = refl
 replay (replay_answer.Refused x) = refl
 
-abbrev line_back : LineAnswer → ReadLine
-line_back a = pick (eqb a.number 0) (read_line.Line a.fields) read_line.Refused
+abbrev line_back : LineAnswer → Result Fields NoLine
+line_back a = pick (eqb a.number 0) (Ok a.fields) (Err no_line)
 
-read_line_lem : (r : ReadLine) → line_back (read_answer r) ≡ r
-read_line_lem (read_line.Line f) = refl
-read_line_lem read_line.Refused = refl
+read_line_lem : (r : Result Fields NoLine) → line_back (read_answer r) ≡ r
+read_line_lem (Ok f) = refl
+read_line_lem (Err n) = refl
 
-abbrev written_back : ℕ → WrittenLine
-written_back n = pick (eqb n 0) written_line.Written written_line.Refused
-
-written : (r : WrittenLine) → written_back (written_number r) ≡ r
-written written_line.Written = refl
-written written_line.Refused = refl
+-- a line is written or not, and if not there is one reason
+written : (f : Fields) (out : List ℕ) (r s : Result (Unit {0}) Unwritten) (a b : List ℕ) → Writing f out r a → Writing f out s b → r ≡ s
+written f out (Ok u) (Ok v) a b p q = refl
+written f out (Ok u) (Err e) a b p q = absurd (omega (arith, p.number, q.number))
+written f out (Err d) (Ok v) a b p q = absurd (omega (arith, p.number, q.number))
+written f out (Err d) (Err e) a b p q = ap Err (p.why d refl ∙ sym (q.why e refl))
 
 -- ---- promises that several functions have
 
@@ -179,7 +179,7 @@ settled =
       text_put_decimal = λ out at n. put out at _;
       text_put_hex = λ out at width x. put out at _;
       catalogue_read_line = λ line r s p q. told read_answer line_back read_line_lem r s (p ∙ sym q);
-      catalogue_write_line = λ f out r s a b p q. (told written_number written_back written r s (p.number ∙ sym q.number), cc);
+      catalogue_write_line = λ f out r s a b p q. (written f out r s a b p q, cc);
       layout_of_form = λ n r s p q. told form_said form_back known_form r s (p ∙ sym q);
       sections_find_form = λ l b r s p q. told form_said form_back known_form r s (p ∙ sym q);
       head_read_start = λ bytes r s p q. told start_of start_back start r s (p ∙ sym q);
