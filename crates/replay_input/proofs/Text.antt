@@ -5,8 +5,9 @@ use Rattle.digits.specs.Hex.{hex_digits}
 use Rattle.digits.proofs.Hex.{length_digits}
 use Rattle.text.specs.Ascii.{ascii}
 use Rattle.text.specs.Decimal.{decimal}
-use Rattle.text.specs.Put.{Put}
-use Rattle.text.proofs.Growth.{put_then}
+use Rattle.text.specs.Put.{Put, Puts}
+use Rattle.text.specs.declared.Text.{Text}
+use Rattle.text.proofs.Growth.{puts_then}
 use Rattle.replay_input.specs.declared.Written.{Written}
 use Rattle.replay_input.specs.Text.{answer_line, answer_lines, fitting_lines, PutsAnswers}
 use Rattle.replay_input.specs.Input.{refused_line}
@@ -36,14 +37,14 @@ module _ (a : List ℕ) (i : ℕ) where
       (omega
       (arith, length_digits 16 (get_or a (4 * i + 1) 0), length_digits 2 (get_or a (4 * i + 2) 0), length_digits 4 (get_or a (4 * i + 3) 0)))
 
-  pub digits_put : {o p q n m : List ℕ} {at r t u e : ℕ} → Put o at (hex_digits 16 (get_or a (4 * i + 1) 0)) r p
-      → Put p r (hex_digits 2 (get_or a (4 * i + 2) 0)) t q → Put q t (hex_digits 4 (get_or a (4 * i + 3) 0)) u n → Put n u (10 ∷ []) e m → Put o at digits e m
-  digits_put f g k j = put_then f (put_then g (put_then k j))
+  pub digits_put : {t u v w x : Text} → Puts t (hex_digits 16 (get_or a (4 * i + 1) 0)) u → Puts u (hex_digits 2 (get_or a (4 * i + 2) 0)) v
+      → Puts v (hex_digits 4 (get_or a (4 * i + 3) 0)) w → Puts w (10 ∷ []) x → Puts t digits x
+  digits_put f g k j = puts_then f (puts_then g (puts_then k j))
 
-pub refused_line_lem : (line : ℕ) {o p n m : List ℕ} {r t e : ℕ} → Put o 0 (ascii "refused 22 ") r p → Put p r (decimal line) t n → Put n t (10 ∷ []) e m
-    → Put o 0 (refused_line line) e m
+pub refused_line_lem : (line : ℕ) {t u v w : Text} → Puts t (ascii "refused 22 ") u → Puts u (decimal line) v → Puts v (10 ∷ []) w
+    → Puts t (refused_line line) w
 unfolding refused_line
-refused_line_lem line f g k = put_then f (put_then g k)
+refused_line_lem line f g k = puts_then f (puts_then g k)
 
 -- ---- lines
 

@@ -115,3 +115,8 @@ decimal_one a b n l g = let e : n % 10 ≡ n = omega arith in rw (decimal_digit 
 
 pub decimal_then : (a b c : Text) (n : ℕ) → 10 ≤ n → Puts a (decimal (n / 10)) b → Puts b ((48 + n % 10) ∷ []) c → Puts a (decimal n) c
 decimal_then a b c n l g h = rw (decimal_more n l) (puts_then g h)
+
+-- what was put stands in the buffer that the text has
+pub puts_from : {at : ℕ} {o s : List ℕ} (t u : Text) → t.out.now ≡ o → t.at ≡ at → Puts t s u → (r : ℕ) (o' : List ℕ) → r ≡ u.at → o' ≡ u.out.now
+    → Put o at s r o'
+puts_from t u b z g r o' q w = rw (q, w) (rw (b, z) at g.text)

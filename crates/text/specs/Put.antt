@@ -16,11 +16,11 @@ pub record Put (before : List ℕ) (at : ℕ) (bytes : List ℕ) (r : ℕ) (afte
 abbrev pub Same : MutBor (List ℕ) → MutBor (List ℕ) → Type 0
 Same a b = b.ghost_name ≡ a.ghost_name
 
--- a text that begins at a buffer's start
-pub record Begun (out : MutBor (List ℕ)) (t : Text) : Type 0 where
+-- a text that begins at a position of a buffer
+pub record Begun (out : MutBor (List ℕ)) (at : ℕ) (t : Text) : Type 0 where
   pub buffer : Same out t.out
   pub bytes : t.out.now ≡ out.now
-  pub position : t.at ≡ 0
+  pub position : t.at ≡ at
 
 -- the same of a text that grows in its buffer
 pub record Puts (before : Text) (bytes : List ℕ) (after : Text) : Type 0 where

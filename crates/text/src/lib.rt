@@ -19,12 +19,19 @@ pub struct Text<'a> {
 impl<'a> Text<'a> {
     // Nothing yet, from the buffer's start.
     pub fn new(out: &'a mut [u8]) -> Text<'a>
-        ensures { Begun out.entry result }
+        ensures { Begun out.entry 0 result }
     {
         Text { out, at: 0 }
     }
 
-    // How many bytes stand there.
+    // Goes on from a position.
+    pub fn resume(out: &'a mut [u8], at: usize) -> Text<'a>
+        ensures { Begun out.entry at result }
+    {
+        Text { out, at }
+    }
+
+    // The position behind what was put.
     pub fn len(&self) -> usize
         ensures { result ≡ self.now.at }
     {
