@@ -1,6 +1,6 @@
 -- Document 01's "Catalogue line", for any number w of size digits and any limit: the length, the digits and the fields decide in turn.
 use mathlib.Core.Path.{◌≡◌, sym, ◌∙◌}
-use mathlib.Core.Bool.{Bool, true, false}
+use mathlib.Core.Bool.{true, false}
 use mathlib.Core.List.{List, ◌++◌}
 use Prim.Native.Nat.{ℕ, ◌+◌, ◌^◌, ◌≤◌, ◌<◌}
 use native.Mathlib.Nat.{pow-le-pow_right}
@@ -15,8 +15,12 @@ use Rattle.layout.specs.declared.Version.{Version}
 use Rattle.layout.specs.declared.KnownVersion.{KnownVersion}
 use Rattle.layout.specs.declared.KnownVersion.TheVariants.{Known, Unknown}
 use Rattle.catalogue.specs.declared.Fields.{Fields}
-use Rattle.catalogue.specs.declared.WrittenLine.TheVariants as written_line
-use Rattle.catalogue.specs.Line.{line_of, fields_in, size_in_range, can_form, is_good, no_fields, reading, can_write, Writing, old_size_limit}
+use Rattle.std.specs.Prelude.{Result, Ok, Err}
+use Rattle.catalogue.specs.declared.NoLine.{NoLine}
+use Rattle.catalogue.specs.declared.Unwritten.TheVariants as unwritten
+use Rattle.catalogue.specs.Line.{line_of, fields_in, size_in_range, can_form, is_good, no_fields, no_line, reading, read_answer, can_write, Writing, old_size_limit}
+use Rattle.lists.specs.Count.{pick}
+use Rattle.lists.proofs.Tests.{by_test, never}
 use Rattle.catalogue.specs.Private.{reading_as}
 
 -- ---- laws of the fields, for a version that was looked up and matched on
@@ -50,27 +54,33 @@ module _ (w limit : ℕ) (s : List ℕ) where
   read_good e q = rw (e, q)
 
   -- for fields that were read and tested
-  module _ (f : Fields) (t : Bool) (e : is_line (w + 18) s ≡ true) (q : f ≡ fields_in w s) (p : t ≡ can_form limit f) where
-    pub read_formed : t ≡ true → record { number = 0; fields = f } ≡ reading_as w limit s
-    read_formed h = rw q (sym (read_good e (rw q at (sym p ∙ h))))
-
-    pub read_unformed : t ≡ false → record { number = 18; fields = no_fields } ≡ reading_as w limit s
-    unfolding reading_as is_good
-    read_unformed h = let n : can_form limit (fields_in w s) ≡ false = rw q at (sym p ∙ h) in rw (e, n)
+  pub read_formed : (f : Fields) (r : Result Fields NoLine) → is_line (w + 18) s ≡ true → f ≡ fields_in w s
+      → r ≡ pick (can_form limit f) (Ok f) (Err no_line) → read_answer r ≡ reading_as w limit s
+  unfolding reading_as is_good
+  read_formed f r e q p = rw (e, ← q) (by_test (can_form limit f) (λ h. rw (p, h)) (λ h. rw (p, h)))
 
 -- ---- laws of writing
-pub write_short : (f : Fields) (o : List ℕ) → length o < 27 → Writing f o written_line.Refused o
+pub write_short : (f : Fields) (o : List ℕ) → length o < 27 → Writing f o (Err unwritten.NoRoom) o
 unfolding can_write
-write_short f o l = let e = lt-leb 27 (length o) l in record { number = rw e; output = rw e }
+write_short f o l = let e = lt-leb 27 (length o) l in record { number = rw e; why = λ u q. rw e (cc q); output = rw e }
 
-module _ (f : Fields) (o : List ℕ) (t : Bool) (l : 27 ≤ length o) (p : t ≡ can_form size_limit f) where
-  pub write_unformed : t ≡ false → Writing f o written_line.Refused o
+module _ (f : Fields) (o : List ℕ) (l : 27 ≤ length o) (r : Result Fields NoLine) (p : r ≡ pick (can_form size_limit f) (Ok f) (Err no_line)) where
+  pub write_unformed : (n : NoLine) → r ≡ Err n → Writing f o (Err unwritten.NoLine) o
   unfolding can_write
-  write_unformed h = let e = le-leb 27 (length o) l in let q = sym p ∙ h in record { number = rw (e, q); output = rw (e, q) }
+  write_unformed n q =
+      let e = le-leb 27 (length o) l in
+      by_test (can_form size_limit f) (λ h. never (cc (rw h at p, q)))
+      (λ h. record { number = rw (e, h); why = λ u z. rw e (cc z); output = rw (e, h) })
 
-  pub write_formed : (n : List ℕ) → t ≡ true → n ≡ line_of 8 f ++ drop 27 o → Writing f o written_line.Written n
+  pub write_formed : (g : Fields) (n : List ℕ) → r ≡ Ok g → n ≡ line_of 8 g ++ drop 27 o → Writing f o (Ok tt) n
   unfolding can_write
-  write_formed n h w = let e = le-leb 27 (length o) l in let q = sym p ∙ h in record { number = rw (e, q); output = rw (e, q) w }
+  write_formed g n q w =
+      let e = le-leb 27 (length o) l in
+      by_test (can_form size_limit f)
+      (λ h.
+      let z : f ≡ g = cc (rw h at p, q) in
+      record { number = rw (e, h); why = λ u z. never (cc z); output = rw (e, h, z) w })
+      (λ h. never (cc (rw h at p, q)))
 
 -- ---- a number of a good line: at most eight digits, so 32 bits hold it
 pub number_small : (n : ℕ) (s : List ℕ) → is_line n s ≡ true → (at w : ℕ) → at + w ≤ n → w ≤ 8 → number_in s at w < 2 ^ 32

@@ -20,10 +20,9 @@ use Rattle.layout.specs.declared.Version.{Version}
 use Rattle.layout.specs.declared.KnownVersion.{KnownVersion}
 use Rattle.layout.specs.declared.KnownVersion.TheVariants.{Known, Unknown}
 use Rattle.catalogue.specs.declared.Fields.{Fields}
-use Rattle.catalogue.specs.declared.ReadLine.{ReadLine}
-use Rattle.catalogue.specs.declared.ReadLine.TheVariants as read_line
-use Rattle.catalogue.specs.declared.WrittenLine.{WrittenLine}
-use Rattle.catalogue.specs.declared.WrittenLine.TheVariants as written_line
+use Rattle.std.specs.Prelude.{Result, Ok, Err}
+use Rattle.catalogue.specs.declared.NoLine.{NoLine}
+use Rattle.catalogue.specs.declared.Unwritten.{Unwritten}
 use Rattle.catalogue.specs.Private.{reading_as}
 use Rattle.catalogue.specs.Line.{line_of, fields_in, can_form, is_good, LineAnswer, reading, size_in_range, read_answer}
 use Rattle.catalogue.specs.Line.{old_size_limit, can_write, written_number, Writing}
@@ -130,7 +129,7 @@ module _ (w limit : ℕ) (s : List ℕ) (f : Fields) where
         }
 
 -- of a line that reads, the length tells which it is
-module _ (s : List ℕ) (f : Fields) (e : read_answer (read_line.Line f) ≡ reading s) where
+module _ (s : List ℕ) (f : Fields) (e : read_answer (Ok f) ≡ reading s) where
   good_new : (length s ≡ 25 → ⊥) → Good 8 size_limit s f
   good_new n = read-true 8 size_limit s f (read_new s n ∙ sym e)
 
@@ -144,17 +143,17 @@ module _ (s : List ℕ) (f : Fields) (e : read_answer (read_line.Line f) ≡ rea
 -- ---- the two calls
 
 -- which case an answer is
-line_case : (r : ReadLine) (f : Fields) → read_answer r ≡ record { number = 0; fields = f } → r ≡ read_line.Line f
-line_case (read_line.Line g) f e = ap (λ (x : Fields). read_line.Line x) (ap (λ (x : LineAnswer). x.fields) e)
-line_case read_line.Refused f e = absurd (omega (arith, ap (λ (x : LineAnswer). x.number) e))
+line_case : (r : Result Fields NoLine) (f : Fields) → read_answer r ≡ record { number = 0; fields = f } → r ≡ Ok f
+line_case (Ok g) f e = ap (λ (x : Fields). Ok x) (ap (λ (x : LineAnswer). x.fields) e)
+line_case (Err n) f e = absurd (omega (arith, ap (λ (x : LineAnswer). x.number) e))
 
-written_case : (w : WrittenLine) → written_number w ≡ 0 → w ≡ written_line.Written
-written_case written_line.Written e = refl
-written_case written_line.Refused e = absurd (omega arith)
+written_case : (w : Result (Unit {0}) Unwritten) → written_number w ≡ 0 → w ≡ Ok tt
+written_case (Ok u) e = refl
+written_case (Err n) e = absurd (omega arith)
 
 -- the line that was written
 written_form : (f : Fields) (before after : List ℕ)
-    → Writing f before written_line.Written after
+    → Writing f before (Ok tt) after
     → (can_form size_limit f ≡ true) × (after ≡ line_of 8 f ++ drop 27 before)
 unfolding can_write
 written_form f before after h =
@@ -163,7 +162,7 @@ written_form f before after h =
     (λ a. absurd (omega (arith, rw a at h.number)))
 
 -- fields that can form a line are written where there is room
-form_written : (f : Fields) (before : List ℕ) (w : WrittenLine) (after : List ℕ)
+form_written : (f : Fields) (before : List ℕ) (w : Result (Unit {0}) Unwritten) (after : List ℕ)
     → can_form size_limit f ≡ true
     → 27 ≤ length before
     → Writing f before w after
@@ -192,8 +191,8 @@ round_trip =
           let formed = form_new f g.formed in
           let again = form_written f before w after formed l h in
           record { rewritten = again; reads_equal = ap reading again.line ∙ new_reads f formed (good-sized 6 old_size_limit s f g) ∙ e };
-      refused_unread = λ s f before after l h e.
-          let w = form_written f before written_line.Refused after (good-form s f e) l h in
+      refused_unread = λ s f before u after l h e.
+          let w = form_written f before (Err u) after (good-form s f e) l h in
           let z : ◌≡◌ {A = ℕ} 19 0 = ap written_number w.written in
           omega arith;
     }

@@ -1,6 +1,6 @@
 -- Document 01's "Catalogue line", with the new line of request 111. In all of it w is the number of size digits: 8 in a new line, 6 in an
 -- old one. Both are read, and only new lines are written.
-use Rattle.std.specs.Prelude.{◌≡◌, Bool, false, ◌&&◌, List, [], ◌∷◌, ◌++◌, ℕ, ◌+◌, leb, length, drop}
+use Rattle.std.specs.Prelude.{◌≡◌, Bool, false, ◌&&◌, List, [], ◌∷◌, ◌++◌, ℕ, ◌+◌, leb, length, drop, Result, Ok, Err}
 use Rattle.lists.specs.Count.{pick}
 use Rattle.digits.specs.Hex.{hex_at, hex_digits}
 use Rattle.lines.specs.Lines.{is_line}
@@ -8,10 +8,9 @@ use Rattle.layout.specs.Versions.{version_of, layout_of, head_end, size_limit}
 use Rattle.layout.specs.declared.KnownVersion.{KnownVersion}
 use Rattle.layout.specs.declared.KnownVersion.TheVariants.{Known, Unknown}
 use Rattle.catalogue.specs.declared.Fields.{Fields}
-use Rattle.catalogue.specs.declared.ReadLine.{ReadLine}
-use Rattle.catalogue.specs.declared.ReadLine.TheVariants as read_line
-use Rattle.catalogue.specs.declared.WrittenLine.{WrittenLine}
-use Rattle.catalogue.specs.declared.WrittenLine.TheVariants as written_line
+use Rattle.catalogue.specs.declared.NoLine.{NoLine}
+use Rattle.catalogue.specs.declared.Unwritten.{Unwritten}
+use Rattle.catalogue.specs.declared.Unwritten.TheVariants as unwritten
 
 -- the limit for the size of an old line
 abbrev pub old_size_limit : ℕ
@@ -53,21 +52,30 @@ reading s =
     pick (is_good 8 size_limit s) (record { number = 0; fields = fields_in 8 s })
     (pick (is_good 6 old_size_limit s) (record { number = 0; fields = fields_in 6 s }) (record { number = 18; fields = no_fields }))
 
--- what each case of `ReadLine` says
-abbrev pub read_answer : ReadLine → LineAnswer
-read_answer (read_line.Line f) = record { number = 0; fields = f }
-read_answer read_line.Refused = record { number = 18; fields = no_fields }
+-- the one value of `NoLine`
+abbrev pub no_line : NoLine
+no_line = record {}
+
+-- what the result of reading says
+abbrev pub read_answer : Result Fields NoLine → LineAnswer
+read_answer (Ok f) = record { number = 0; fields = f }
+read_answer (Err e) = record { number = 18; fields = no_fields }
 
 -- a line can be written: the output has 27 bytes, and the fields can form a new line
 unfoldable pub can_write : Fields → ℕ → Bool
 can_write f room = leb 27 room && can_form size_limit f
 
--- what each case of `WrittenLine` says
-abbrev pub written_number : WrittenLine → ℕ
-written_number written_line.Written = 0
-written_number written_line.Refused = 19
+-- what the result of writing says
+abbrev pub written_number : Result (Unit {0}) Unwritten → ℕ
+written_number (Ok u) = 0
+written_number (Err e) = 19
+
+-- why no line is written
+abbrev pub reason : ℕ → Unwritten
+reason room = pick (leb 27 room) unwritten.NoLine unwritten.NoRoom
 
 -- writing: 0, and the first 27 bytes of the output are the new line; or 19, and the output is as it was
-pub record Writing (f : Fields) (before : List ℕ) (r : WrittenLine) (after : List ℕ) : Type 0 where
+pub record Writing (f : Fields) (before : List ℕ) (r : Result (Unit {0}) Unwritten) (after : List ℕ) : Type 0 where
   pub number : written_number r ≡ pick (can_write f (length before)) 0 19
+  pub why : (e : Unwritten) → r ≡ Err e → e ≡ reason (length before)
   pub output : after ≡ pick (can_write f (length before)) (line_of 8 f ++ drop 27 before) before

@@ -5,7 +5,9 @@
 ghost use Rattle.std.specs.Prelude.{◌≡◌, true, ◌+◌, ◌≤◌, ◌++◌, length, drop};
 ghost use Rattle.lines.specs.Lines.{is_line};
 ghost use Rattle.catalogue.specs.Private.{reading_as};
-ghost use Rattle.catalogue.specs.Line.{fields_in, line_of, size_in_range, can_form, reading, read_answer, Writing};
+ghost use Rattle.lists.specs.Count.{pick};
+ghost use Rattle.catalogue.specs.Line.{fields_in, line_of, size_in_range, can_form, reading, read_answer, no_line, Writing};
+ghost use Rattle.catalogue.specs.declared.Unwritten.TheVariants as unwritten;
 ghost use Rattle.layout.specs.declared.KnownVersion.TheVariants.{Known};
 
 use layout::{KnownVersion, Layout, SIZE_LIMIT, Version};
@@ -17,7 +19,7 @@ const OLD_SIZE_LIMIT: u32 = 16_777_215;
 const LINE_BYTES: usize = 27;
 
 // What a line says of a file.
-#[derive(Clone, Copy)]
+#[derive(Clone, Copy, Debug, PartialEq, Eq)]
 pub struct Fields {
     pub size: u32,
     pub hash: u32,
@@ -25,21 +27,27 @@ pub struct Fields {
     pub version: u32,
 }
 
-// A good line's fields, or refusal 18.
-#[derive(Clone, Copy)]
-pub enum ReadLine {
-    Line(Fields),
-    Refused,
+// Bytes or fields that give no line. Of bytes that are read it is refusal 18.
+#[derive(Clone, Copy, Debug, PartialEq, Eq)]
+pub struct NoLine;
+
+// Why no line is written, which is refusal 19: the output is too short, or the fields can form no line.
+#[derive(Clone, Copy, Debug, PartialEq, Eq)]
+pub enum Unwritten {
+    NoRoom,
+    NoLine,
 }
 
-// Written, or refusal 19.
-#[derive(Clone, Copy)]
-pub enum WrittenLine {
-    Written,
-    Refused,
+impl From<NoLine> for Unwritten {
+    ghost from_gives = { λ _ e. e ≡ unwritten.NoLine };
+
+    fn from(_none: NoLine) -> Unwritten {
+        Unwritten::NoLine
+    }
 }
 
 // The fields of a line of digits whose size has that width.
+#[tactic(auto, using(crate::proofs::Line::number_small, lines::proofs::Lines::line_number), unfolding(crate::specs::Line::fields_in))]
 fn fields_of(line: &[u8], width: usize) -> Fields
     requires { (width ≤ 8) × (is_line (width + 18) line.now ≡ true) }
     ensures { result ≡ fields_in width line.now }
@@ -53,6 +61,7 @@ fn fields_of(line: &[u8], width: usize) -> Fields
 }
 
 // Whether fields can form a line: a known version, and a size from the end of its head to the limit.
+#[tactic(auto, using(crate::proofs::Line::form_known, crate::proofs::Line::form_unknown))]
 fn can_form(fields: Fields, limit: u32) -> bool
     ensures { result ≡ can_form limit fields }
 {
@@ -65,30 +74,36 @@ fn can_form(fields: Fields, limit: u32) -> bool
 fn size_in_range(version: Version, size: u32, limit: u32) -> bool
     ensures { result ≡ size_in_range limit (Known version) size }
 {
-    if size < (Layout::of(version).head_end as u32) {
-        return false;
-    }
-    size <= limit
+    let least = Layout::of(version).head_end as u32;
+    least <= size && size <= limit
 }
 
-// The fields of a line of that width and limit, or refusal 18.
-fn read_as(line: &[u8], width: usize, limit: u32) -> ReadLine
+// Fields that can form a line.
+fn formed(fields: Fields, limit: u32) -> Result<Fields, NoLine>
+    ensures { result ≡ pick (can_form limit fields) (Ok fields) (Err no_line) }
+{
+    if can_form(fields, limit) {
+        Ok(fields)
+    } else {
+        Err(NoLine)
+    }
+}
+
+// The fields of a line of that width and limit.
+#[tactic(auto, using(crate::proofs::Line::read_formed, crate::proofs::Line::read_no_line))]
+fn read_as(line: &[u8], width: usize, limit: u32) -> Result<Fields, NoLine>
     requires { width ≤ 8 }
     ensures { read_answer result ≡ reading_as width limit line.now }
 {
     if !lines::is_line(line, width + 18) {
-        return ReadLine::Refused;
+        return Err(NoLine);
     }
-    let fields = fields_of(line, width);
-    if can_form(fields, limit) {
-        ReadLine::Line(fields)
-    } else {
-        ReadLine::Refused
-    }
+    formed(fields_of(line, width), limit)
 }
 
-// A line's fields, or refusal 18. Its length tells an old line.
-pub fn read_line(line: &[u8]) -> ReadLine
+// A line's fields. Its length tells an old line.
+#[tactic(auto, using(crate::proofs::Line::read_old, crate::proofs::Line::read_new))]
+pub fn read_line(line: &[u8]) -> Result<Fields, NoLine>
     ensures { read_answer result ≡ reading line.now }
 {
     if line.len() == 25 {
@@ -99,6 +114,7 @@ pub fn read_line(line: &[u8]) -> ReadLine
 }
 
 // The digits of the fields and the line feed, where there is room for them.
+#[tactic(auto, using(crate::proofs::NumbersWritten::line_written))]
 fn write_fields(output: &mut [u8], fields: Fields, width: usize)
     requires { width + 19 ≤ length output.old }
     ensures { output.new ≡ line_of width fields ++ drop (width + 19) output.old }
@@ -107,20 +123,16 @@ fn write_fields(output: &mut [u8], fields: Fields, width: usize)
     digits::write_number(output, width, 8, fields.hash as u64);
     digits::write_number(output, width + 8, 8, fields.runs as u64);
     digits::write_number(output, width + 16, 2, fields.version as u64);
-    output[width + 18] = 10;
+    output[width + 18] = b'\n';
 }
 
-// The new line into the first 27 bytes of the output, or refusal 19 with the output as it was.
-pub fn write_line(fields: Fields, output: &mut [u8]) -> WrittenLine
+// The new line into the first 27 bytes of the output, which stays as it was where no line is written.
+pub fn write_line(fields: Fields, output: &mut [u8]) -> Result<(), Unwritten>
     ensures { Writing fields output.old result output.new }
 {
     if output.len() < LINE_BYTES {
-        return WrittenLine::Refused;
+        return Err(Unwritten::NoRoom);
     }
-    if can_form(fields, SIZE_LIMIT) {
-        write_fields(output, fields, 8);
-        WrittenLine::Written
-    } else {
-        WrittenLine::Refused
-    }
+    write_fields(output, formed(fields, SIZE_LIMIT)?, 8);
+    Ok(())
 }

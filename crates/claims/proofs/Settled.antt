@@ -6,6 +6,7 @@ use native.Mathlib.Omega.{arith}
 use lib.Dec.{eqb}
 use lib.ListN.{get_or}
 use denote.Ref.{Bor}
+use Rattle.std.specs.Prelude.{Result, Ok, Err}
 use Rattle.lists.specs.Answer.{Said}
 use Rattle.lists.specs.Count.{pick}
 use Rattle.lists.specs.Part.{IsPart}
@@ -14,12 +15,11 @@ use Rattle.layout.specs.Versions.{form_said}
 use Rattle.layout.specs.declared.Layout.{Layout}
 use Rattle.incremental.specs.Decision.{Decision, accept, refuse, refusal, decision_of}
 use Rattle.incremental.specs.Plan.{Answer, decided, wants, run}
-use Rattle.catalogue.specs.Line.{LineAnswer, read_answer, written_number}
-use Rattle.catalogue.specs.declared.ReadLine.{ReadLine}
-use Rattle.catalogue.specs.declared.ReadLine.TheVariants as read_line
-use Rattle.catalogue.specs.declared.WrittenLine.{WrittenLine}
-use Rattle.catalogue.specs.declared.WrittenLine.TheVariants as written_line
-use Rattle.head.specs.Checks.{start_of, answer_of, open_plan}
+use Rattle.catalogue.specs.Line.{LineAnswer, read_answer, no_line, Writing}
+use Rattle.catalogue.specs.declared.Fields.{Fields}
+use Rattle.catalogue.specs.declared.NoLine.{NoLine}
+use Rattle.catalogue.specs.declared.Unwritten.{Unwritten}
+use Rattle.head.specs.Checks.{open_plan}
 use Rattle.head.specs.declared.checks.Start.{Start}
 use Rattle.head.specs.declared.checks.Opening.{Opening}
 use Rattle.trace.specs.Links.{decision_of}
@@ -110,21 +110,21 @@ replay : (r : Result Unit BadLine) → replay_back (said_of r) ≡ r
 replay (Ok x) = refl
 replay (Err x) = refl
 
-abbrev line_back : LineAnswer → ReadLine
-line_back a = pick (eqb a.number 0) (read_line.Line a.fields) read_line.Refused
+abbrev line_back : LineAnswer → Result Fields NoLine
+line_back a = pick (eqb a.number 0) (Ok a.fields) (Err no_line)
 
-read_line_lem : (r : ReadLine) → line_back (read_answer r) ≡ r
-read_line_lem (read_line.Line f) = refl
-read_line_lem read_line.Refused = refl
+read_line_lem : (r : Result Fields NoLine) → line_back (read_answer r) ≡ r
+read_line_lem (Ok f) = refl
+read_line_lem (Err n) = refl
 
-abbrev written_back : ℕ → WrittenLine
-written_back n = pick (eqb n 0) written_line.Written written_line.Refused
+-- a line is written or not, and if not there is one reason
+written : (f : Fields) (out : List ℕ) (r s : Result (Unit {0}) Unwritten) (a b : List ℕ) → Writing f out r a → Writing f out s b → r ≡ s
+written f out (Ok u) (Ok v) a b p q = refl
+written f out (Ok u) (Err e) a b p q = absurd (omega (arith, p.number, q.number))
+written f out (Err d) (Ok v) a b p q = absurd (omega (arith, p.number, q.number))
+written f out (Err d) (Err e) a b p q = ap Err (p.why d refl ∙ sym (q.why e refl))
 
-written : (r : WrittenLine) → written_back (written_number r) ≡ r
-written written_line.Written = refl
-written written_line.Refused = refl
-
-abbrev year_refusal_back : Refusal → YearRefusal
+abbrev year_refusal_back : YearRefused → YearRefusal
 year_refusal_back f = record { fault = pick (eqb f.number 18) fault.BadLine (pick (eqb f.number 24) fault.TooManyHashes fault.TooManyItems); place = f.place }
 
 year_refusal : (e : YearRefusal) → year_refusal_back (refused_by {A = ℕ} (Err e)) ≡ e
@@ -138,11 +138,11 @@ year_refusal e = ap (λ (f : Fault). record { fault = f; place = e.place }) (sam
 -- ---- promises that several functions have
 
 -- the refusal, and where there is none the value
-year_given : {A : Type 0} (v : A) (f : Refusal) (r s : Result A YearRefusal) → refused_by r ≡ f → refused_by s ≡ f → IfOk r (λ x. x ≡ v)
+year_given : {A : Type 0} (v : A) (f : YearRefused) (r s : Result A YearRefusal) → refused_by r ≡ f → refused_by s ≡ f → IfOk r (λ x. x ≡ v)
     → IfOk s (λ x. x ≡ v) → r ≡ s
 year_given v f (Ok x) (Ok y) a b p q = ap Ok (p ∙ sym q)
-year_given v f (Ok x) (Err e) a b p q = absurd (numbered e (ap (λ (f : Refusal). f.number) (b ∙ sym a)))
-year_given v f (Err d) (Ok y) a b p q = absurd (numbered d (ap (λ (f : Refusal). f.number) (a ∙ sym b)))
+year_given v f (Ok x) (Err e) a b p q = absurd (numbered e (ap (λ (f : YearRefused). f.number) (b ∙ sym a)))
+year_given v f (Err d) (Ok y) a b p q = absurd (numbered d (ap (λ (f : YearRefused). f.number) (a ∙ sym b)))
 year_given v f (Err d) (Err e) a b p q = ap Err (sym (year_refusal d) ∙ ap year_refusal_back (a ∙ sym b) ∙ year_refusal e)
 
 part : (bytes : Bor (List ℕ)) (at len : ℕ) → SettlesPart (IsPart bytes at len)
@@ -194,7 +194,7 @@ settled =
       text_put_decimal = λ out at n. put out at _;
       text_put_hex = λ out at width x. put out at _;
       catalogue_read_line = λ line r s p q. told read_answer line_back read_line_lem r s (p ∙ sym q);
-      catalogue_write_line = λ f out r s a b p q. (told written_number written_back written r s (p.number ∙ sym q.number), cc);
+      catalogue_write_line = λ f out r s a b p q. (written f out r s a b p q, cc);
       layout_of_form = λ n r s p q. told form_said form_back known_form r s (p ∙ sym q);
       sections_find_form = λ l b r s p q. told form_said form_back known_form r s (p ∙ sym q);
       head_read_start = λ bytes r s p q. told start_of start_back start r s (p ∙ sym q);

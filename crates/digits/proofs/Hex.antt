@@ -149,3 +149,10 @@ zero_digit x k l m =
     let p : 16 ^ 16 ≤ 16 ^ k = pow-le-pow_right (omega arith) m in
     let e : x / 16 ^ k ≡ 0 = div-eq_of_lt (omega arith) in
     rw e
+
+-- four bits are a digit
+pub hex_bits : (k : ℕ) → 16 ^ k ≡ 2 ^ (4 * k)
+hex_bits zero = refl
+hex_bits (suc k) =
+    let e : 4 * suc k ≡ suc (suc (suc (suc (4 * k)))) = omega arith in
+    rw (pow-suc, hex_bits k, e, pow-suc, pow-suc, pow-suc, pow-suc) (omega arith)

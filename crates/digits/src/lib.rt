@@ -1,54 +1,68 @@
 // Numbers in digits 0-9 A-F, the most significant first: read and written at any width.
 #![tactic(auto)]
 
-ghost use Rattle.std.specs.Prelude.{◌≡◌, ◌/◌, ◌%◌, ◌^◌, ◌<◌};
-ghost use Rattle.digits.specs.Hex.{is_digit, digit_of, are_digits, number_in, written};
-ghost use Rattle.digits.specs.Private.{value_or16, ValueTable};
+ghost use Rattle.std.specs.Prelude.{◌≡◌, true, ◌&&◌, ◌+◌, ◌/◌, ◌%◌, ◌^◌, ◌≤◌, ◌<◌, length, take, drop, MatchOption};
+ghost use Rattle.std.specs.List.{fold};
+ghost use Rattle.lists.specs.Count.{pick};
+ghost use Rattle.digits.specs.Hex.{is_digit, digit_of, hex_at, hex_digits, are_digits, number_in, written};
+ghost use Rattle.digits.specs.Private.{value_of};
 
-// The values of the digits, which are bytes from 48 to 70. Those between 57 and 65 are none: 16.
-const VALUES: [u8; 23] = [
+// The values of the digits, which are bytes from `0` to `F`. Those between `9` and `A` are none: 16.
+static VALUES: [u8; 23] = [
     0, 1, 2, 3, 4, 5, 6, 7, 8, 9, 16, 16, 16, 16, 16, 16, 16, 10, 11, 12, 13, 14, 15,
 ];
 
 // Whether a byte is one of 0-9 A-F.
+#[tactic(auto, using(lists::proofs::Tests::tests), unfolding(crate::specs::Hex::is_digit))]
 fn is_digit(b: u8) -> bool
     ensures { result ≡ is_digit b }
 {
-    ((48 <= b) & (b <= 57)) | ((65 <= b) & (b <= 70))
+    matches!(b, b'0'..=b'9' | b'A'..=b'F')
 }
 
-// Whether so many bytes from `at` are there, and are digits. No branch between them, so that many are looked at together.
+// So many bytes from `at`, where they are there.
+fn bytes_at(line: &[u8], at: usize, width: usize) -> Option<&[u8]>
+    ensures { MatchOption result (length line.now < at + width) (λ part. (at + width ≤ length line.now) × (part.now ≡ take width (drop at line.now))) }
+{
+    line.get(at..)?.get(..width)
+}
+
+// Whether all bytes are digits. No branch between them, so that many are looked at together.
+fn all_digits(bytes: &[u8]) -> bool
+    ensures { result ≡ fold (λ all b. all && is_digit b) true bytes.now }
+{
+    bytes.iter().fold(true, |all, b| all & is_digit(*b))
+}
+
+// Whether so many bytes from `at` are there, and are digits.
 pub fn are_digits(line: &[u8], at: usize, width: usize) -> bool
     ensures { result ≡ are_digits line.now at width }
 {
-    if line.len() < at {
-        return false;
-    }
-    if line.len() - at < width {
-        return false;
-    }
-    let mut all = true;
-    let mut k = 0;
-    while k < width {
-        all = all & is_digit(line[at + k]);
-        k += 1;
-    }
-    all
+    bytes_at(line, at, width).is_some_and(all_digits)
 }
 
-// The value of a digit; 16 where the byte is none. Looked up, as a branch on which are letters would be foretold wrong.
-#[tactic(auto, using(crate::proofs::Values::outside_table))]
-fn value_of(b: u8, values: &[u8; 23]) -> u64
-    requires { ValueTable values.now }
-    ensures { result ≡ value_or16 b }
+// The value of a digit. Looked up, as a branch on which are letters would be foretold wrong.
+#[tactic(auto, using(crate::proofs::Values::table))]
+fn value_of(b: u8) -> Option<u64>
+    ensures { result ≡ value_of b }
 {
-    if b < 48 {
-        return 16;
+    if b < b'0' || b'F' < b {
+        return None;
     }
-    if 70 < b {
-        return 16;
+    let value = VALUES[(b - b'0') as usize];
+    if value < 16 { Some(value as u64) } else { None }
+}
+
+// The number that up to 16 digits form.
+fn number_of(digits: &[u8]) -> Option<u64>
+    requires { length digits.now ≤ 16 }
+    ensures { result ≡ pick (are_digits digits.now 0 (length digits.now)) (Some (hex_at (length digits.now) digits.now 0)) None }
+{
+    let mut x = 0;
+    for b in digits {
+        x = 16 * x + value_of(*b)?;
     }
-    values[(b - 48) as usize] as u64
+    Some(x)
 }
 
 // The number that up to 16 digits from `at` form; 0 where they are no digits. Tested and valued in one pass.
@@ -59,33 +73,16 @@ pub fn number_in(line: &[u8], at: usize, width: usize) -> u64
     if 16 < width {
         return 0;
     }
-    if line.len() < at {
-        return 0;
-    }
-    let left = line.len() - at;
-    if left < width {
-        return 0;
-    }
-    let values = &VALUES;
-    let mut x: u64 = 0;
-    let mut k = 0;
-    while k < width {
-        let v = value_of(line[at + k], values);
-        if v == 16 {
-            return 0;
-        }
-        x = 16 * x + v;
-        k += 1;
-    }
-    x
+    bytes_at(line, at, width).and_then(number_of).unwrap_or(0)
 }
 
 // The digit of a number below 16.
+#[tactic(auto, using(lists::proofs::Tests::tests), unfolding(crate::specs::Hex::digit_of))]
 fn digit_of(d: u8) -> u8
     requires { d < 16 }
     ensures { result ≡ digit_of d }
 {
-    if d < 10 { 48 + d } else { 55 + d }
+    if d < 10 { b'0' + d } else { b'A' + (d - 10) }
 }
 
 // The digit of x at a place, counted from the lowest. A number of 64 bits has 16 digits, and zeros before them.
@@ -94,30 +91,27 @@ pub fn hex_digit(x: u64, place: usize) -> u8
     ensures { result ≡ digit_of (x / 16 ^ place % 16) }
 {
     if 16 <= place {
-        return 48;
+        return b'0';
     }
-    let mut y = x;
-    let mut p = place;
-    while 0 < p {
-        y = y / 16;
-        p -= 1;
+    digit_of(((x >> (4 * place)) % 16) as u8)
+}
+
+// The lowest digits of x, as many as there are bytes.
+fn fill_digits(bytes: &mut [u8], x: u64)
+    ensures { bytes.new ≡ hex_digits (length bytes.old) x }
+{
+    let width = bytes.len();
+    for (j, byte) in bytes.iter_mut().enumerate() {
+        *byte = hex_digit(x, width - 1 - j);
     }
-    digit_of((y % 16) as u8)
 }
 
 // The lowest `width` digits of x to the bytes from `at`, where there is room for all of them.
 pub fn write_number(output: &mut [u8], at: usize, width: usize, x: u64)
     ensures { output.new ≡ written output.old at width x }
 {
-    if output.len() < at {
+    if output.len() < at || output.len() - at < width {
         return;
     }
-    if output.len() - at < width {
-        return;
-    }
-    let mut j = 0;
-    while j < width {
-        output[at + j] = hex_digit(x, width - 1 - j);
-        j += 1;
-    }
+    fill_digits(&mut output[at..at + width], x);
 }

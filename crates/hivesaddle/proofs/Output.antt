@@ -8,7 +8,8 @@ use native.Mathlib.Omega.{arith}
 use lib.ListN.{length, drop, drop_of_length-le}
 use lib.Seq.{paste, take_all}
 use Rattle.catalogue.specs.declared.Fields.{Fields}
-use Rattle.catalogue.specs.declared.WrittenLine.{WrittenLine}
+use Rattle.std.specs.Prelude.{Result}
+use Rattle.catalogue.specs.declared.Unwritten.{Unwritten}
 use Rattle.catalogue.specs.Line.{Writing, written_number}
 use Rattle.std.specs.Prelude.{Result, Ok, Err}
 use Rattle.year.specs.declared.YearRefusal.{YearRefusal}
@@ -31,7 +32,7 @@ overlay-done out values now i a b o e =
     (ap (λ (k : ℕ). values ++ drop k out) (zero-add (length values))))
     o
 
-pub writing_is : (f : Fields) (before after : List ℕ) (w : WrittenLine) (r : ℕ) → Writing f before w after → written_number w ≡ r
+pub writing_is : (f : Fields) (before after : List ℕ) (w : Result (Unit {0}) Unwritten) (r : ℕ) → Writing f before w after → written_number w ≡ r
     → LineWriting f before r after
 writing_is f before after w r h e = record { number = sym e ∙ h.number; output = h.output }
 

@@ -5,7 +5,7 @@ ghost use Rattle.hivesaddle.specs.Output.{Answered, line_values, line_said, fiel
 ghost use Rattle.hivesaddle.specs.Private.{said_by, saying};
 
 use crate::replies::{Reply, put_reply};
-use catalogue::{Fields, ReadLine, WrittenLine};
+use catalogue::{Fields, NoLine};
 
 // The refusal of bytes that are no line.
 const NO_LINE: u32 = 18;
@@ -26,12 +26,12 @@ fn fields_reply(number: u32, f: Fields) -> Reply
     }
 }
 
-fn line_reply(answer: ReadLine) -> Reply
+fn line_reply(answer: Result<Fields, NoLine>) -> Reply
     ensures { said_by result ≡ line_said (read_answer answer) }
 {
     match answer {
-        ReadLine::Line(f) => fields_reply(0, f),
-        ReadLine::Refused => {
+        Ok(f) => fields_reply(0, f),
+        Err(_) => {
             let none = Fields {
                 size: 0,
                 hash: 0,
@@ -61,7 +61,7 @@ pub fn hs_catalogue_write(size: u32, hash: u32, runs: u32, version: u32, output:
         version: version,
     };
     match catalogue::write_line(fields, output) {
-        WrittenLine::Written => 0,
-        WrittenLine::Refused => 19,
+        Ok(()) => 0,
+        Err(_) => 19,
     }
 }

@@ -2,11 +2,12 @@
 use mathlib.Core.Path.{◌≡◌, refl, sym, ap, ◌∙◌}
 use mathlib.Core.Bool.{true, false}
 use mathlib.Core.List.{List, [], ◌∷◌, ◌++◌}
-use Prim.Native.Nat.{ℕ, zero, suc, ◌+◌, ◌*◌, ◌-◌, ◌≤◌, ◌<◌}
+use Prim.Native.Nat.{ℕ, zero, suc, ◌+◌, ◌*◌, ◌-◌, ◌≤◌, ◌<◌, min}
 use native.Mathlib.Nat.{mul-zero, mul-suc}
 use native.Mathlib.Omega.{arith}
 use lib.ListN.{length, take, drop, length-take, length-drop}
-use lib.Seq.{drop-drop, take-append-le, drop-append-le}
+use lib.Seq.{drop-drop, take_at, drop_at, take_all, take-append-le, drop-append-le}
+use native.Mathlib.Decide.{dec_lt}
 use Rattle.lists.proofs.Tests.{by_test}
 use Rattle.lines.specs.Lines.{is_line, leading}
 use Rattle.lines.proofs.Lines.{line_size, line_true}
@@ -137,3 +138,38 @@ module _ (n : ℕ) where
         ∙ ap (λ (x : List ℕ). suc (length (leading n (length s - (p.m + 1)) x))) (drop-drop (suc n) at s) in
         let w : suc n * (p.m + 1) ≡ suc n + suc n * p.m = ap (λ (k : ℕ). suc n * k) (omega arith) ∙ width_more p.m in
         record { m = p.m + 1; place = omega (arith, p.place, w); few = omega (arith, p.few); within = l; count = omega (arith, p.count, f) }
+
+  -- ---- the next line, cut off as a chunk of what is left
+  pub record Left (s : List ℕ) (size : ℕ) (left : List ℕ) (at : ℕ) : Type 0 where
+    pub width : size ≡ suc n
+    pub is : left ≡ drop at s
+    pub passed : Passing s at
+
+  module _ (s : List ℕ) (at size : ℕ) (left : List ℕ) (p : Left s size left at) where
+    pub left_none : length left ≡ 0 → at ≡ suc n * length (leading n (length s) s)
+    left_none e = passing_end s at p.passed (omega (arith, ap length p.is, length-drop at s))
+
+    module _ (line rest : List ℕ) (q : left ≡ line ++ rest) (m : length line ≡ min size (length left)) where
+      chunk : line ≡ take (suc n) (drop at s)
+      chunk =
+          let front : take (length line) left ≡ line = ap (take (length line)) q ∙ take_at line rest (length line) refl in
+          rw (← p.is)
+          (elim (dec_lt n (length left)) [
+            | yes l ↦ let e : suc n ≡ length line = omega (arith, p.width) in rw e (sym front)
+            | no l ↦ sym front ∙ take_all (length line) left (omega (arith, p.width)) ∙ sym (take_all (suc n) left (omega arith))
+          ])
+
+      pub left_stop : is_line n line ≡ false → at ≡ suc n * length (leading n (length s) s)
+      left_stop e = passing_stop s at p.passed (ap (is_line n) (sym chunk) ∙ e)
+
+      pub left_more : (width : ℕ) → width ≡ size → is_line n line ≡ true → Left s width rest (at + length line)
+      left_more width z e =
+          let l : length line ≡ suc n = (line_true n line e).size in
+          record {
+            width = z ∙ p.width;
+            is = sym (drop_at line rest (length line) refl) ∙ ap (drop (length line)) (sym q ∙ p.is) ∙ drop-drop (length line) at s;
+            passed = rw l (passing_step s at p.passed (ap (is_line n) (sym chunk) ∙ e));
+          }
+
+  pub none_leading : (s : List ℕ) → length s ≤ n → 0 ≡ suc n * length (leading n (length s) s)
+  none_leading s l = passing_stop s 0 (passing_start s) (short_no_line s (omega arith))

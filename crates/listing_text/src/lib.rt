@@ -1,16 +1,17 @@
 // What the listing program writes, into a borrowed output.
 #![tactic(auto)]
 
-ghost use Rattle.std.specs.Prelude.{◌≡◌, ◌++◌, ◌∷◌, ◌≤◌};
-ghost use Rattle.digits.specs.Hex.{hex_digits};
+ghost use Rattle.std.specs.Prelude.{◌≡◌, ◌++◌, ◌∷◌, [], ◌≤◌, length};
+ghost use Rattle.std.specs.Fn.{FnOnceReturnsAtMut};
 ghost use Rattle.text.specs.Decimal.{decimal};
-ghost use Rattle.text.specs.Put.{Put};
-ghost use Rattle.listing_text.specs.Listing.{line, name·word, hash·word, path·word, too_long, shown_unit, shown_name, path_text};
-ghost use Rattle.listing_text.specs.Listing.{accepted_text, refused_text, Listed};
-ghost use Rattle.listing_text.specs.Private.{count_lines};
+ghost use Rattle.text.specs.Put.{Puts};
+ghost use Rattle.text.specs.declared.Text.{Text};
+ghost use Rattle.listing_text.specs.Listing.{line, shown_unit, shown_name, path_text, accepted_text, refused_text, listing, Listed};
+ghost use Rattle.listing_text.specs.Private.{count_lines, places_left};
 
 use path_search::PathAnswer;
 use reader::{Acceptance, Verdict};
+use text::Text;
 
 // The longest file that is read.
 const FILE_LIMIT: usize = 49_151;
@@ -19,117 +20,101 @@ const FILE_LIMIT: usize = 49_151;
 fn shown_unit(u: u16) -> u8
     ensures { result ≡ shown_unit u }
 {
-    if u < 33 {
-        return 63;
+    match u {
+        33..=126 => u as u8,
+        _ => b'?',
     }
-    if 126 < u {
-        return 63;
-    }
-    u as u8
 }
 
 // The units of the program name.
-fn put_name(out: &mut [u8], at: usize, file: &[u8], units: usize) -> usize
+fn put_name(text: &mut Text, file: &[u8], units: usize)
     requires { units ≤ 30 }
-    ensures { Put out.old at (shown_name file.now units) result out.new }
+    ensures { Puts text.old (shown_name file.now units) text.new }
 {
-    let mut end = at;
-    let mut k = 0;
-    while k < units {
-        let u = little_endian::u16_at(file, layout::PROGRAM_NAME_AT + 2 * k);
-        end = text::put(out, end, shown_unit(u));
-        k += 1;
+    for k in 0..units {
+        let unit = little_endian::u16_at(file, layout::PROGRAM_NAME_AT + 2 * k);
+        text.put(shown_unit(unit));
     }
-    end
-}
-
-// A line of a word and a number.
-fn put_count(out: &mut [u8], at: usize, word: &[u8], n: u64) -> usize
-    ensures { Put out.old at (line (word.now ++ decimal n)) result out.new }
-{
-    let a = text::put_all(out, at, word);
-    let b = text::put_decimal(out, a, n);
-    text::put(out, b, 10)
-}
-
-fn put_name_line(out: &mut [u8], at: usize, file: &[u8], units: usize) -> usize
-    requires { units ≤ 30 }
-    ensures { Put out.old at (line (name·word ++ shown_name file.now units)) result out.new }
-{
-    let a = text::put_all(out, at, b"name ");
-    let b = put_name(out, a, file, units);
-    text::put(out, b, 10)
-}
-
-fn put_hash_line(out: &mut [u8], at: usize, hash: u32) -> usize
-    ensures { Put out.old at (line (hash·word ++ hex_digits 8 hash)) result out.new }
-{
-    let a = text::put_all(out, at, b"hash ");
-    let b = text::put_hex(out, a, 8, hash as u64);
-    text::put(out, b, 10)
 }
 
 // Two numbers and the blank between them.
-fn put_pair(out: &mut [u8], at: usize, a: u64, b: u64) -> usize
-    ensures { Put out.old at (decimal a ++ (32 ∷ decimal b)) result out.new }
+fn put_pair(text: &mut Text, a: u64, b: u64)
+    ensures { Puts text.old (decimal a ++ (32 ∷ decimal b)) text.new }
 {
-    let first = text::put_decimal(out, at, a);
-    let blank = text::put(out, first, 32);
-    text::put_decimal(out, blank, b)
+    text.put_decimal(a);
+    text.put(b' ');
+    text.put_decimal(b);
 }
 
-fn put_path(out: &mut [u8], at: usize, found: PathAnswer) -> usize
-    ensures { Put out.old at (path_text found) result out.new }
+fn put_path(text: &mut Text, found: PathAnswer)
+    ensures { Puts text.old (path_text found) text.new }
 {
     match found {
-        PathAnswer::Entry { index, number } => put_pair(out, at, index as u64, number as u64),
-        PathAnswer::NoPath => text::put_all(out, at, b"none"),
+        PathAnswer::Entry { index, number } => put_pair(text, index as u64, number as u64),
+        PathAnswer::NoPath => text.put_all(b"none"),
     }
 }
 
-fn put_path_line(out: &mut [u8], at: usize, found: PathAnswer) -> usize
-    ensures { Put out.old at (line (path·word ++ path_text found)) result out.new }
+// A line of a word and what a closure says behind it.
+fn put_line<'a, F: FnOnce(&mut Text<'a>)>(text: &mut Text<'a>, word: &[u8], say: F)
+    requires { F.IsAlwaysCallable say }
+    ensures { (p : Text) × (q : Text) × Puts text.old word.now p × FnOnceReturnsAtMut F.FnOnce say p tt q × Puts q (10 ∷ []) text.new }
 {
-    let a = text::put_all(out, at, b"path ");
-    let b = put_path(out, a, found);
-    text::put(out, b, 10)
+    text.put_all(word);
+    say(text);
+    text.put(b'\n');
+}
+
+// A line of a word and a number.
+fn put_count(text: &mut Text, word: &[u8], n: u64)
+    ensures { Puts text.old (line (word.now ++ decimal n)) text.new }
+{
+    put_line(text, word, |text| text.put_decimal(n));
 }
 
 // The four counts.
-fn put_counts(out: &mut [u8], at: usize, a: Acceptance) -> usize
-    ensures { Put out.old at (count_lines a) result out.new }
+fn put_counts(text: &mut Text, a: Acceptance)
+    ensures { Puts text.old (count_lines a) text.new }
 {
-    let runs = put_count(out, at, b"runs ", a.run_count as u64);
-    let files = put_count(out, runs, b"files ", a.metrics_count as u64);
-    let chains = put_count(out, files, b"chains ", a.chain_count as u64);
-    put_count(out, chains, b"volumes ", a.volume_count as u64)
+    put_count(text, b"runs ", a.run_count as u64);
+    put_count(text, b"files ", a.metrics_count as u64);
+    put_count(text, b"chains ", a.chain_count as u64);
+    put_count(text, b"volumes ", a.volume_count as u64);
 }
 
 // The listing of a file that is accepted.
-fn put_accepted(out: &mut [u8], file: &[u8], a: Acceptance) -> usize
+fn put_accepted(text: &mut Text, file: &[u8], a: Acceptance)
     requires { a.name_units ≤ 30 }
-    ensures { Put out.old 0 (accepted_text a file.now) result out.new }
+    ensures { Puts text.old (accepted_text a file.now) text.new }
 {
-    let version = put_count(out, 0, b"version ", a.version as u64);
-    let name = put_name_line(out, version, file, a.name_units);
-    let hash = put_hash_line(out, name, a.stored_hash);
-    let counts = put_counts(out, hash, a);
-    put_path_line(out, counts, path_search::find_path(file))
+    let path = path_search::find_path(file);
+    put_count(text, b"version ", a.version as u64);
+    put_line(text, b"name ", |text| put_name(text, file, a.name_units));
+    put_line(text, b"hash ", |text| text.put_hex(8, a.stored_hash as u64));
+    put_counts(text, a);
+    put_line(text, b"path ", |text| put_path(text, path));
 }
 
-fn put_refused(out: &mut [u8], number: u32, index: usize) -> usize
-    ensures { Put out.old 0 (refused_text number index) result out.new }
+fn put_refused(text: &mut Text, number: u64, index: u64)
+    ensures { Puts text.old (refused_text number index) text.new }
 {
-    let a = text::put_all(out, 0, b"refused ");
-    let b = put_pair(out, a, number as u64, index as u64);
-    text::put(out, b, 10)
+    put_line(text, b"refused ", |text| put_pair(text, number, index));
 }
 
-fn put_too_long(out: &mut [u8]) -> usize
-    ensures { Put out.old 0 (line too_long) result out.new }
+// The listing of a file, and what is left in the working buffer.
+fn put_listing(text: &mut Text, file: &[u8], predecessors: &mut [u32])
+    ensures listed { Puts text.old (listing file.now (length predecessors.old)) text.new }
+    ensures places { predecessors.new ≡ places_left file.now (length predecessors.old) }
 {
-    let a = text::put_all(out, 0, b"too long");
-    text::put(out, a, 10)
+    if FILE_LIMIT < file.len() {
+        lists::fill(predecessors);
+        return text.put_all(b"too long\n");
+    }
+    match reader::read_file(file, predecessors) {
+        Verdict::Accepted(a) => put_accepted(text, file, a),
+        Verdict::Refused(r) => put_refused(text, r.number as u64, r.index as u64),
+        Verdict::Wanted(_) => (),
+    }
 }
 
 // The listing of a file that has been read, up to the limit of the program's buffer, into the output from its start: the number of
@@ -138,13 +123,7 @@ fn put_too_long(out: &mut [u8]) -> usize
 pub fn list(file: &[u8], predecessors: &mut [u32], out: &mut [u8]) -> usize
     ensures { Listed file.now predecessors.old out.old result predecessors.new out.new }
 {
-    if FILE_LIMIT < file.len() {
-        lists::fill(predecessors);
-        return put_too_long(out);
-    }
-    match reader::read_file(file, predecessors) {
-        Verdict::Accepted(a) => put_accepted(out, file, a),
-        Verdict::Refused(r) => put_refused(out, r.number, r.index),
-        Verdict::Wanted(_) => 0,
-    }
+    let mut text = Text::new(out);
+    put_listing(&mut text, file, predecessors);
+    text.len()
 }

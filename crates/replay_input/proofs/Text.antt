@@ -5,8 +5,9 @@ use Rattle.digits.specs.Hex.{hex_digits}
 use Rattle.digits.proofs.Hex.{length_digits}
 use Rattle.text.specs.Ascii.{ascii}
 use Rattle.text.specs.Decimal.{decimal}
-use Rattle.text.specs.Put.{Put}
-use Rattle.text.proofs.Growth.{put_then}
+use Rattle.text.specs.Put.{Put, Puts}
+use Rattle.text.specs.declared.Text.{Text}
+use Rattle.text.proofs.Growth.{puts_then}
 use Rattle.replay_input.specs.declared.Written.{Written}
 use Rattle.lists.proofs.Tests.{by_test, never}
 use Rattle.replay_input.specs.Private.{answer_held}
@@ -22,9 +23,9 @@ digits t = hex_digits 16 t.0 ++ (hex_digits 2 t.1 ++ (hex_digits 4 t.2 ++ (10 �
 pub digits_size : (t : ℕ × ℕ × ℕ) → length (digits t) ≡ 23
 digits_size t = simp length-append (omega (arith, length_digits 16 t.0, length_digits 2 t.1, length_digits 4 t.2))
 
-pub digits_put : (t : ℕ × ℕ × ℕ) {o p q n m : List ℕ} {at r u v e : ℕ} → Put o at (hex_digits 16 t.0) r p → Put p r (hex_digits 2 t.1) u q
-    → Put q u (hex_digits 4 t.2) v n → Put n v (10 ∷ []) e m → Put o at (digits t) e m
-digits_put t f g k j = put_then f (put_then g (put_then k j))
+pub digits_put : (t : ℕ × ℕ × ℕ) {x u v w y : Text} → Puts x (hex_digits 16 t.0) u → Puts u (hex_digits 2 t.1) v → Puts v (hex_digits 4 t.2) w → Puts w (10 ∷ []) y
+    → Puts x (digits t) y
+digits_put t f g k j = puts_then f (puts_then g (puts_then k j))
 
 module _ (a : List ℕ) (i : ℕ) where
   -- an answer whose four numbers are there
@@ -48,10 +49,10 @@ module _ (a : List ℕ) (i : ℕ) where
       let z : (get_or a (4 * i + 1) 0, get_or a (4 * i + 2) 0, get_or a (4 * i + 3) 0) ≡ t = cc in
       rw q (ap digits (sym z)))
 
-pub refused_line_lem : (line : ℕ) {o p n m : List ℕ} {r t e : ℕ} → Put o 0 (ascii "refused 22 ") r p → Put p r (decimal line) t n → Put n t (10 ∷ []) e m
-    → Put o 0 (refused_line line) e m
+pub refused_line_lem : (line : ℕ) {t u v w : Text} → Puts t (ascii "refused 22 ") u → Puts u (decimal line) v → Puts v (10 ∷ []) w
+    → Puts t (refused_line line) w
 unfolding refused_line
-refused_line_lem line f g k = put_then f (put_then g k)
+refused_line_lem line f g k = puts_then f (puts_then g k)
 
 -- ---- lines
 

@@ -6,12 +6,13 @@ use native.Mathlib.Nat.{zero-sub, sub-zero}
 use native.Mathlib.Numerals.{add-one}
 use native.Mathlib.Decide.{dec_lt}
 use native.Mathlib.Omega.{arith}
-use lib.ListN.{length, get_or, set, take, drop, length-take, length-drop, length-append, take-append-drop}
-use lib.Seq.{take_all, take-nil, take-suc, take_at, drop_at, drop-drop, set_split}
+use lib.ListN.{length, get_or, take, drop, length-take, length-drop, length-append, take-append-drop}
+use lib.Seq.{take_all, take-nil, take-suc, take_at, drop_at, drop-drop}
 use Rattle.digits.specs.Hex.{hex_digits, digit_of}
 use Rattle.digits.proofs.Hex.{length_digits, get_or_digits}
 use Rattle.text.specs.Decimal.{decimal}
-use Rattle.text.specs.Put.{fitting, Put}
+use Rattle.text.specs.Put.{fitting, Put, Puts}
+use Rattle.text.specs.declared.Text.{Text}
 use Rattle.text.proofs.Decimal.{decimal_digit, decimal_more}
 
 -- the first bytes of two lists
@@ -32,18 +33,6 @@ pub put_none : (o : List ℕ) (at : ℕ) → Put o at [] at o
 put_none o at =
     let e : fitting o at [] ≡ [] = take-nil (length o - at) in
     record { position = rw e (omega arith); output = rw e (sym (take-append-drop at o)) }
-
--- one byte, where there is room for it and where there is none
-pub put_byte : (o : List ℕ) (at b : ℕ) → at < length o → Put o at (b ∷ []) (at + 1) (set o at b)
-put_byte o at b l =
-    let k : length o - at ≡ suc (length o - at - 1) = omega arith in
-    let e : take (length o - at) (b ∷ []) ≡ b ∷ [] = rw k (ap (λ (s : List ℕ). b ∷ s) (take-nil (length o - at - 1))) in
-    record { position = rw e; output = rw (e, add-one) (set_split o at b l) }
-
-pub put_full : (o : List ℕ) (at : ℕ) (s : List ℕ) → length o ≤ at → Put o at s at o
-put_full o at s l =
-    let k : length o - at ≡ 0 = omega arith in
-    record { position = rw k (omega arith); output = rw k (sym (take-append-drop at o)) }
 
 -- one part after another
 module _ {o : List ℕ} {at : ℕ} {a : List ℕ} {r : ℕ} {p b : List ℕ} {q : ℕ} {n : List ℕ} (g : Put o at a r p) (h : Put p r b q n) where
@@ -83,40 +72,8 @@ module _ {o : List ℕ} {at : ℕ} {a : List ℕ} {r : ℕ} {p b : List ℕ} {q 
         output = rw both-fit (elim (dec_lt (length o) at) [ yes l ↦ both-outside l | no l ↦ both-inside (omega arith) ]);
       }
 
--- the first bytes of a list, and one byte more
-pub put_next : (o : List ℕ) (at : ℕ) (s : List ℕ) (i r : ℕ) (p : List ℕ) (q : ℕ) (n : List ℕ) → i < length s
-    → Put o at (take i s) r p → Put p r (get_or s i 0 ∷ []) q n → Put o at (take (i + 1) s) q n
-put_next o at s i r p q n l g h = rw (add-one, take-suc s i 0 l) (put_then g h)
-
-pub put_end : (o : List ℕ) (at : ℕ) (s : List ℕ) (i r : ℕ) (n : List ℕ) → length s ≤ i → Put o at (take i s) r n → Put o at s r n
-put_end o at s i r n l g = rw (take_all i s l) at g
-
--- a decimal number: its one digit, or the digits of its tenth and the last
-pub decimal_one : (o : List ℕ) (at n r : ℕ) (p : List ℕ) → n < 10 → Put o at ((48 + n % 10) ∷ []) r p → Put o at (decimal n) r p
-decimal_one o at n r p l g =
-    let e : n % 10 ≡ n = omega arith in
-    rw (decimal_digit n l, ← e) g
-
-pub decimal_then : (o : List ℕ) (at n r : ℕ) (p : List ℕ) (q : ℕ) (m : List ℕ) → 10 ≤ n
-    → Put o at (decimal (n / 10)) r p → Put p r ((48 + n % 10) ∷ []) q m → Put o at (decimal n) q m
-decimal_then o at n r p q m l g h = rw (decimal_more n l) (put_then g h)
-
--- digits 0-9 A-F
-pub hex_next : (o : List ℕ) (at w x k d r : ℕ) (p : List ℕ) (q : ℕ) (n : List ℕ) → k < w → d ≡ digit_of (x / 16 ^ (w - 1 - k) % 16)
-    → Put o at (take k (hex_digits w x)) r p → Put p r (d ∷ []) q n → Put o at (take (k + 1) (hex_digits w x)) q n
-hex_next o at w x k d r p q n l e g h =
-    let z : d ≡ get_or (hex_digits w x) k 0 = e ∙ sym (get_or_digits w x k l) in
-    put_next o at (hex_digits w x) k r p q n (omega (arith, length_digits w x)) g (rw z at h)
-
-pub hex_end : (o : List ℕ) (at w x k r : ℕ) (n : List ℕ) → w ≤ k → Put o at (take k (hex_digits w x)) r n → Put o at (hex_digits w x) r n
-hex_end o at w x k r n l g = put_end o at (hex_digits w x) k r n (omega (arith, length_digits w x)) g
-
 -- ---- what a text that was put says
 module _ (o : List ℕ) (at : ℕ) (s : List ℕ) (r : ℕ) (n : List ℕ) (h : Put o at s r n) (l : at ≤ length o) where
-  -- the position stays in the buffer
-  pub put_within : r ≤ length n
-  put_within = omega (arith, h.position, length-take (length o - at) s, put_length o at s r n h)
-
   -- where there is room for all of it, all of it stands there
   pub put_whole : at + length s ≤ length o → take (r - at) (drop at n) ≡ s
   put_whole m =
@@ -124,3 +81,42 @@ module _ (o : List ℕ) (at : ℕ) (s : List ℕ) (r : ℕ) (n : List ℕ) (h : 
       let e : r - at ≡ length s = omega (arith, rw f at h.position) in
       let t : length (take at o) ≡ at = length-take at o ∙ omega arith in
       rw (h.output, f, drop_at (take at o) (s ++ drop r o) at t, e) (take_at s (drop r o) (length s) refl)
+
+-- ---- the same of a text
+pub puts_none : (t : Text) → Puts t [] t
+puts_none t = record { buffer = refl; text = put_none t.out.now t.at }
+
+pub puts_then : {a b c : Text} {s t : List ℕ} → Puts a s b → Puts b t c → Puts a (s ++ t) c
+puts_then g h = record { buffer = h.buffer ∙ g.buffer; text = put_then g.text h.text }
+
+-- the bytes of a list, one after another
+pub puts_next : (a b c : Text) (s : List ℕ) (i : ℕ) → i < length s → Puts a (take i s) b → Puts b (get_or s i 0 ∷ []) c → Puts a (take (i + 1) s) c
+puts_next a b c s i l g h = rw (add-one, take-suc s i 0 l) (puts_then g h)
+
+pub puts_end : (a b : Text) (s : List ℕ) (i : ℕ) → length s ≤ i → Puts a (take i s) b → Puts a s b
+puts_end a b s i l g = rw (take_all i s l) at g
+
+-- digits 0-9 A-F: so many places are left
+pub hex_next : (a b c : Text) (w x p d : ℕ) → p < w → d ≡ digit_of (x / 16 ^ p % 16)
+    → Puts a (take (w - suc p) (hex_digits w x)) b → Puts b (d ∷ []) c → Puts a (take (w - p) (hex_digits w x)) c
+hex_next a b c w x p d l e g h =
+    let k : w - 1 - (w - suc p) ≡ p = omega arith in
+    let n : w - p ≡ w - suc p + 1 = omega arith in
+    let z : d ≡ get_or (hex_digits w x) (w - suc p) 0 =
+    e ∙ ap (λ (j : ℕ). digit_of (x / 16 ^ j % 16)) (sym k) ∙ sym (get_or_digits w x (w - suc p) (omega arith)) in
+    rw n (puts_next a b c (hex_digits w x) (w - suc p) (omega (arith, length_digits w x)) g (rw z at h))
+
+pub hex_end : (a b : Text) (w x p : ℕ) → p ≡ 0 → Puts a (take (w - p) (hex_digits w x)) b → Puts a (hex_digits w x) b
+hex_end a b w x p e g = puts_end a b (hex_digits w x) (w - p) (omega (arith, length_digits w x)) g
+
+-- a decimal number: its one digit, or the digits of its tenth and the last
+pub decimal_one : (a b : Text) (n : ℕ) → n < 10 → Puts a ((48 + n % 10) ∷ []) b → Puts a (decimal n) b
+decimal_one a b n l g = let e : n % 10 ≡ n = omega arith in rw (decimal_digit n l, ← e) g
+
+pub decimal_then : (a b c : Text) (n : ℕ) → 10 ≤ n → Puts a (decimal (n / 10)) b → Puts b ((48 + n % 10) ∷ []) c → Puts a (decimal n) c
+decimal_then a b c n l g h = rw (decimal_more n l) (puts_then g h)
+
+-- what was put stands in the buffer that the text has
+pub puts_from : {at : ℕ} {o s : List ℕ} (t u : Text) → t.out.now ≡ o → t.at ≡ at → Puts t s u → (r : ℕ) (o' : List ℕ) → r ≡ u.at → o' ≡ u.out.now
+    → Put o at s r o'
+puts_from t u b z g r o' q w = rw (q, w) (rw (b, z) at g.text)

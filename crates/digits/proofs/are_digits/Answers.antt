@@ -1,30 +1,23 @@
-use mathlib.Core.Path.{sym, ap, ◌∙◌}
-use mathlib.Core.Bool.{Bool, ◌&&◌}
-use native.Mathlib.Numerals.{add-one}
-use native.Mathlib.Omega.{arith}
-use Rattle.digits.specs.Hex.{are_digits}
-use Rattle.digits.proofs.Laws.{digits_outside, digits_none, digits_more}
-use borrow.Author.Rules.{rules}
+use mathlib.Core.Path.{◌≡◌, sym, ap, ◌∙◌}
+use mathlib.Core.Bool.{Bool, false, true, ◌&&◌}
+use mathlib.Core.List.{List}
+use Prim.Native.Nat.{ℕ, ◌+◌, ◌≤◌, ◌<◌}
+use lib.ListN.{length, take, drop}
+use denote.Bor.{Bor}
+use Rattle.std.proofs.Common.{rules}
+use Rattle.std.specs.Prelude.{Option, Some, None, MatchOption}
+use Rattle.std.specs.List.{fold}
+use Rattle.digits.specs.Hex.{is_digit, are_digits}
+use Rattle.digits.proofs.Laws.{digits_outside, fold_digits}
 use Rattle.digits.proofs.are_digits.Goals as goal
 
-pub loop-k-init : goal.loop-k-init
-loop-k-init c = search (rules, digits_none)
+tested : (s : List ℕ) (at w : ℕ) (o : Option (Bor (List ℕ))) (r : Bool) (P : Bor (List ℕ) → Type 0)
+    → MatchOption o (length s < at + w) (λ p. (at + w ≤ length s) × (p.now ≡ take w (drop at s)))
+    → MatchOption o (r ≡ false) P
+    → ((x : Bor (List ℕ)) → P x → r ≡ fold (λ all b. all && is_digit b) true x.now)
+    → r ≡ are_digits s at w
+tested s at w None r P m n f = n ∙ sym (digits_outside s at w m)
+tested s at w (Some x) r P m n f = f x n ∙ ap (fold (λ all b. all && is_digit b) true) m.1 ∙ fold_digits s at w m.0
 
-pub loop-k-preserved : goal.loop-k-preserved
-loop-k-preserved c =
-    let s = c.args in
-    let v = c.loop-k.invariant in
-    let k = c.loop-k.k in (
-      v.0,
-      omega arith,
-      rw (add-one k)
-          (ap (λ (x : Bool). x && c.is_digit-all.result) v.2
-          ∙ ap (λ (x : Bool). are_digits s.line.now s.at k && x) c.is_digit-all.ensures
-          ∙ sym (digits_more s.line.now s.at k (omega (arith, v.0)))),
-    )
-
-pub returns-then-line-at : goal.returns-then-line-at
-returns-then-line-at c = let a = c.args in sym (digits_outside a.line.now a.at a.width (omega arith))
-
-pub returns-then-line-at-2 : goal.returns-then-line-at-2
-returns-then-line-at-2 c = let a = c.args in sym (digits_outside a.line.now a.at a.width (omega arith))
+pub returns : goal.returns
+returns c = tested _ _ _ c.bytes_at.result _ _ c.bytes_at.ensures c.is_some_and.ensures (λ x p. search rules)

@@ -1,59 +1,27 @@
-use mathlib.Core.Path.{◌≡◌, sym, ap, ◌∙◌}
-use Prim.Native.Nat.{ℕ, ◌+◌, ◌*◌, ◌^◌, ◌<◌}
-use native.Mathlib.Numerals.{add-one}
+use mathlib.Core.Path.{◌≡◌, ◌∙◌}
+use mathlib.Core.List.{List}
+use Prim.Native.Nat.{ℕ, ◌+◌, ◌≤◌, ◌<◌}
 use native.Mathlib.Omega.{arith}
-use borrow.Author.Count.{below_more}
-use Rattle.digits.specs.Hex.{hex_at}
-use Rattle.digits.proofs.Hex.{hex_room, digit_law}
-use Rattle.digits.proofs.Laws.{digits_outside, digits_other, digits_all, number_other, number_digits}
-use Rattle.digits.proofs.Values.{values, values_right, value_none, value_digit}
-use borrow.Author.Rules.{rules}
+use lib.ListN.{length, take, drop}
+use denote.Bor.{Bor}
+use Rattle.std.proofs.Common.{rules}
+use Rattle.std.specs.Prelude.{Option, Some, None, MatchOption}
+use Rattle.std.specs.Option.{unwrap_or}
+use Rattle.lists.specs.Count.{pick}
+use Rattle.digits.specs.Hex.{hex_at, are_digits, number_in}
+use Rattle.digits.proofs.Laws.{number_other, digits_outside, number_part}
 use Rattle.digits.proofs.number_in.Goals as goal
 
--- one digit more fits
-room : (b : goal.Else-v-eq16) → b.loop-k.k < 16 → 16 * b.loop-k.x + 15 < 2 ^ 64
-room b l =
-    let s = b.args in
-    omega (arith, b.loop-k.invariant.4, hex_room b.loop-k.k s.line.now s.at l b.loop-k.invariant.3)
-
-pub returns-then-v-eq16 : goal.returns-then-v-eq16
-returns-then-v-eq16 c =
-    number_other _ _ _
-    (digits_other _ _ _ c.loop-k.k c.loop-k.invariant.1 (omega arith) (value_none _ (sym c.value_of-v.ensures ∙ c.if-v-eq16.true)))
-
-pub loop-k-preserved : goal.loop-k-preserved
-unfolding hex_at
-loop-k-preserved c =
-    let v = c.loop-k.invariant in
-    let d = value_digit _ (λ e. c.if-v-eq16.false (c.value_of-v.ensures ∙ e)) in
-    (v.0, v.1, omega arith, below_more _ _ v.3 d.digit, rw (add-one c.loop-k.k) (omega (arith, v.4, c.value_of-v.ensures, d.value)))
-
-pub overflow_mul-x : goal.overflow_mul-x
-overflow_mul-x c = omega (arith, room c (omega arith))
-
-pub loop-k-init : goal.loop-k-init
-unfolding hex_at
-loop-k-init c = (omega arith, omega arith, omega arith, (λ k l. absurd (omega arith)), search rules)
+read : (s : List ℕ) (at w : ℕ) (o : Option (Bor (List ℕ))) (q : Option ℕ) (P : Bor (List ℕ) → Type 0)
+    → w ≤ 16
+    → MatchOption o (length s < at + w) (λ p. (at + w ≤ length s) × (p.now ≡ take w (drop at s)))
+    → MatchOption o (q ≡ None) P
+    → ((x : Bor (List ℕ)) → P x → q ≡ pick (are_digits x.now 0 (length x.now)) (Some (hex_at (length x.now) x.now 0)) None)
+    → unwrap_or q 0 ≡ number_in s at w
+read s at w None q P l m n f = rw n (number_other s at w (digits_outside s at w m))
+read s at w (Some x) q P l m n f = number_part s at w _ m.0 m.1 q (f x n) l
 
 pub returns : goal.returns
 returns c =
-    let v = c.loop-k.invariant in
-    let e : c.loop-k.k ≡ c.args.width = omega arith in
-    v.4
-    ∙ ap (λ (k : ℕ). hex_at k c.args.line.now c.args.at) e
-    ∙ sym (number_digits _ _ _ v.0 (digits_all _ _ _ v.1 (λ k l. v.3 k (omega arith))))
-
-pub overflow_add-x : goal.overflow_add-x
-overflow_add-x c =
-    let d = value_digit _ (λ e. c.if-v-eq16.false (c.value_of-v.ensures ∙ e)) in
-    omega (arith, room c (omega arith), c.value_of-v.ensures, d.value, (digit_law _ d.digit).small)
-
-pub returns-then-line-at : goal.returns-then-line-at
-returns-then-line-at c = number_other _ _ _ (digits_outside _ _ _ (omega arith))
-
-pub value_of-v-requires : goal.value_of-v-requires
-unfolding values
-value_of-v-requires c = search (rules, values_right)
-
-pub returns-then-left-width : goal.returns-then-left-width
-returns-then-left-width c = number_other _ _ _ (digits_outside _ _ _ (omega arith))
+    c.unwrap_or.ensures
+    ∙ read _ _ _ c.bytes_at.result _ _ (omega arith) c.bytes_at.ensures c.and_then.ensures (λ x p. search rules)

@@ -1,11 +1,10 @@
 -- After k turns n is the number of line feeds among the first k bytes.
 use mathlib.Core.Path.{◌≡◌}
-use Prim.Native.Nat.{◌-◌, ◌≤◌}
-use Rattle.lines.specs.Private.{feeds_in}
+use Prim.Native.Nat.{◌≤◌}
+use lib.ListN.{take}
+use Rattle.std.specs.List.{count_by}
+use Rattle.lines.specs.Private.{is_feed}
 use Rattle.lines.proofs.feeds.Given as goal
 
-abbrev pub invariant-loop-k : goal.invariant-loop-k
-invariant-loop-k l = (l.k ≤ l.width) × (l.n ≤ l.k) × (l.n ≡ feeds_in l.bytes l.at l.k)
-
-abbrev pub decreases-loop-k : goal.decreases-loop-k
-decreases-loop-k l = l.width - l.k
+abbrev pub invariant-loop-b : goal.invariant-loop-b
+invariant-loop-b l = (l.n ≤ l.b-index) × (l.n ≡ count_by is_feed (take l.b-index l.bytes))

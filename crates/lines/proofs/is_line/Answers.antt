@@ -1,18 +1,25 @@
--- The length, the digits and the line feed, in the definition's order.
-use mathlib.Core.Path.{sym, ◌∙◌}
+-- The length, the line feed and the digits decide.
+use mathlib.Core.Path.{◌≡◌, ◌∙◌}
+use mathlib.Core.Bool.{false}
 use native.Mathlib.Omega.{arith}
-use Rattle.lines.proofs.Lines.{line_size, line_digits, line_feed}
+use lib.ListN.{length}
+use Rattle.lines.specs.Lines.{is_line}
+use Rattle.lines.proofs.Lines.{line_none, line_short, line_other, line_full}
 use Rattle.lines.proofs.is_line.Goals as goal
 
-pub returns-then-line-digits : goal.returns-then-line-digits
-returns-then-line-digits c = sym (line_size _ _ (λ e. omega arith))
+pub returns-in_default : goal.returns-in_default
+returns-in_default c = line_none _ _ c.in_default.ensures.cases
 
-pub returns-then-line-digits-ne1 : goal.returns-then-line-digits-ne1
-returns-then-line-digits-ne1 c = sym (line_size _ _ (λ e. c.if-line-digits-ne1.true (omega arith)))
-
-pub returns-then-not-are_digits : goal.returns-then-not-are_digits
-returns-then-not-are_digits c = sym (line_digits _ _ (omega arith) (sym c.are_digits.ensures ∙ c.if-not-are_digits.true))
+pub returns-then-number-digits : goal.returns-then-number-digits
+returns-then-number-digits c =
+    let n = c.args.digits in
+    let s = c.args.line.now in
+    let t = c.in-Some.number.now in
+    let b = c.in-Some.end.now in
+    let q = c.in-Some.ensures.cases.0 in
+    let short : (length t ≡ n → ⊥) → false ≡ is_line n s = line_short n s t b q in
+    let other : length t ≡ n → (b ≡ 10 → ⊥) → false ≡ is_line n s = line_other n s t b q in
+    grind (arith, short, other)
 
 pub returns : goal.returns
-returns c =
-    sym (line_feed _ _ (omega arith) (sym c.are_digits.ensures ∙ c.if-not-are_digits.false))
+returns c = c.are_digits.ensures ∙ line_full _ _ _ _ c.in-Some.ensures.cases.0 (omega arith) (omega arith)

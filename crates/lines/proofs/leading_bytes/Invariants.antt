@@ -1,11 +1,7 @@
--- The lines before `at` are all of n digits; the first that is not, or the end, is where they stop.
-use Prim.Native.Nat.{◌-◌}
-use lib.ListN.{length}
-use Rattle.lines.proofs.Leading.{Passing}
+-- The lines before `at` are all of n digits; what comes after them is left.
+use Rattle.std.specs.Slice.Iter.{chunks_rest, chunks_size}
+use Rattle.lines.proofs.Leading.{Left}
 use Rattle.lines.proofs.leading_bytes.Given as goal
 
-abbrev pub invariant-loop-at : goal.invariant-loop-at
-invariant-loop-at l = Passing l.digits l.bytes l.at
-
-abbrev pub decreases-loop-at : goal.decreases-loop-at
-decreases-loop-at l = length l.bytes - l.at
+abbrev pub invariant-loop-line : goal.invariant-loop-line
+invariant-loop-line l = Left l.digits l.bytes (chunks_size l.line-iterator) (chunks_rest l.line-iterator) l.at

@@ -4,8 +4,8 @@ use Rattle.catalogue.specs.Line.{written_number}
 use Rattle.hivesaddle.proofs.Output.{writing_is}
 use Rattle.hivesaddle.proofs.catalogue_lines.hs_catalogue_write.Goals as goal
 
-pub returns-in-Refused : goal.returns-in-Refused
-returns-in-Refused c = writing_is _ _ _ _ _ c.write_line.ensures (ap written_number c.in-Refused.is)
+pub returns-in-Err : goal.returns-in-Err
+returns-in-Err c = writing_is _ _ _ _ _ c.write_line.ensures (ap written_number c.in-Err.is)
 
-pub returns-in-Written : goal.returns-in-Written
-returns-in-Written c = writing_is _ _ _ _ _ c.write_line.ensures (ap written_number c.in-Written.is)
+pub returns-in-Ok : goal.returns-in-Ok
+returns-in-Ok c = writing_is _ _ _ _ _ c.write_line.ensures (ap written_number c.in-Ok.is)

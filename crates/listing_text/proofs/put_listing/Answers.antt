@@ -1,0 +1,19 @@
+-- The case of the verdict decides which text is put.
+use native.Mathlib.Omega.{arith}
+use Rattle.listing_text.proofs.Bounds.{accepted_units}
+use Rattle.listing_text.proofs.Lines.{listing_long, listing_accepted, listing_refused}
+use Rattle.listing_text.proofs.put_listing.Goals as goal
+
+pub returns-then-file-gt-FILE_LIMIT-clause-listed : goal.returns-then-file-gt-FILE_LIMIT-clause-listed
+returns-then-file-gt-FILE_LIMIT-clause-listed c = rw (← listing_long _ _ c.if-file-gt-FILE_LIMIT.true) c.put_all.ensures
+
+pub put_accepted-requires : goal.put_accepted-requires
+put_accepted-requires c = omega (arith, accepted_units _ _ _ _ _ (λ i. (c.type_inv.file i).fits) c.read_file.ensures c.in-Accepted.is)
+
+pub returns-in-Accepted-clause-listed : goal.returns-in-Accepted-clause-listed
+returns-in-Accepted-clause-listed c =
+    rw (← listing_accepted _ _ c.if-file-gt-FILE_LIMIT.false _ _ _ c.read_file.ensures _ c.in-Accepted.is) c.put_accepted.ensures
+
+pub returns-in-Refused-clause-listed : goal.returns-in-Refused-clause-listed
+returns-in-Refused-clause-listed c =
+    rw (← listing_refused _ _ c.if-file-gt-FILE_LIMIT.false _ _ _ c.read_file.ensures _ c.in-Refused.is) c.put_refused.ensures

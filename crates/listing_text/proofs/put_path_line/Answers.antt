@@ -1,6 +1,0 @@
--- A word, what it says, and the line feed, one after the other.
-use Rattle.listing_text.proofs.Lines.{line_of}
-use Rattle.listing_text.proofs.put_path_line.Goals as goal
-
-pub returns : goal.returns
-returns c = line_of c.put_all-a.ensures c.put_path-b.ensures c.put.ensures
