@@ -1,5 +1,10 @@
 -- Document 01's "Catalogue line", for any number w of size digits and any limit: the length, the digits and the fields decide in turn.
-use mathlib.Core.Path.{◌≡◌, sym, ◌∙◌}
+use Rattle.lists.specs.Answer.{Answers}
+use Rattle.layout.specs.declared.UnknownVersion.{UnknownVersion}
+use Rattle.layout.specs.Versions.{known_said}
+use Rattle.std.specs.Result.{result_ok}
+use Rattle.std.specs.Prelude.{Result, Ok, Err}
+use mathlib.Core.Path.{ap, ◌≡◌, sym, ◌∙◌}
 use mathlib.Core.Bool.{true, false}
 use mathlib.Core.List.{List, ◌++◌}
 use Prim.Native.Nat.{ℕ, ◌+◌, ◌^◌, ◌≤◌, ◌<◌}
@@ -12,8 +17,6 @@ use Rattle.lines.specs.Lines.{is_line}
 use Rattle.lines.proofs.Lines.{line_size, line_number, line_below}
 use Rattle.layout.specs.Versions.{version_of, size_limit}
 use Rattle.layout.specs.declared.Version.{Version}
-use Rattle.layout.specs.declared.KnownVersion.{KnownVersion}
-use Rattle.layout.specs.declared.KnownVersion.TheVariants.{Known, Unknown}
 use Rattle.catalogue.specs.declared.Fields.{Fields}
 use Rattle.std.specs.Prelude.{Result, Ok, Err}
 use Rattle.catalogue.specs.declared.NoLine.{NoLine}
@@ -22,16 +25,17 @@ use Rattle.catalogue.specs.Line.{line_of, fields_in, size_in_range, can_form, is
 use Rattle.lists.specs.Count.{pick}
 use Rattle.lists.proofs.Tests.{by_test, never}
 use Rattle.catalogue.specs.Private.{reading_as}
+use Rattle.std.specs.Prelude.{Some}
 
 -- ---- laws of the fields, for a version that was looked up and matched on
-module _ (limit : ℕ) (f : Fields) (k : KnownVersion) (e : k ≡ version_of f.version) where
-  pub form_known : (v : Version) → k ≡ Known v → can_form limit f ≡ size_in_range limit (Known v) f.size
+module _ (limit : ℕ) (f : Fields) (k : Result Version UnknownVersion) (e : Answers known_said (version_of f.version) (result_ok k)) where
+  pub form_known : (v : Version) → k ≡ Ok v → can_form limit f ≡ size_in_range limit (Some v) f.size
   unfolding can_form
-  form_known v q = rw (sym e ∙ q)
+  form_known v q = rw (sym e.answer ∙ ap result_ok q)
 
-  pub form_unknown : k ≡ Unknown → can_form limit f ≡ false
+  pub form_unknown : (u : UnknownVersion) → k ≡ Err u → can_form limit f ≡ false
   unfolding can_form
-  form_unknown q = rw (sym e ∙ q)
+  form_unknown u q = rw (sym e.answer ∙ ap result_ok q)
 
 -- ---- laws of reading
 

@@ -17,8 +17,6 @@ use Rattle.digits.specs.Hex.{hex_at}
 use Rattle.digits.proofs.Hex.{hex_lt}
 use Rattle.layout.specs.Versions.{version_of, layout_of, head_end, size_limit}
 use Rattle.layout.specs.declared.Version.{Version}
-use Rattle.layout.specs.declared.KnownVersion.{KnownVersion}
-use Rattle.layout.specs.declared.KnownVersion.TheVariants.{Known, Unknown}
 use Rattle.catalogue.specs.declared.Fields.{Fields}
 use Rattle.std.specs.Prelude.{Result, Ok, Err}
 use Rattle.catalogue.specs.declared.NoLine.{NoLine}
@@ -31,13 +29,14 @@ use Rattle.lines.proofs.Lines.{line_is, line_part}
 use Rattle.catalogue.proofs.Line.{read_good, read_old, read_new}
 use Rattle.catalogue.specs.RoundTrip.{Sized, Rewritten, RoundTrip}
 use Rattle.catalogue.proofs.DigitsOfLine.{line_size, line_of_digits, number_size, number_hash, number_runs, number_version, digits_line}
+use Rattle.std.specs.Prelude.{None, Option, Some}
 
 -- ---- the fields
 
 -- what `can_form` says
 record Formed (limit : ℕ) (f : Fields) : Type 0 where
   version : Version
-  known : version_of f.version ≡ Known version
+  known : version_of f.version ≡ Some version
   least : head_end (layout_of version) ≤ f.size
   most : f.size ≤ limit
 
@@ -46,14 +45,14 @@ module _ (limit : ℕ) (f : Fields) where
   unfolding can_form
   form-true e = go (version_of f.version) refl e
     where
-      go : (k : KnownVersion) → version_of f.version ≡ k → size_in_range limit k f.size ≡ true → Formed limit f
-      go (Known v) k e =
+      go : (k : Option Version) → version_of f.version ≡ k → size_in_range limit k f.size ≡ true → Formed limit f
+      go (Some v) k e =
           by_test (leb (head_end (layout_of v)) f.size)
           (λ p.
           by_test (leb f.size limit) (λ q. record { version = v; known = k; least = leb-true _ _ p; most = leb-true _ _ q })
           (λ q. absurd (true-false (sym (rw (p, q) at e)))))
           (λ p. absurd (true-false (sym (rw p at e))))
-      go Unknown k e = absurd (true-false (sym e))
+      go None k e = absurd (true-false (sym e))
 
   form-is : Formed limit f → can_form limit f ≡ true
   unfolding can_form
@@ -63,7 +62,7 @@ module _ (limit : ℕ) (f : Fields) where
 above_other : (n k : ℕ) → 16 ^ 2 ≤ n → k < 16 ^ 2 → eqb n k ≡ false
 above_other n k l m = ne_eqb n k (λ e. omega arith)
 
-above_unknown : (n : ℕ) → 16 ^ 2 ≤ n → version_of n ≡ Unknown
+above_unknown : (n : ℕ) → 16 ^ 2 ≤ n → version_of n ≡ None
 unfolding version_of
 above_unknown n l = search (above_other, lit<)
 

@@ -5,12 +5,12 @@ use Rattle.lists.specs.Count.{pick}
 use Rattle.digits.specs.Hex.{hex_at, hex_digits}
 use Rattle.lines.specs.Lines.{is_line}
 use Rattle.layout.specs.Versions.{version_of, layout_of, head_end, size_limit}
-use Rattle.layout.specs.declared.KnownVersion.{KnownVersion}
-use Rattle.layout.specs.declared.KnownVersion.TheVariants.{Known, Unknown}
 use Rattle.catalogue.specs.declared.Fields.{Fields}
 use Rattle.catalogue.specs.declared.NoLine.{NoLine}
 use Rattle.catalogue.specs.declared.Unwritten.{Unwritten}
 use Rattle.catalogue.specs.declared.Unwritten.TheVariants as unwritten
+use Rattle.std.specs.Prelude.{None, Option, Some}
+use Rattle.layout.specs.declared.Version.{Version}
 
 -- the limit for the size of an old line
 abbrev pub old_size_limit : ℕ
@@ -25,9 +25,9 @@ unfoldable pub fields_in : ℕ → List ℕ → Fields
 fields_in w s = record { size = hex_at w s 0; hash = hex_at 8 s w; runs = hex_at 8 s (w + 8); version = hex_at 2 s (w + 16) }
 
 -- the size lies between the version's H and the limit
-abbrev pub size_in_range : ℕ → KnownVersion → ℕ → Bool
-size_in_range limit (Known v) size = leb (head_end (layout_of v)) size && leb size limit
-size_in_range limit Unknown size = false
+abbrev pub size_in_range : ℕ → Option Version → ℕ → Bool
+size_in_range limit (Some v) size = leb (head_end (layout_of v)) size && leb size limit
+size_in_range limit None size = false
 
 -- the version is one of those known, and the size lies in its range
 unfoldable pub can_form : ℕ → Fields → Bool

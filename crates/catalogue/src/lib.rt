@@ -8,9 +8,8 @@ ghost use Rattle.catalogue.specs.Private.{reading_as};
 ghost use Rattle.lists.specs.Count.{pick};
 ghost use Rattle.catalogue.specs.Line.{fields_in, line_of, size_in_range, can_form, reading, read_answer, no_line, Writing};
 ghost use Rattle.catalogue.specs.declared.Unwritten.TheVariants as unwritten;
-ghost use Rattle.layout.specs.declared.KnownVersion.TheVariants.{Known};
 
-use layout::{KnownVersion, Layout, SIZE_LIMIT, Version};
+use layout::{Layout, SIZE_LIMIT, Version};
 
 // The limit for the size of an old line.
 const OLD_SIZE_LIMIT: u32 = 16_777_215;
@@ -61,18 +60,17 @@ fn fields_of(line: &[u8], width: usize) -> Fields
 }
 
 // Whether fields can form a line: a known version, and a size from the end of its head to the limit.
-#[tactic(auto, using(crate::proofs::Line::form_known, crate::proofs::Line::form_unknown))]
 fn can_form(fields: Fields, limit: u32) -> bool
     ensures { result ≡ can_form limit fields }
 {
-    match Version::of(fields.version) {
-        KnownVersion::Known(v) => size_in_range(v, fields.size, limit),
-        KnownVersion::Unknown => false,
+    match Version::try_from(fields.version) {
+        Ok(version) => size_in_range(version, fields.size, limit),
+        Err(_) => false,
     }
 }
 
 fn size_in_range(version: Version, size: u32, limit: u32) -> bool
-    ensures { result ≡ size_in_range limit (Known version) size }
+    ensures { result ≡ size_in_range limit (Some version) size }
 {
     let least = Layout::of(version).head_end as u32;
     least <= size && size <= limit

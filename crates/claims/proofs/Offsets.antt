@@ -43,10 +43,10 @@ use Rattle.claims.specs.Offsets.{offset_of, constants, or_else, layout_in, offse
 use Rattle.claims.proofs.Rows.{at_index, found_index, field_low, entry_inside, links_there, form_told}
 use Rattle.reader.specs.declared.verdict.Acceptance.{Acceptance}
 use Rattle.std.specs.Prelude.{Err, Option, Result, Some}
-use Rattle.incremental.specs.declared.Fault.{Fault}
 use Rattle.incremental.specs.declared.Stop.TheVariants.{Refused}
 use Rattle.incremental.specs.declared.Stop.{Stop}
 use Rattle.incremental.specs.Decision.{fault}
+use Rattle.incremental.specs.declared.Fault.{Fault}
 
 abbrev Any : {A : Type 0} → A → Type 0
 Any a = Unit
@@ -64,7 +64,7 @@ module _ (p : List ℕ) (m : ℕ) where
       → Each Any Placed (run (and_then (reach k) f) p)
   wait k f h = each_reach Any Placed k f p h
 
-  abbrev line : {B : Type 0} (n : ℕ) (f : Option Fault) (g : Unit → Plan B) → ((i at : ℕ) → f ≡ Some (fault i at) → Placed (refusal n i at))
+  abbrev line : {B : Type 0} (n : ℕ) (f : Option (Option Fault)) (g : Unit → Plan B) → ((i at : ℕ) → f ≡ Some (fault i at) → Placed (refusal n i at))
       → Each Any Placed (run (g tt) p) → Each Any Placed (run (and_then (check n f) g) p)
   line n f g h k = each_check Any Placed n f g p h (λ _. k)
 

@@ -40,10 +40,10 @@ use Rattle.reader.specs.Verdict.{Acceptable, Values, Reads, values_of, answer_va
 use Rattle.reader.specs.Checks.{trace_required, nexts_in, record_of, prefix_answer, sized, size_of, whole, file_answer}
 use Rattle.reader.specs.Checks.{counts_plan, fits_plan, texts_plan, trace_plan, volumes_plan, rest_plan, read_plan}
 use Rattle.reader.specs.declared.verdict.Acceptance.{Acceptance}
-use Rattle.incremental.specs.declared.Fault.{Fault}
 use Rattle.std.specs.Prelude.{None, Ok, Option, Result, Some}
 use Rattle.incremental.specs.declared.Stop.{Stop}
 use Rattle.incremental.specs.Decision.{fault}
+use Rattle.incremental.specs.declared.Fault.{Fault}
 
 -- every byte is below 256
 abbrev pub Bytes : List ℕ → Type 0
@@ -65,7 +65,7 @@ small_at : (n i at : ℕ) → n < 100 → i < 2 ^ 32 → SmallRefusal (refusal n
 small_at n i at l h = record { number = l; index = h }
 
 -- ---- faults: one at index 0, or at an index of so many
-abbrev LowFault : Option Fault → Type 0
+abbrev LowFault : Option (Option Fault) → Type 0
 LowFault f = (i at : ℕ) → f ≡ Some (fault i at) → i < 2 ^ 32
 
 low_fault : (i at : ℕ) (b : Bool) → i < 2 ^ 32 → LowFault (fault_at i at b)
@@ -165,10 +165,10 @@ module _ (p : List ℕ) (m : ℕ) (h : Bytes p) where
   Any a = Unit
 
   -- a check by its number and its fault
-  small-check : (n : ℕ) (f : Option Fault) → n < 100 → LowFault f → (i at : ℕ) → f ≡ Some (fault i at) → SmallRefusal (refusal n i at)
+  small-check : (n : ℕ) (f : Option (Option Fault)) → n < 100 → LowFault f → (i at : ℕ) → f ≡ Some (fault i at) → SmallRefusal (refusal n i at)
   small-check n f l h i at e = small_at n i at l (h i at e)
 
-  abbrev line : {B : Type 0} (n : ℕ) (f : Option Fault) (g : Unit → Plan B) → n < 100 → LowFault f → Each Any SmallRefusal (run (g tt) p)
+  abbrev line : {B : Type 0} (n : ℕ) (f : Option (Option Fault)) (g : Unit → Plan B) → n < 100 → LowFault f → Each Any SmallRefusal (run (g tt) p)
       → Each Any SmallRefusal (run (and_then (check n f) g) p)
   line n f g l h k = each_check Any SmallRefusal n f g p (small-check n f l h) (λ _. k)
 

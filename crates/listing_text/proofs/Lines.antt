@@ -16,8 +16,6 @@ use Rattle.digits.specs.Hex.{hex_digits}
 use Rattle.reader.specs.Verdict.{Acceptable, Values, Reads, answer_values, accepted_values, refused_values, values_of}
 use Rattle.reader.specs.Checks.{file_answer}
 use Rattle.reader.specs.declared.verdict.Acceptance.{Acceptance}
-use Rattle.reader.specs.declared.verdict.Verdict.{Verdict}
-use Rattle.reader.specs.declared.verdict.Verdict.TheVariants.{Accepted, Refused}
 use Rattle.path_search.specs.Search.{path_found}
 use Rattle.text.specs.Decimal.{decimal}
 use Rattle.text.specs.Put.{Put, Puts}
@@ -29,6 +27,9 @@ use Rattle.listing_text.specs.Listing.{path·word, too_long, shown_unit, shown_n
 use Rattle.listing_text.specs.Listing.{answer_text, file_limit, listing, Listed}
 use Rattle.listing_text.proofs.Bounds.{Bytes}
 use Rattle.listing_text.proofs.ListingRoom.{listing_short}
+use Rattle.std.specs.Prelude.{Err, Ok, Result}
+use Rattle.incremental.specs.declared.Stop.TheVariants.{Refused}
+use Rattle.incremental.specs.declared.Stop.{Stop}
 
 -- ---- the units of the name
 -- the last entry of a list that is given by its entries
@@ -86,7 +87,7 @@ module _ (p : List ℕ) (n : ℕ) where
   unfolding listing
   listing_long l = rw (lt-ltb file_limit (length p) l)
 
-  module _ (l : length p ≤ file_limit) (m : ℕ) (v : Verdict) (after : List ℕ) (z : Reads (file_answer p n) m v after) where
+  module _ (l : length p ≤ file_limit) (m : ℕ) (v : Result Acceptance Stop) (after : List ℕ) (z : Reads (file_answer p n) m v after) where
     listing-read : answer_text (file_answer p n) p ≡ listing p n
     unfolding listing
     listing-read = rw (le-ltb file_limit (length p) l)
@@ -103,10 +104,10 @@ module _ (p : List ℕ) (n : ℕ) where
     refused_answer f (decided (refuse q)) e = rw (ap (λ (w : Values). w.number) e, ap (λ (w : Values). w.index) e)
     refused_answer f (wants k) e = absurd (omega (arith, ap (λ (w : Values). w.kind) e))
 
-    pub listing_accepted : (a : Acceptance) → v ≡ Accepted a → accepted_text a p ≡ listing p n
+    pub listing_accepted : (a : Acceptance) → v ≡ Ok a → accepted_text a p ≡ listing p n
     listing_accepted a q = accepted_answer a (file_answer p n) (ap values_of (sym q) ∙ z.verdict) ∙ listing-read
 
-    pub listing_refused : (f : Refusal) → v ≡ Refused f → refused_text f.number f.index ≡ listing p n
+    pub listing_refused : (f : Refusal) → v ≡ Err (Refused f) → refused_text f.number f.index ≡ listing p n
     listing_refused f q = refused_answer f (file_answer p n) (ap values_of (sym q) ∙ z.verdict) ∙ listing-read
 
 -- what stands in the text stands in the output; where there is room for every listing, all of it does
