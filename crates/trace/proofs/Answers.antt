@@ -6,7 +6,7 @@ use Prim.Native.Nat.{ℕ, ◌≤◌}
 use native.Mathlib.Omega.{arith}
 use lib.ListN.{length}
 use Rattle.lists.proofs.Tests.{never}
-use Rattle.incremental.specs.Decision.{Decision, accept, refuse, refusal, fault_of, check, ◌>>◌}
+use Rattle.incremental.specs.Decision.{Decision, accept, refuse, refusal, fault_of, check, ◌>>◌, decision_of}
 use Rattle.incremental.proofs.Decision.{check_at, check_nowhere}
 use Rattle.trace.specs.declared.Pass.{Pass}
 use Rattle.trace.specs.declared.Pass.TheVariants.{Astray, Shared, Clear}
@@ -20,7 +20,9 @@ use Rattle.trace.specs.Private.{ends, first_astray, first_shared, first_cyclic, 
 use Rattle.trace.specs.Private.{Passed, TableBuilt, CyclesAnswered, LinksAnswered}
 use Rattle.std.specs.Prelude.{Err, None, Ok, Option, Result, Some}
 use Rattle.incremental.specs.declared.Fault.{Fault}
-use Rattle.incremental.specs.Decision.{fault}
+use Rattle.std.specs.Result.{IsErrAnd}
+use Rattle.std.proofs.lemmas.Result.{err_from_is_err_and}
+use Rattle.sections.proofs.Cases.{places_met}
 
 told_astray : (f g : Option ℕ) (n i : ℕ) (b : Bool) → pass_of f g n b ≡ Astray i → f ≡ Some i
 told_astray (Some j) g n i b e = cc
@@ -94,15 +96,29 @@ answer_chains at s m n r buffer small t e q h =
     (record { answer = ap accept (t.counted ∙ sym (chains_are_ends s small t.sound t.once)); holds = h })
 
 -- the whole answer on a list of n next indexes: check 7 refuses, or the later checks decide
-module _ (at : ℕ → ℕ) (s : List ℕ) (n m : ℕ) (e : length s ≡ n) (r : Option Fault) (buffer : List ℕ) (q : r ≡ places_fault m n) where
-  pub answer_few : (i k : ℕ) (x : Refusal) → r ≡ Some (fault i k) → x ≡ refusal 7 i k → buffer ≡ filled m → LinkListAnswer at s m (Err x) buffer
-  unfolding trace_checks
-  answer_few i k x f w h =
-      let d : refuse x ≡ trace_checks at s m = check_at 7 i k _ r _ x (q ∙ ap (places_fault m) (sym e)) f w in
-      record { answer = d; holds = h ∙ ap (λ (x : Decision ℕ). held x s m) d }
+module _ (at : ℕ → ℕ) (s : List ℕ) (n m : ℕ) (e : length s ≡ n) (f : Option Fault) (buffer : List ℕ) (q : f ≡ places_fault m n) where
+  seven : (d : Decision Unit) → d ≡ check 7 f → check 7 (places_fault m (length s)) ≡ d
+  seven d w = ap (check 7) (ap (places_fault m) e ∙ sym q) ∙ sym w
 
-  pub answer_links : (a : Result ℕ Refusal) → r ≡ None → LinksAnswered at s m a buffer → LinkListAnswer at s m a buffer
+  -- `a` is what the function returns where the check's refusal leaves it by `?`
+  pub answer_few : (a : Result ℕ Refusal) (x : Refusal) → IsErrAnd a (λ y. y ≡ x) → refuse x ≡ check 7 f → buffer ≡ filled m → LinkListAnswer at s m a buffer
   unfolding trace_checks
-  answer_links a f h =
-      let d : link_checks at s ≡ trace_checks at s m = check_nowhere 7 _ r _ _ (q ∙ ap (places_fault m) (sym e)) f refl in
-      record { answer = h.answer ∙ d; holds = h.holds ∙ ap (λ (x : Decision ℕ). held x s m) d }
+  answer_few a x i w h =
+      let p = err_from_is_err_and a i in
+      let d : decision_of a ≡ trace_checks at s m =
+      ap decision_of (p.1 ∙ ap Err p.2) ∙ sym (ap (λ (c : Decision Unit). c >> link_checks at s) (seven (refuse x) w)) in
+      record { answer = d; holds = h ∙ ap (λ (c : Decision ℕ). held c s m) (sym (ap decision_of (p.1 ∙ ap Err p.2)) ∙ d) }
+
+  pub answer_links : (a : Result ℕ Refusal) (t : Unit) → accept t ≡ check 7 f → LinksAnswered at s m a buffer → LinkListAnswer at s m a buffer
+  unfolding trace_checks
+  answer_links a t w h =
+      let d : link_checks at s ≡ trace_checks at s m = sym (ap (λ (c : Decision Unit). c >> link_checks at s) (seven (accept t) w)) in
+      record { answer = h.answer ∙ d; holds = h.holds ∙ ap (λ (c : Decision ℕ). held c s m) d }
+
+  -- a place for each entry
+  pub answer_room : (t : Unit) → accept t ≡ check 7 f → n ≤ m
+  answer_room t w = places_met _ _ f q (passed_none f w)
+    where
+      passed_none : (g : Option Fault) → accept t ≡ check 7 g → g ≡ None
+      passed_none (Some x) z = never cc
+      passed_none None z = refl

@@ -7,9 +7,9 @@ use Rattle.lists.specs.Table.{tabulate}
 use Rattle.lists.specs.Count.{any_below, count, pick}
 use Rattle.little_endian.specs.Number.{le}
 use Rattle.layout.specs.Head.{entry_offset}
-use Rattle.incremental.specs.Decision.{Decision, accept, refuse, fault_of, check, ◌>>◌}
+use Rattle.incremental.specs.Decision.{Decision, accept, refuse, fault_of, check, ◌>>◌, decision_of}
 use Rattle.sections.specs.Fields.{places_fault}
-use Rattle.std.specs.Prelude.{Err, Ok, Option, Result}
+use Rattle.std.specs.Prelude.{Option, Result}
 use Rattle.incremental.specs.declared.Fault.{Fault}
 use Rattle.incremental.specs.declared.Refusal.{Refusal}
 
@@ -75,11 +75,6 @@ predecessor s (suc i) j = pick (eqb (after s i) j) i (predecessor s i j)
 -- place after those of the entries the end
 unfoldable pub predecessors : List ℕ → ℕ → List ℕ
 predecessors s m = tabulate m (λ j. pick (ltb j (length s)) (predecessor s (length s) j) end)
-
--- what each case of the answer says
-abbrev pub decision_of : Result ℕ Refusal → Decision ℕ
-decision_of (Ok n) = accept n
-decision_of (Err r) = refuse r
 
 -- 11, 12, 13: the first such entry; `at` says where in the file each entry starts. The next index is its first field
 abbrev pub astray_fault : (ℕ → ℕ) → List ℕ → Option Fault
