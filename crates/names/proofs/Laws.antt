@@ -1,7 +1,7 @@
 -- Laws on the names of metrics entries: what each way through the code decides, and what a sound name is.
-use mathlib.Core.Path.{◌≡◌, sym, ap, ◌∙◌}
+use mathlib.Core.Path.{◌≡◌, refl, sym, ap, ◌∙◌}
 use mathlib.Core.Bool.{Bool, true, false, not, ◌||◌}
-use mathlib.Core.List.{List, [], ◌∷◌}
+use mathlib.Core.List.{List}
 use mathlib.Core.Logic.{◌↔◌}
 use Prim.Native.Nat.{ℕ, ◌+◌, ◌*◌, ◌-◌, ◌≤◌, ◌<◌}
 use native.Mathlib.Omega.{arith}
@@ -9,15 +9,17 @@ use lib.Dec.{eqb, ltb}
 use lib.ListN.{length, get_or}
 use borrow.Author.Tests.{leb-true, le-leb, ltb-true, ltb-false, eqb-true, eqb-false, eq-eqb, ne_eqb, not-true}
 use Rattle.lists.specs.Count.{any_below}
-use Rattle.lists.specs.First.{first, first_from}
+use Rattle.lists.specs.First.{first}
+use Rattle.lists.proofs.First.{first_is_at, first_is_nothing}
+use Rattle.incremental.specs.Decision.{fault_of}
+use Rattle.incremental.specs.declared.Fault.{Fault}
+use Rattle.incremental.proofs.Decision.{fault_hit, fault_none}
+use Rattle.std.specs.Prelude.{None, Option, Some}
 use Rattle.lists.proofs.Count.{any_yes, any_no, any_true, any_eight, any_false}
 use Rattle.lists.proofs.Tests.{by_test, never, both_true}
 use Rattle.little_endian.specs.Number.{le, zero_unit}
-use Rattle.little_endian.proofs.Number.{le_past}
-use Rattle.layout.specs.Versions.{metrics_entry, name_offset_at, name_length_at}
-use Rattle.layout.specs.declared.Layout.{Layout}
-use Rattle.names.specs.Names.{fits, sound, in_pairs, names_from, SoundName}
-use Rattle.names.specs.Private.{zero_in, sound_text}
+use Rattle.names.specs.Names.{fits, sound, SoundName}
+use Rattle.names.specs.Private.{zero_in, sound_text, FirstFault}
 
 -- One unit, by its bytes
 pub unit_zero : (s : List ℕ) (at : ℕ) → eqb (get_or s at 0 + 256 * get_or s (at + 1) 0) 0 ≡ zero_unit s at
@@ -32,9 +34,6 @@ pub text_end : (s : List ℕ) (at units : ℕ) → ((k : ℕ) → k < units → 
 text_end s at units f = rw (any_no (λ j. zero_unit s (at + 2 * j)) units f)
 
 -- A text, by a loop that takes eight units at a time
-pub text_start : (s : List ℕ) (at units : ℕ) → sound_text s (at + 2 * 0) (units - 0) ≡ sound_text s at units
-text_start s at units = let e : at + 2 * 0 ≡ at = omega arith in let f : units - 0 ≡ units = omega arith in rw (e, f)
-
 pub zero_in_eight : (s : List ℕ) (at : ℕ) {a b c d e f g h : Bool}
     → a ≡ zero_unit s at
     → b ≡ zero_unit s (at + 2)
@@ -95,26 +94,14 @@ pub le-fits : (size at units : ℕ) → at + 2 * units + 2 ≤ size → fits siz
 unfolding fits
 le-fits size at units h = le-leb _ _ h
 
--- Checks 9 and 10: the name of entry i, at f i and of g i units, fails a test on its offset and its length
-abbrev pub fails_at : (ℕ → ℕ → Bool) → (ℕ → ℕ) → (ℕ → ℕ) → ℕ → Bool
-fails_at test f g i = not (test (f i) (g i))
-
-pub fails_at_lem : (test : ℕ → ℕ → Bool) (f g : ℕ → ℕ) (i : ℕ) {at units : ℕ} {r : Bool}
-    → at ≡ f i → units ≡ g i → r ≡ test at units → fails_at test f g i ≡ not r
-fails_at_lem test f g i a u e = rw (← a, ← u, ← e)
-
--- with no metrics array the names are those of the pairs
-no_bytes : (at : ℕ) → le 4 [] at ≡ 0
-no_bytes at = le_past 4 [] at (omega arith)
-
-pub names_pairs : (l : Layout) (pairs : List ℕ) → names_from l [] pairs ≡ in_pairs pairs
-names_pairs l [] = λ k.
-    record { offset = λ i. no_bytes (i * metrics_entry l + name_offset_at l) k; units = λ i. no_bytes (i * metrics_entry l + name_length_at l) k }
-names_pairs l (x ∷ xs) = rw (ne_eqb (length (x ∷ xs)) 0 (λ e. absurd (omega arith)))
-
--- each of the first i entries passes: the first of all n that fails is the first from i on
-abbrev pub PassedTo : ℕ → (ℕ → Bool) → ℕ → Type 0
-PassedTo n fails i = (i ≤ n) × (first fails n ≡ first_from fails (n - i) i)
+-- Checks 9 and 10: a search for the first entry that a test fails, where the test says what `fails` is
+pub first_fault_is : (says : ℕ → Bool → Type 0) (fails : ℕ → Bool) (at : ℕ → ℕ) (n : ℕ) (r : Option Fault)
+    → FirstFault says at n r → ((i : ℕ) (b : Bool) → says i b → b ≡ fails i) → r ≡ fault_of at (first fails n)
+first_fault_is says fails at n None h told = fault_none at (first fails n) (first_is_nothing fails n (λ k l. sym (told k false (h.none refl k l))))
+first_fault_is says fails at n (Some f) h told =
+    let w = h.some f refl in
+    fault_hit at (first fails n) f.index f.offset
+    (first_is_at fails n f.index w.entry (sym (told _ true w.fails)) (λ k l. sym (told k false (w.before k l)))) w.place
 
 pub sound-fits : (s : List ℕ) (at units : ℕ) → sound s at units ≡ true → fits (length s) at units ≡ true
 sound-fits s at units e = by_test (fits (length s) at units) (λ q. q) (λ q. never (cc (name_past s at units q)))

@@ -1,8 +1,8 @@
 -- Checks 9 and 10 of document 01 on a metrics array and a strings section.
-use Rattle.std.specs.Prelude.{◌≡◌, Bool, not, ◌&&◌, List, ℕ, ◌+◌, ◌*◌, ◌≤◌, ◌<◌, leb, eqb, length}
+use Rattle.std.specs.Prelude.{◌≡◌, Bool, not, ◌&&◌, List, ℕ, ◌+◌, ◌*◌, ◌≤◌, ◌<◌, leb, length}
 use Rattle.lists.specs.First.{first}
 use Rattle.lists.specs.Pairs.{first_of, second_of}
-use Rattle.lists.specs.Count.{any_below, pick}
+use Rattle.lists.specs.Count.{any_below}
 use Rattle.little_endian.specs.Number.{le, zero_unit}
 use Rattle.layout.specs.Head.{entry_offset}
 use Rattle.layout.specs.Versions.{metrics_entry, name_offset_at, name_length_at}
@@ -28,10 +28,6 @@ in_metrics l metrics = record { offset = name_at l metrics; units = name_units l
 
 abbrev pub in_pairs : List ℕ → Named
 in_pairs pairs = record { offset = first_of pairs; units = second_of pairs }
-
--- where both are given: those of the pairs, or of the metrics array where the table of pairs is empty
-abbrev pub names_from : Layout → List ℕ → List ℕ → Named
-names_from l metrics pairs = pick (eqb (length pairs) 0) (in_metrics l metrics) (in_pairs pairs)
 
 -- where in the file the name-offset field of entry i of a metrics array stands: the field at fault of 9 and 10
 abbrev pub name_field_at : Layout → ℕ → ℕ → ℕ

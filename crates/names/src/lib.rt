@@ -3,13 +3,14 @@
 
 ghost use Rattle.std.specs.Prelude.{◌≡◌, ◌+◌, ◌*◌, ◌≤◌, length};
 ghost use Rattle.little_endian.specs.Number.{le, zero_unit};
-ghost use Rattle.names.specs.Names.{fits, sound, name_at, name_units, name_field_at, names_from, misfit_fault, unsound_fault};
-ghost use Rattle.names.specs.Private.{zero_in, sound_text};
+ghost use Rattle.names.specs.Names.{fits, sound, name_at, name_units, name_field_at, Named, in_metrics, in_pairs, misfit_fault, unsound_fault};
+ghost use Rattle.names.specs.Private.{zero_in, sound_text, FirstFault};
 
 use incremental::Fault;
 use layout::Layout;
 
 // Whether a name of so many units at an offset fits a strings section of that size, with its zero unit.
+#[tactic(auto, unfolding(crate::specs::Names::fits))]
 pub fn name_fits(size: usize, at: u32, units: u32) -> bool
     ensures { result ≡ fits size at units }
 {
@@ -17,6 +18,7 @@ pub fn name_fits(size: usize, at: u32, units: u32) -> bool
 }
 
 // Whether the unit at an offset is zero, with no test of the section's end.
+#[tactic(auto, using(crate::proofs::Laws::unit_zero))]
 fn zero_unit(strings: &[u8], at: usize) -> bool
     requires { at + 2 ≤ length strings.now }
     ensures { result ≡ zero_unit strings.now at }
@@ -68,13 +70,11 @@ fn text_sound(strings: &[u8], at: usize, units: usize) -> bool
 }
 
 // Whether the name fits the section, has no zero unit inside, and a zero unit directly after it.
+#[tactic(auto, using(crate::proofs::Laws::fits_le), unfolding(crate::specs::Names::sound))]
 pub fn name_sound(strings: &[u8], at: u32, units: u32) -> bool
     ensures { result ≡ sound strings.now at units }
 {
-    if !name_fits(strings.len(), at, units) {
-        return false;
-    }
-    text_sound(strings, at as usize, units as usize)
+    name_fits(strings.len(), at, units) && text_sound(strings, at as usize, units as usize)
 }
 
 // A field of metrics entry i, by the entry's size and the field's place in it.
@@ -98,24 +98,52 @@ pub fn name_units(metrics: &[u8], l: Layout, i: u32) -> u32
     entry_field(metrics, l.metrics_entry, l.name_length_at, i)
 }
 
-// The offset of the name of entry i: the first number of pair i, or where no pairs are given that of the metrics entry.
-fn offset_from(metrics: &[u8], pairs: &[u32], l: Layout, i: u32) -> u32
-    ensures { result ≡ (names_from l metrics.now pairs.now).offset i }
-{
-    if pairs.len() == 0 {
-        return name_at(metrics, l, i);
-    }
-    lists::number_at(pairs, 2 * (i as usize))
+// The names of entries: where in a strings section the name of entry i starts, and how many units long it is.
+pub trait Names {
+    ghost named: { Self → Named };
+
+    fn offset(&self, i: u32) -> u32
+        ensures { result ≡ (named self.now).offset i };
+
+    fn units(&self, i: u32) -> u32
+        ensures { result ≡ (named self.now).units i };
 }
 
-// The length of that name in units, which is a pair's second number.
-fn units_from(metrics: &[u8], pairs: &[u32], l: Layout, i: u32) -> u32
-    ensures { result ≡ (names_from l metrics.now pairs.now).units i }
-{
-    if pairs.len() == 0 {
-        return name_units(metrics, l, i);
+// Those in a file: the entries of a metrics array, by the layout of its version.
+#[derive(Clone, Copy)]
+pub struct Entries<'a> {
+    pub metrics: &'a [u8],
+    pub layout: Layout,
+}
+
+impl<'a> Names for Entries<'a> {
+    ghost named = { λ e. in_metrics e.layout e.metrics.now };
+
+    fn offset(&self, i: u32) -> u32 {
+        name_at(self.metrics, self.layout, i)
     }
-    lists::number_at(pairs, 2 * (i as usize) + 1)
+
+    fn units(&self, i: u32) -> u32 {
+        name_units(self.metrics, self.layout, i)
+    }
+}
+
+// Those that a description gives: a flat table of pairs, each of them an offset and a length.
+#[derive(Clone, Copy)]
+pub struct Pairs<'a> {
+    pub table: &'a [u32],
+}
+
+impl<'a> Names for Pairs<'a> {
+    ghost named = { λ p. in_pairs p.table.now };
+
+    fn offset(&self, i: u32) -> u32 {
+        lists::number_at(self.table, 2 * (i as usize))
+    }
+
+    fn units(&self, i: u32) -> u32 {
+        lists::number_at(self.table, 2 * (i as usize) + 1)
+    }
 }
 
 // Where in the file the name-offset field of entry i stands, in a metrics array that starts at `start`.
@@ -125,21 +153,13 @@ fn name_field_at(l: Layout, start: u32, i: u32) -> usize
     layout::entry_offset(start, l.metrics_entry, i) + l.name_offset_at as usize
 }
 
-// Check 9: the first entry whose name does not fit a strings section of that size. The metrics start at `start` in the file.
-pub fn misfit_fault(
-    metrics: &[u8],
-    pairs: &[u32],
-    l: Layout,
-    start: u32,
-    entries: u32,
-    size: usize,
-) -> Option<Fault>
-    ensures { result ≡ misfit_fault l start (names_from l metrics.now pairs.now) entries size }
+// The first of the entries that fails a test; its name-offset field is at fault.
+fn first_fault<F: Fn(u32) -> bool>(l: Layout, start: u32, entries: u32, fails: F) -> Option<Fault>
+    requires { F.IsAlwaysCallable fails }
+    ensures { FirstFault (F.post fails) (name_field_at l start) entries result }
 {
     for i in 0..entries {
-        let at = offset_from(metrics, pairs, l, i);
-        let units = units_from(metrics, pairs, l, i);
-        if !name_fits(size, at, units) {
+        if fails(i) {
             return Some(Fault {
                 index: i as usize,
                 offset: name_field_at(l, start, i),
@@ -149,26 +169,32 @@ pub fn misfit_fault(
     None
 }
 
+// Check 9: the first entry whose name does not fit a strings section of that size. The metrics start at `start` in the file.
+pub fn misfit_fault<N: Names>(
+    names: &N,
+    l: Layout,
+    start: u32,
+    entries: u32,
+    size: usize,
+) -> Option<Fault>
+    ensures { result ≡ misfit_fault l start (N.named names.now) entries size }
+{
+    first_fault(l, start, entries, |i| {
+        !name_fits(size, names.offset(i), names.units(i))
+    })
+}
+
 // Check 10: the first entry whose name is not sound.
-pub fn unsound_fault(
-    metrics: &[u8],
-    pairs: &[u32],
+pub fn unsound_fault<N: Names>(
+    names: &N,
     l: Layout,
     start: u32,
     entries: u32,
     strings: &[u8],
 ) -> Option<Fault>
-    ensures { result ≡ unsound_fault l start (names_from l metrics.now pairs.now) entries strings.now }
+    ensures { result ≡ unsound_fault l start (N.named names.now) entries strings.now }
 {
-    for i in 0..entries {
-        let at = offset_from(metrics, pairs, l, i);
-        let units = units_from(metrics, pairs, l, i);
-        if !name_sound(strings, at, units) {
-            return Some(Fault {
-                index: i as usize,
-                offset: name_field_at(l, start, i),
-            });
-        }
-    }
-    None
+    first_fault(l, start, entries, |i| {
+        !name_sound(strings, names.offset(i), names.units(i))
+    })
 }
