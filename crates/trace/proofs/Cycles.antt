@@ -13,8 +13,7 @@ use Rattle.lists.proofs.Count.{any_yes, any_no, any_true}
 use Rattle.lists.proofs.Tests.{by_test}
 use Rattle.lists.proofs.Pigeon.{pigeons}
 use Rattle.trace.specs.Links.{end, follow, cyclic, Cyclic}
-use Rattle.trace.specs.Private.{Reach}
-use Rattle.trace.proofs.Steps.{follow-add, follow-suc, follow-end, follow-times}
+use Rattle.trace.proofs.Steps.{Reach, follow-add, follow-suc, follow-end, follow-times}
 
 -- an entry from which the end is reached is on no cycle
 pub no_cycle : (s : List ℕ) (i a k : ℕ) → length s ≤ end → follow s a i ≡ end → follow s (suc k) i ≡ i → i ≡ end

@@ -14,9 +14,9 @@ use Rattle.lists.specs.Count.{count}
 use Rattle.lists.proofs.Tests.{by_test}
 use Rattle.lists.proofs.Count.{count-le, count_less}
 use Rattle.trace.specs.Links.{end, after, follow, cyclic, InRange}
-use Rattle.trace.proofs.Steps.{follow_one, follow-add, follow-suc}
+use Rattle.trace.proofs.Steps.{Reach, follow_one, follow-add, follow-suc}
 use Rattle.trace.proofs.Cycles.{cyclic_yes, cyclic_no}
-use Rattle.trace.specs.Private.{Distinct, Reach, Seen}
+use Rattle.trace.specs.Private.{Distinct}
 
 -- how many entries have no mark
 abbrev pub unmarked : List ℕ → List ℕ → ℕ
@@ -31,6 +31,13 @@ set_cases b j v m l =
 -- an entry marked in walk i names m
 abbrev pub FromMarked : List ℕ → List ℕ → ℕ → ℕ → Type 0
 FromMarked s b i m = (p : ℕ) × (p < length s) × (get_or b p 0 ≡ i) × (after s p ≡ m)
+
+-- before walk i: each mark is an earlier walk's, and from each marked entry the end is reached
+pub record Seen (s b : List ℕ) (i : ℕ) : Type 0 where
+  pub room : length s ≤ length b
+  pub known : (m : ℕ) → m < length s → (get_or b m 0 ≡ end) ⊎ (get_or b m 0 < i)
+  pub ends : (m : ℕ) → m < length s → get_or b m 0 < i → Reach s m end
+  pub below : (m : ℕ) → m < i → get_or b m 0 < i
 
 -- in walk i, at entry j
 pub record Walk (s b : List ℕ) (i j : ℕ) : Type 0 where

@@ -26,6 +26,10 @@ pub after-firsts : (pairs : List ℕ) (entries i : ℕ) → i < entries → afte
 unfolding firsts
 after-firsts pairs entries i l = get_or_tabulate entries (first_of pairs) i end l
 
+-- j is reached from i in one step or more
+abbrev pub Reach : List ℕ → ℕ → ℕ → Type 0
+Reach s i j = (k : ℕ) × (follow s (suc k) i ≡ j)
+
 pub follow_one : (s : List ℕ) (i : ℕ) → follow s 1 i ≡ after s i
 unfolding follow
 follow_one s i = refl

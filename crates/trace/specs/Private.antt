@@ -1,12 +1,12 @@
 -- What only private contracts need: what each check looks for and says, and what is known of the buffer on the way.
-use Rattle.std.specs.Prelude.{◌≡◌, Bool, true, List, ℕ, suc, ◌⊎◌, ◌<◌, ◌≤◌, min, length, get_or, set, eqb}
+use Rattle.std.specs.Prelude.{◌≡◌, Bool, true, List, ℕ, ◌<◌, ◌≤◌, min, length, get_or, set, eqb}
 use Rattle.std.specs.Prelude.{None, Option, Some, Result, Ok, Err, OnOk}
 use Rattle.lists.specs.Filled.{filled}
 use Rattle.lists.specs.First.{first}
 use Rattle.lists.specs.Count.{pick}
 use Rattle.incremental.specs.Decision.{refusal}
 use Rattle.incremental.specs.declared.Refusal.{Refusal}
-use Rattle.trace.specs.Links.{end, after, follow, InRange, astray, namers, shared, cyclic, chains, predecessors}
+use Rattle.trace.specs.Links.{end, after, InRange, astray, namers, shared, cyclic, chains, predecessors}
 use Rattle.trace.specs.declared.Broken.{Broken}
 use Rattle.trace.specs.declared.Broken.TheVariants.{Astray, Shared, Cyclic}
 use Rattle.trace.specs.declared.Pass.{Pass}
@@ -79,25 +79,6 @@ pub record Passed (s : List ℕ) (m : ℕ) (r : Result Pass Broken) (buffer : Li
   pub leads : forward ≡ true → Forward s
   pub small : length s ≤ end
   pub holds : InRange s → buffer ≡ predecessors s m
-
--- j is reached from i in one step or more
-abbrev pub Reach : List ℕ → ℕ → ℕ → Type 0
-Reach s i j = (k : ℕ) × (follow s (suc k) i ≡ j)
-
--- before walk i: each mark is an earlier walk's, and from each marked entry the end is reached
-pub record Seen (s b : List ℕ) (i : ℕ) : Type 0 where
-  pub room : length s ≤ length b
-  pub known : (m : ℕ) → m < length s → (get_or b m 0 ≡ end) ⊎ (get_or b m 0 < i)
-  pub ends : (m : ℕ) → m < length s → get_or b m 0 < i → Reach s m end
-  pub below : (m : ℕ) → m < i → get_or b m 0 < i
-
--- the same, and there is an entry i, and checks 11 and 12 have passed
-pub record Walkable (s b : List ℕ) (i : ℕ) : Type 0 where
-  pub seen : Seen s b i
-  pub entry : i < length s
-  pub small : length s ≤ end
-  pub sound : InRange s
-  pub distinct : Distinct s
 
 -- check 13, and checks 11 to 13, with a buffer of m places
 pub record CyclesAnswered (s : List ℕ) (m : ℕ) (r : Result Unit Broken) (buffer : List ℕ) : Type 0 where

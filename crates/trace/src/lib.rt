@@ -1,18 +1,19 @@
 // Checks 11 to 13 on a list of next indexes, the table of predecessors and the chain count.
 #![tactic(auto)]
 
-ghost use Rattle.std.specs.Prelude.{◌≡◌, ◌⊎◌, ◌+◌, ◌<◌, List, ℕ, length, MatchBool, true};
+ghost use Rattle.std.specs.Prelude.{◌≡◌, ◌⊎◌, ◌<◌, List, ℕ, length};
 ghost use Rattle.layout.specs.Head.{entry_offset};
 ghost use Rattle.incremental.specs.Decision.{refusal};
-ghost use Rattle.trace.specs.Links.{end, after, nexts, firsts, cyclic, predecessors, LinkListAnswer};
-ghost use Rattle.trace.specs.Private.{Distinct, first_cyclic, LinkedBuffer, FilledBuffer, Walkable, Seen, refusal_of};
+ghost use Rattle.trace.specs.Links.{end, after, nexts, firsts, predecessors, LinkListAnswer};
+ghost use Rattle.trace.specs.Private.{Distinct, first_cyclic, LinkedBuffer, FilledBuffer, refusal_of};
 ghost use Rattle.trace.specs.Private.{Stored, Passed, CyclesAnswered, LinksAnswered};
 
 use incremental::{Refusal, check};
 
 const END: u32 = 4294967295;
 
-// A list of next indexes: how many there are, and the one of each entry.
+// A list of next indexes: how many there are, and the one of each entry. It is passed by value, so that a loop that writes need not
+// read it again.
 pub trait Nexts: Copy + Drop {
     ghost indexes: { Self → List ℕ };
 
@@ -57,8 +58,14 @@ impl<'a> Nexts for Pairs<'a> {
         self.pairs
     }
 
+    // So many pairs begin in the table, which a loop asks once; past them the number is 0.
     fn next(&self, i: u32) -> u32 {
-        lists::number_at(self.table, 2 * (i as usize))
+        let i = i as usize;
+        if i < self.table.len().div_ceil(2) {
+            self.table[2 * i]
+        } else {
+            0
+        }
     }
 }
 
@@ -149,39 +156,31 @@ fn build_table<N: Nexts>(links: N, buffer: &mut [u32])
     let _ = store_predecessors(links, buffer);
 }
 
-// A walk from entry i, to an end or to an entry with a mark: whether it comes back to i. Each entry on it is marked with i. Since no
-// two entries name one, it meets no other entry of its own.
-fn comes_back<N: Nexts>(links: N, i: u32, marks: &mut [u32]) -> bool
-    requires { Walkable (N.indexes links) marks.old i }
-    ensures { MatchBool result (cyclic (N.indexes links) i ≡ true) (Seen (N.indexes links) marks.new (i + 1)) }
-{
-    let mut j = i;
-    while j != END {
-        let at = j as usize;
-        if marks[at] != END {
-            return false;
-        }
-        marks[at] = i;
-        j = links.next(j);
-        if j == i {
-            return true;
-        }
-    }
-    false
-}
-
-// Check 13: the smallest entry on a cycle. Each entry is walked over once: its place then holds the walk's first entry.
-fn find_cycle<N: Nexts>(links: N, buffer: &mut [u32]) -> Option<u32>
-    requires { LinkedBuffer (N.indexes links) buffer.old × Distinct (N.indexes links) }
+// Check 13: the smallest entry on a cycle. Each entry is walked over once: its place then holds the walk's first entry. A walk
+// that comes back to its own first entry has found the cycle; since no two entries name one, a walk meets no other entry of its own.
+// Two loops, left by label: document 01 names the form.
+fn first_cyclic<N: Nexts>(links: N, marks: &mut [u32]) -> Option<u32>
+    requires { LinkedBuffer (N.indexes links) marks.old × Distinct (N.indexes links) }
     ensures { result ≡ first_cyclic (N.indexes links) }
 {
-    lists::fill(buffer);
-    for i in 0..links.count() {
-        if comes_back(links, i, buffer) {
-            return Some(i);
+    lists::fill(marks);
+    let mut found = None;
+    'entries: for i in 0..links.count() {
+        let mut j = i;
+        while j != END {
+            let at = j as usize;
+            if marks[at] != END {
+                break;
+            }
+            marks[at] = i;
+            j = links.next(j);
+            if j == i {
+                found = Some(i);
+                break 'entries;
+            }
         }
     }
-    None
+    found
 }
 
 // Check 13, and the table of predecessors built again where it passes.
@@ -189,7 +188,7 @@ fn check_cycles<N: Nexts>(links: N, buffer: &mut [u32]) -> Result<(), Broken>
     requires { LinkedBuffer (N.indexes links) buffer.old × Distinct (N.indexes links) }
     ensures { CyclesAnswered (N.indexes links) (length buffer.old) result buffer.new }
 {
-    if let Some(i) = find_cycle(links, buffer) {
+    if let Some(i) = first_cyclic(links, buffer) {
         return Err(Broken::Cyclic(i));
     }
     build_table(links, buffer);
