@@ -69,12 +69,12 @@ eight-clear s at units h e =
         let v : at + 2 * k ≡ at + 16 + 2 * (k - 8) = omega (arith, ltb-false k 8 w) in
         ap (zero_unit s) v ∙ any_false (λ j. zero_unit s (at + 16 + 2 * j)) (units - 8) q (k - 8) (omega (arith, ltb-false k 8 w)))
 
-pub eight_again : (s : List ℕ) (at units k : ℕ) → k + 8 ≤ units → zero_in s (at + 2 * k) 8 ≡ false
-    → sound_text s (at + 2 * (k + 8)) (units - (k + 8)) ≡ sound_text s (at + 2 * k) (units - k)
-eight_again s at units k h e =
-    let a : at + 2 * (k + 8) ≡ at + 2 * k + 16 = omega arith in
-    let b : units - (k + 8) ≡ units - k - 8 = omega arith in
-    rw (a, b) (eight-clear s (at + 2 * k) (units - k) (omega arith) e)
+pub eight_again : (s : List ℕ) (at units e : ℕ) → 8 * e + 8 ≤ units → zero_in s (at + 16 * e) 8 ≡ false
+    → sound_text s (at + 16 * (e + 1)) (units - 8 * (e + 1)) ≡ sound_text s (at + 16 * e) (units - 8 * e)
+eight_again s at units e h z =
+    let a : at + 16 * (e + 1) ≡ at + 16 * e + 16 = omega arith in
+    let b : units - 8 * (e + 1) ≡ units - 8 * e - 8 = omega arith in
+    rw (a, b) (eight-clear s (at + 16 * e) (units - 8 * e) (omega arith) z)
 
 -- A name
 pub name_past : (s : List ℕ) (at units : ℕ) → fits (length s) at units ≡ false → false ≡ sound s at units

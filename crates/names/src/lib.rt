@@ -54,19 +54,18 @@ fn units_sound(strings: &[u8], at: usize, units: usize) -> bool
     zero_unit(strings, at + 2 * units)
 }
 
-// The same, eight units at a time while eight are left.
+// The same: first eight units at a time, then those that are left.
 fn text_sound(strings: &[u8], at: usize, units: usize) -> bool
     requires { at + 2 * units + 2 ≤ length strings.now }
     ensures { result ≡ sound_text strings.now at units }
 {
-    let mut k = 0;
-    while 8 <= units - k {
-        if zero_in_eight(strings, at + 2 * k) {
+    let eights = units / 8;
+    for e in 0..eights {
+        if zero_in_eight(strings, at + 16 * e) {
             return false;
         }
-        k += 8;
     }
-    units_sound(strings, at + 2 * k, units - k)
+    units_sound(strings, at + 16 * eights, units % 8)
 }
 
 // Whether the name fits the section, has no zero unit inside, and a zero unit directly after it.

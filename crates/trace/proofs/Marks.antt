@@ -1,5 +1,6 @@
 -- The search for the smallest entry on a cycle. A walk marks the entries that it meets with its first entry, in the buffer.
 use mathlib.Core.Path.{◌≡◌, refl, sym, ap, ◌∙◌}
+use mathlib.Core.Bool.{true, false}
 use mathlib.Core.List.{List}
 use mathlib.Core.Logic.{◌⊎◌, inl, inr, ⊎_elim}
 use Prim.Native.Nat.{ℕ, suc, ◌+◌, ◌≤◌, ◌<◌}
@@ -9,7 +10,6 @@ use lib.Dec.{eqb}
 use lib.ListN.{length, get_or, set, length-set, replicate, get_or-replicate, length-replicate}
 use lib.Seq.{get_or-set_same, get_or-set_other}
 use borrow.Author.Tests.{eq-eqb, ne_eqb, eqb-true, eqb-false}
-use Rattle.lists.proofs.First.{Least}
 use Rattle.lists.specs.Count.{count}
 use Rattle.lists.proofs.Tests.{by_test}
 use Rattle.lists.proofs.Count.{count-le, count_less}
@@ -61,13 +61,9 @@ module _ (s : List ℕ) (small : length s ≤ end) where
         below = λ m h. absurd (not-suc-le-zero h);
       }
 
-  pub seen_all : (b : List ℕ) (i : ℕ) → i ≡ length s → Seen s b i → Least (cyclic s) (length s) i
-  seen_all b i e w =
-      record {
-        most = omega arith;
-        below = λ k l. cyclic_no s k small (omega arith) (w.ends k (omega arith) (w.below k l));
-        here = λ h. absurd (omega arith);
-      }
+  -- no entry before walk i is on a cycle
+  pub seen_before : (b : List ℕ) (i : ℕ) → i ≤ length s → Seen s b i → (k : ℕ) → k < i → cyclic s k ≡ false
+  seen_before b i h w k l = cyclic_no s k small (omega arith) (w.ends k (omega arith) (w.below k l))
 
   pub walk_start : (b : List ℕ) (i : ℕ) → Seen s b i → i < length s → Walk s b i i
   unfolding follow
@@ -98,16 +94,12 @@ module _ (s : List ℕ) (small : length s ≤ end) where
         (ne_eqb _ _ (λ z. i≢end (sym (get_or-set_same b j i 0 in-range) ∙ z)))
         (λ k h n. ap (λ (v : ℕ). eqb v end) (sym (get_or-set_other b j k i 0 n)))
 
-    -- it is back at its first entry, which is on a cycle, and no smaller one is
-    pub walk_found : after s j ≡ i → Least (cyclic s) (length s) i
+    -- it is back at its first entry, which is on a cycle
+    pub walk_found : after s j ≡ i → cyclic s i ≡ true
     walk_found r =
         let f = w.from in
         let g = w.here in
-        record {
-          most = omega arith;
-          below = λ k h. cyclic_no s k small (omega arith) (w.ends k (omega arith) (w.below k h));
-          here = λ _. cyclic_yes s i f.0 (omega (arith, f.2, fewer)) (follow-suc s f.0 i j f.1 ∙ r);
-        }
+        cyclic_yes s i f.0 (omega (arith, f.2, fewer)) (follow-suc s f.0 i j f.1 ∙ r)
 
     -- or it goes on: to the end, or to an entry that this walk has not marked, since no two entries name one
     module _ (sound : InRange s) (distinct : Distinct s) (r : after s j ≡ i → ⊥) where

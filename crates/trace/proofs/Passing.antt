@@ -13,7 +13,7 @@ use Rattle.lists.proofs.First.{Least, first_is_at, first_is_nothing}
 use Rattle.lists.proofs.Count.{count-zero}
 use Rattle.lists.proofs.Tests.{never}
 use Rattle.lists.proofs.Table.{length-tabulate, get_or_tabulate}
-use Rattle.trace.specs.declared.Pass.TheVariants.{Astray, Shared, Clear}
+use Rattle.trace.specs.declared.Broken.TheVariants.{Astray, Shared}
 use Rattle.lists.specs.Filled.{filled}
 use Rattle.trace.specs.Links.{end, after, astray, namers, shared, predecessor, predecessors}
 use Rattle.trace.specs.Private.{first_astray, first_shared, Stored, Passed}
@@ -21,7 +21,7 @@ use Rattle.trace.proofs.Accepted.{astray_yes, astray_below, astray-end}
 use Rattle.trace.proofs.Forward.{LeadsOn, leads_none, leads_more}
 use Rattle.trace.proofs.Predecessors.{namers-same, namers_other}
 use Rattle.trace.proofs.Naming.{shared_by, place, table, table_none, table_end, table_more, least_none, least_end, least_more, none_more}
-use Rattle.std.specs.Prelude.{None}
+use Rattle.std.specs.Prelude.{None, Ok, Err}
 
 -- the buffer is the table of the first i entries, none of them astray, `least` is the smallest entry that two of them name, `ends`
 -- is how many of them end a chain, and where `forward` holds each of them names one above itself
@@ -54,14 +54,15 @@ module _ {s : List ℕ} {m : ℕ} {before : List ℕ} {least ends : ℕ} {forwar
   -- entry i, whose next index is `next`
   module _ (next : ℕ) (l : i < length s) (w : next ≡ after s i) where
     -- it is astray
-    pub passing_astray : (buffer : List ℕ) → (next ≡ end → ⊥) → length s ≤ next → Passed s m (Astray i) buffer
-    passing_astray buffer n h =
+    pub passing_astray : (buffer : List ℕ) → length s ≤ end → (next ≡ end → ⊥) → length s ≤ next → Passed s m (Err (Astray i)) buffer
+    passing_astray buffer small n h =
         let a : astray s i ≡ true = astray_yes s i (λ z. n (w ∙ z)) (omega arith) in
         let f : first_astray s ≡ _ = first_is_at (astray s) (length s) i l a v.clear in
         record {
           forward = false;
           found = rw f;
           leads = λ z. never cc;
+          small = small;
           holds = λ z. (⊎_elim (λ y. never (cc (astray-end s i y))) (λ y. never (cc (astray_below s i y))) (z i l));
         }
 
@@ -107,7 +108,7 @@ module _ {s : List ℕ} {m : ℕ} {before : List ℕ} {least ends : ℕ} {forwar
             }
 
   -- all entries are passed, and one is named twice, or none is
-  module _ (l : length s ≤ i) where
+  module _ (small : length s ≤ end) (l : length s ≤ i) where
     all : i ≡ length s
     all = omega (arith, v.most)
 
@@ -121,22 +122,24 @@ module _ {s : List ℕ} {m : ℕ} {before : List ℕ} {least ends : ℕ} {forwar
     of-all : Least (shared s) (length s) least
     of-all = rw all at v.smallest
 
-    pub passing_shared : least < length s → Passed s m (Shared least) before
+    pub passing_shared : least < length s → Passed s m (Err (Shared least)) before
     passing_shared h =
         let g : first_shared s ≡ _ = first_is_at (shared s) (length s) least h (of-all.here h) of-all.below in
         record {
           forward = false;
           found = rw (none-astray, g);
           leads = λ z. never cc;
+          small = small;
           holds = λ _. whole;
         }
 
-    pub passing_clear : length s ≤ least → Passed s m (Clear ends forward) before
+    pub passing_clear : length s ≤ least → Passed s m (Ok (record { ends = ends; forward = forward })) before
     passing_clear h =
         let g : first_shared s ≡ _ = first_is_nothing (shared s) (length s) (λ k q. of-all.below k (omega arith)) in
         record {
           forward = forward;
-          found = rw (none-astray, g) (ap (λ (k : ℕ). Clear k forward) (v.counted ∙ ap (λ (k : ℕ). namers s k end) all));
+          found = rw (none-astray, g) (ap (λ (k : ℕ). Ok (record { ends = k; forward = forward })) (v.counted ∙ ap (λ (k : ℕ). namers s k end) all));
           leads = λ z k q. v.leads z k (omega arith);
+          small = small;
           holds = λ _. whole;
         }

@@ -1,19 +1,14 @@
 -- Laws of the next indexes and of the steps along them.
 use mathlib.Core.Path.{◌≡◌, refl, ap, ◌∙◌}
-use mathlib.Core.List.{List, [], ◌∷◌}
+use mathlib.Core.List.{List}
 use Prim.Native.Nat.{ℕ, zero, suc, ◌+◌, ◌*◌, ◌≤◌, ◌<◌}
 use native.Mathlib.Nat.{zero-add, suc-add, suc-mul, zero-mul}
 use native.Mathlib.Omega.{arith}
-use lib.Dec.{eqb}
-use borrow.Author.Tests.{ne_eqb}
 use lib.ListN.{length, get_or-eq_default}
-use Rattle.lists.proofs.Tests.{by_test}
 use Rattle.lists.specs.Pairs.{first_of}
-use Rattle.lists.proofs.Table.{length-tabulate, get_or_tabulate, tabulate-same}
+use Rattle.lists.proofs.Table.{length-tabulate, get_or_tabulate}
 use Rattle.little_endian.specs.Number.{le}
-use Rattle.little_endian.proofs.Number.{le_past}
-use Rattle.trace.specs.Links.{end, nexts, firsts, nexts_from, after, follow}
-use Rattle.trace.specs.Private.{next_from}
+use Rattle.trace.specs.Links.{end, nexts, firsts, after, follow}
 
 pub length-nexts : (section : List ℕ) (size entries : ℕ) → length (nexts section size entries) ≡ entries
 unfolding nexts
@@ -30,22 +25,6 @@ length-firsts pairs entries = length-tabulate entries (first_of pairs)
 pub after-firsts : (pairs : List ℕ) (entries i : ℕ) → i < entries → after (firsts pairs entries) i ≡ first_of pairs i
 unfolding firsts
 after-firsts pairs entries i l = get_or_tabulate entries (first_of pairs) i end l
-
--- the next indexes from where they are given
-pub length_from : (section pairs : List ℕ) (size entries : ℕ) → length (nexts_from section pairs size entries) ≡ entries
-length_from section pairs size entries =
-    by_test (eqb (length pairs) 0) (λ q. rw q (length-nexts section size entries)) (λ q. rw q (length-firsts pairs entries))
-
-pub after_from : (section pairs : List ℕ) (size entries i : ℕ) → i < entries
-    → after (nexts_from section pairs size entries) i ≡ next_from section pairs size i
-after_from section pairs size entries i l =
-    by_test (eqb (length pairs) 0) (λ q. rw q (after-nexts section size entries i l)) (λ q. rw q (after-firsts pairs entries i l))
-
--- with no section they are the pairs'
-pub from_pairs : (pairs : List ℕ) (size entries : ℕ) → nexts_from [] pairs size entries ≡ firsts pairs entries
-unfolding nexts firsts
-from_pairs [] size entries = tabulate-same entries _ _ (λ i l. le_past 4 [] (i * size) (omega arith))
-from_pairs (x ∷ xs) size entries = rw (ne_eqb (length (x ∷ xs)) 0 (λ e. absurd (omega arith)))
 
 -- j is reached from i in one step or more
 abbrev pub Reach : List ℕ → ℕ → ℕ → Type 0

@@ -6,7 +6,6 @@ use Rattle.lists.specs.Pairs.{first_of}
 use Rattle.lists.specs.Table.{tabulate}
 use Rattle.lists.specs.Count.{any_below, count, pick}
 use Rattle.little_endian.specs.Number.{le}
-use Rattle.layout.specs.Head.{entry_offset}
 use Rattle.incremental.specs.Decision.{Decision, accept, refuse, fault_of, check, ◌>>◌, decision_of}
 use Rattle.sections.specs.Fields.{places_fault}
 use Rattle.std.specs.Prelude.{Option, Result}
@@ -24,10 +23,6 @@ nexts section size entries = tabulate entries (λ i. le 4 section (i * size))
 -- the next indexes in a flat table of so many pairs: the first number of each
 unfoldable pub firsts : List ℕ → ℕ → List ℕ
 firsts pairs entries = tabulate entries (λ i. first_of pairs i)
-
--- the next indexes where both are given: those of the pairs, or of the section where the table of pairs is empty
-abbrev pub nexts_from : List ℕ → List ℕ → ℕ → ℕ → List ℕ
-nexts_from section pairs size entries = pick (eqb (length pairs) 0) (nexts section size entries) (firsts pairs entries)
 
 -- the entry after entry i; outside the list, the end
 abbrev pub after : List ℕ → ℕ → ℕ
@@ -111,7 +106,3 @@ pub record LinkDecision (d : Decision ℕ) (s : List ℕ) (m : ℕ) (r : Result 
 -- the answer on a list of next indexes
 abbrev pub LinkListAnswer : (ℕ → ℕ) → List ℕ → ℕ → Result ℕ Refusal → List ℕ → Type 0
 LinkListAnswer at s m r buffer = LinkDecision (trace_checks at s m) s m r buffer
-
--- the answer on a section, or the pairs of one, that starts at `start` in the file
-abbrev pub LinkAnswer : List ℕ → List ℕ → ℕ → ℕ → ℕ → ℕ → Result ℕ Refusal → List ℕ → Type 0
-LinkAnswer section pairs start size entries m r buffer = LinkListAnswer (entry_offset start size) (nexts_from section pairs size entries) m r buffer

@@ -1,42 +1,107 @@
-// Checks 11 to 13 on the next indexes of a trace section, the table of predecessors and the chain count.
+// Checks 11 to 13 on a list of next indexes, the table of predecessors and the chain count.
 #![tactic(auto)]
 
-ghost use Rattle.std.specs.Prelude.{◌≡◌, true, ◌⊎◌, ◌<◌, length};
-ghost use Rattle.lists.specs.First.{found_below};
+ghost use Rattle.std.specs.Prelude.{◌≡◌, ◌⊎◌, ◌<◌, List, ℕ, length};
 ghost use Rattle.layout.specs.Head.{entry_offset};
 ghost use Rattle.incremental.specs.Decision.{refusal};
-ghost use Rattle.trace.specs.Links.{end, nexts_from, predecessors, LinkAnswer};
-ghost use Rattle.trace.specs.Private.{next_from, Distinct, Forward, first_cyclic, LinkedBuffer, FilledBuffer, FilledLinked};
-ghost use Rattle.trace.specs.Private.{TableBuilt, Stored, Passed, CyclesAnswered, LinksAnswered};
+ghost use Rattle.trace.specs.Links.{end, after, nexts, firsts, predecessors, LinkListAnswer};
+ghost use Rattle.trace.specs.Private.{Distinct, first_cyclic, LinkedBuffer, FilledBuffer, refusal_of};
+ghost use Rattle.trace.specs.Private.{Stored, Passed, CyclesAnswered, LinksAnswered};
 
 use incremental::{Refusal, check};
 
 const END: u32 = 4294967295;
 
-// What the pass for checks 11 and 12 finds: the first entry astray, the smallest entry that two entries name, or the number of
-// entries that end a chain and whether every next index is above its own.
+// A list of next indexes: how many there are, and the one of each entry. It is passed by value, so that a loop that writes need not
+// read it again.
+pub trait Nexts: Copy + Drop {
+    ghost indexes: { Self → List ℕ };
+
+    fn count(&self) -> u32
+        ensures { result ≡ length (indexes self.now) };
+
+    fn next(&self, i: u32) -> u32
+        ensures { i < length (indexes self.now) → result ≡ after (indexes self.now) i };
+}
+
+// Those in a file: the first field of each of so many entries of that size.
+#[derive(Clone, Copy)]
+pub struct Entries<'a> {
+    pub section: &'a [u8],
+    pub size: u16,
+    pub entries: u32,
+}
+
+impl<'a> Nexts for Entries<'a> {
+    ghost indexes = { λ e. nexts e.section.now e.size e.entries };
+
+    fn count(&self) -> u32 {
+        self.entries
+    }
+
+    fn next(&self, i: u32) -> u32 {
+        little_endian::u32_at(self.section, i as usize * (self.size as usize))
+    }
+}
+
+// Those that a description gives: the first number of each of so many pairs in a flat table.
+#[derive(Clone, Copy)]
+pub struct Pairs<'a> {
+    pub table: &'a [u32],
+    pub pairs: u32,
+}
+
+impl<'a> Nexts for Pairs<'a> {
+    ghost indexes = { λ p. firsts p.table.now p.pairs };
+
+    fn count(&self) -> u32 {
+        self.pairs
+    }
+
+    // So many pairs begin in the table, which a loop asks once; past them the number is 0.
+    fn next(&self, i: u32) -> u32 {
+        let i = i as usize;
+        if i < self.table.len().div_ceil(2) {
+            self.table[2 * i]
+        } else {
+            0
+        }
+    }
+}
+
+// What a check refuses: an entry astray, one that two entries name, one on a cycle.
 #[derive(Clone, Copy, Debug, PartialEq, Eq)]
-enum Pass {
+enum Broken {
     Astray(u32),
     Shared(u32),
-    Clear(usize, bool),
+    Cyclic(u32),
 }
 
-// The next index of entry i: the first number of pair i, or where no pairs are given that of a section of entries of that size.
-fn next_at(section: &[u8], pairs: &[u32], size: u16, i: u32) -> u32
-    ensures { result ≡ next_from section.now pairs.now size i }
-{
-    if pairs.len() == 0 {
-        return little_endian::u32_at(section, i as usize * (size as usize));
+impl Broken {
+    // As a refusal, where the entries start at `start` in the file.
+    fn refusal(self, start: u32, size: u16) -> Refusal
+        ensures { result ≡ refusal_of (entry_offset start size) self }
+    {
+        match self {
+            Broken::Astray(i) => refused(11, start, size, i),
+            Broken::Shared(i) => refused(12, start, size, i),
+            Broken::Cyclic(i) => refused(13, start, size, i),
+        }
     }
-    lists::number_at(pairs, 2 * (i as usize))
 }
 
-// What a search over the entries found that stopped at entry i, or after the last entry.
-fn found_below(entries: u32, i: u32) -> Option<usize>
-    ensures { result ≡ found_below entries i }
+// The refusal of a check at entry i, of entries of that size from `start`.
+fn refused(number: u32, start: u32, size: u16, i: u32) -> Refusal
+    ensures { result ≡ refusal number i (entry_offset start size i) }
 {
-    if i < entries { Some(i as usize) } else { None }
+    incremental::refuse(number, i as usize, layout::entry_offset(start, size, i))
+}
+
+// What the pass for checks 11 and 12 counts: the entries that end a chain, and whether every next index is above its own.
+#[derive(Clone, Copy, Debug, PartialEq, Eq)]
+struct Pass {
+    ends: usize,
+    forward: bool,
 }
 
 // Entry i names `next`, whose place comes to hold i, or ends a chain. `least` is the smallest entry that was named twice so far.
@@ -56,63 +121,51 @@ fn store_predecessor(buffer: &mut [u32], i: u32, next: u32, least: u32) -> u32
     next.min(least)
 }
 
-// Checks 11 and 12: the first entry astray, or else the smallest entry that two entries name, or else the number of entries that
-// end a chain and whether every next index is above its own. All in one pass, since a large section has to come from memory each
-// time. A filled buffer becomes the table of predecessors where no entry is astray.
-fn store_predecessors(
-    section: &[u8],
-    pairs: &[u32],
-    size: u16,
-    entries: u32,
-    buffer: &mut [u32],
-) -> Pass
-    requires { FilledBuffer (nexts_from section.now pairs.now size entries) buffer.old }
-    ensures { Passed (nexts_from section.now pairs.now size entries) (length buffer.old) result buffer.new }
+// Checks 11 and 12: the first entry astray, or else the smallest entry that two entries name. All in one pass, since a large
+// section has to come from memory each time. A filled buffer becomes the table of predecessors where no entry is astray.
+fn store_predecessors<N: Nexts>(links: N, buffer: &mut [u32]) -> Result<Pass, Broken>
+    requires { FilledBuffer (N.indexes links) buffer.old }
+    ensures { Passed (N.indexes links) (length buffer.old) result buffer.new }
 {
+    let entries = links.count();
     let mut least = entries;
     let mut ends: usize = 0;
     let mut forward = true;
     for i in 0..entries {
-        let next = next_at(section, pairs, size, i);
+        let next = links.next(i);
         if next == END {
             ends += 1;
-        } else {
-            if entries <= next {
-                return Pass::Astray(i);
-            }
+        } else if entries <= next {
+            return Err(Broken::Astray(i));
         }
         least = store_predecessor(buffer, i, next, least);
         forward = forward & (i < next);
     }
     if least < entries {
-        return Pass::Shared(least);
+        return Err(Broken::Shared(least));
     }
-    Pass::Clear(ends, forward)
+    Ok(Pass { ends, forward })
 }
 
 // The table of predecessors, whatever the buffer held.
-fn build_table(section: &[u8], pairs: &[u32], size: u16, entries: u32, buffer: &mut [u32])
-    requires { LinkedBuffer (nexts_from section.now pairs.now size entries) buffer.old }
-    ensures { buffer.new ≡ predecessors (nexts_from section.now pairs.now size entries) (length buffer.old) }
+fn build_table<N: Nexts>(links: N, buffer: &mut [u32])
+    requires { LinkedBuffer (N.indexes links) buffer.old }
+    ensures { buffer.new ≡ predecessors (N.indexes links) (length buffer.old) }
 {
     lists::fill(buffer);
-    store_predecessors(section, pairs, size, entries, buffer);
+    let _ = store_predecessors(links, buffer);
 }
 
 // Check 13: the smallest entry on a cycle. Each entry is walked over once: its place then holds the walk's first entry. A walk
 // that comes back to its own first entry has found the cycle; since no two entries name one, a walk meets no other entry of its own.
-fn first_cyclic(
-    section: &[u8],
-    pairs: &[u32],
-    size: u16,
-    entries: u32,
-    marks: &mut [u32],
-) -> Option<usize>
-    requires { FilledLinked (nexts_from section.now pairs.now size entries) marks.old × Distinct (nexts_from section.now pairs.now size entries) }
-    ensures { result ≡ first_cyclic (nexts_from section.now pairs.now size entries) }
+// Two loops, left by label: document 01 names the form.
+fn first_cyclic<N: Nexts>(links: N, marks: &mut [u32]) -> Option<u32>
+    requires { LinkedBuffer (N.indexes links) marks.old × Distinct (N.indexes links) }
+    ensures { result ≡ first_cyclic (N.indexes links) }
 {
-    let mut i = 0;
-    'entries: while i < entries {
+    lists::fill(marks);
+    let mut found = None;
+    'entries: for i in 0..links.count() {
         let mut j = i;
         while j != END {
             let at = j as usize;
@@ -120,128 +173,60 @@ fn first_cyclic(
                 break;
             }
             marks[at] = i;
-            j = next_at(section, pairs, size, j);
+            j = links.next(j);
             if j == i {
+                found = Some(i);
                 break 'entries;
             }
         }
-        i += 1;
     }
-    found_below(entries, i)
+    found
 }
 
-// The same, whatever the buffer held.
-fn find_cycle(
-    section: &[u8],
-    pairs: &[u32],
-    size: u16,
-    entries: u32,
-    buffer: &mut [u32],
-) -> Option<usize>
-    requires { LinkedBuffer (nexts_from section.now pairs.now size entries) buffer.old × Distinct (nexts_from section.now pairs.now size entries) }
-    ensures { result ≡ first_cyclic (nexts_from section.now pairs.now size entries) }
+// Check 13, and the table of predecessors built again where it passes.
+fn check_cycles<N: Nexts>(links: N, buffer: &mut [u32]) -> Result<(), Broken>
+    requires { LinkedBuffer (N.indexes links) buffer.old × Distinct (N.indexes links) }
+    ensures { CyclesAnswered (N.indexes links) (length buffer.old) result buffer.new }
 {
-    lists::fill(buffer);
-    first_cyclic(section, pairs, size, entries, buffer)
+    if let Some(i) = first_cyclic(links, buffer) {
+        return Err(Broken::Cyclic(i));
+    }
+    build_table(links, buffer);
+    Ok(())
 }
 
-// The refusal of a check at entry i, of entries of that size from `start`.
-fn refused(number: u32, start: u32, size: u16, i: u32) -> Result<usize, Refusal>
-    ensures { result ≡ Err (refusal number i (entry_offset start size i)) }
+// Checks 11 to 13 with a filled buffer, and the chain count. Where every next index is above its own, as in the files that Windows
+// writes, no entry is on a cycle: no walk is needed, and the table stands as it is.
+fn check_entries<N: Nexts>(links: N, buffer: &mut [u32]) -> Result<usize, Broken>
+    requires { FilledBuffer (N.indexes links) buffer.old }
+    ensures { LinksAnswered (N.indexes links) (length buffer.old) result buffer.new }
 {
-    Err(incremental::refuse(number, i as usize, layout::entry_offset(start, size, i)))
+    let pass = store_predecessors(links, buffer)?;
+    if pass.forward {
+        return Ok(pass.ends);
+    }
+    check_cycles(links, buffer)?;
+    Ok(pass.ends)
 }
 
-// Check 13, and the table of predecessors built again where it passes. `ends` is the number of entries that end a chain.
-fn check_cycles(
-    section: &[u8],
-    pairs: &[u32],
+// Check 7, then checks 11 to 13 on entries of that size, which start at `start` in the file, and the chain count. Where all pass, the
+// buffer becomes the table of predecessors, and else every place of it holds END.
+pub fn check_links<N: Nexts>(
+    links: N,
     start: u32,
     size: u16,
-    entries: u32,
-    ends: usize,
-    buffer: &mut [u32],
-) -> Result<usize, Refusal>
-    requires { TableBuilt (nexts_from section.now pairs.now size entries) ends buffer.old }
-    ensures { CyclesAnswered (entry_offset start size) (nexts_from section.now pairs.now size entries) (length buffer.old) result
-        buffer.new }
-{
-    let found = find_cycle(section, pairs, size, entries, buffer);
-    if let Some(i) = found {
-        lists::fill(buffer);
-        return refused(13, start, size, i as u32);
-    }
-    build_table(section, pairs, size, entries, buffer);
-    Ok(ends)
-}
-
-// Check 13. Where every next index is above its own, as in the files that Windows writes, no entry is on a cycle: no walk is
-// needed, and the table stands as it is.
-fn check_order(
-    section: &[u8],
-    pairs: &[u32],
-    start: u32,
-    size: u16,
-    entries: u32,
-    ends: usize,
-    forward: bool,
-    buffer: &mut [u32],
-) -> Result<usize, Refusal>
-    requires { TableBuilt (nexts_from section.now pairs.now size entries) ends buffer.old
-        × (forward ≡ true → Forward (nexts_from section.now pairs.now size entries)) }
-    ensures { CyclesAnswered (entry_offset start size) (nexts_from section.now pairs.now size entries) (length buffer.old) result
-        buffer.new }
-{
-    if forward {
-        return Ok(ends);
-    }
-    check_cycles(section, pairs, start, size, entries, ends, buffer)
-}
-
-// Checks 11 to 13 with a filled buffer.
-fn check_entries(
-    section: &[u8],
-    pairs: &[u32],
-    start: u32,
-    size: u16,
-    entries: u32,
-    buffer: &mut [u32],
-) -> Result<usize, Refusal>
-    requires { FilledBuffer (nexts_from section.now pairs.now size entries) buffer.old }
-    ensures { LinksAnswered (entry_offset start size) (nexts_from section.now pairs.now size entries) (length buffer.old) result
-        buffer.new }
-{
-    let pass = store_predecessors(section, pairs, size, entries, buffer);
-    match pass {
-        Pass::Astray(i) => {
-            lists::fill(buffer);
-            refused(11, start, size, i)
-        }
-        Pass::Shared(i) => {
-            lists::fill(buffer);
-            refused(12, start, size, i)
-        }
-        Pass::Clear(ends, forward) => check_order(
-            section, pairs, start, size, entries, ends, forward, buffer,
-        ),
-    }
-}
-
-// Check 7, then checks 11 to 13 on the first `entries` entries of a section that starts at `start` in the file. Where all pass, the buffer becomes the table of
-// predecessors, and else every place of it holds END.
-pub fn check_links(
-    section: &[u8],
-    pairs: &[u32],
-    start: u32,
-    size: u16,
-    entries: u32,
     predecessors: &mut [u32],
 ) -> Result<usize, Refusal>
-    ensures { LinkAnswer section.now pairs.now start size entries (length predecessors.old) result
-        predecessors.new }
+    ensures { LinkListAnswer (entry_offset start size) (N.indexes links) (length predecessors.old) result predecessors.new }
 {
     let places = predecessors.len();
     lists::fill(predecessors);
-    check(7, sections::places_fault(places, entries))?;
-    check_entries(section, pairs, start, size, entries, predecessors)
+    check(7, sections::places_fault(places, links.count()))?;
+    match check_entries(links, predecessors) {
+        Ok(chains) => Ok(chains),
+        Err(broken) => {
+            lists::fill(predecessors);
+            Err(broken.refusal(start, size))
+        }
+    }
 }

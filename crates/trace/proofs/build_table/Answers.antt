@@ -3,15 +3,15 @@ use mathlib.Core.Path.{◌≡◌, sym, ◌∙◌, ap}
 use native.Mathlib.Omega.{arith}
 use lib.ListN.{length}
 use Rattle.lists.specs.Filled.{filled}
-use Rattle.trace.specs.Links.{nexts_from, predecessors}
+use Rattle.trace.specs.Links.{predecessors}
 use Rattle.trace.proofs.build_table.Goals as goal
 
 pub store_predecessors-requires : goal.store_predecessors-requires
-store_predecessors-requires c = let f = c.fill in
+store_predecessors-requires g c =
+    let f = c.fill in
     let e : length f.new.places ≡ length c.args.buffer.now = f.auto.places in
     record { room = omega (arith, e, c.requires.room); clear = f.ensures ∙ ap filled (sym e) }
 
 pub returns : goal.returns
-returns c =
-    let s = nexts_from c.args.section.now c.args.pairs.now c.args.size c.args.entries in
-    c.store_predecessors.ensures.holds c.requires.sound ∙ ap (predecessors s) c.fill.auto.places
+returns g c =
+    c.store_predecessors.ensures.holds c.requires.sound ∙ ap (predecessors (g.N.Nexts.indexes c.args.links)) c.fill.auto.places
