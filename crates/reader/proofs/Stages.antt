@@ -1,6 +1,6 @@
 -- The stages from check 7 on, by what the calls in their code gave: each way out of a stage is a run of its plan.
 use mathlib.Core.Path.{◌≡◌, refl, sym, ap, ◌∙◌}
-use mathlib.Core.List.{List, []}
+use mathlib.Core.List.{List}
 use Prim.Native.Nat.{ℕ, ◌*◌, ◌≤◌, ◌<◌}
 use native.Mathlib.Decide.{ℕ_discrete}
 use native.Mathlib.Nat.{zero-mul}
@@ -22,7 +22,7 @@ use Rattle.head.proofs.Rules.{part_length}
 use Rattle.head.proofs.Facts.{open_shapes}
 use Rattle.head.specs.declared.checks.Opening.{Opening}
 use Rattle.names.specs.Names.{in_metrics, misfit_fault, unsound_fault}
-use Rattle.trace.specs.Links.{nexts, astray_fault, shared_fault, cyclic_fault, link_checks, chains, predecessors, LinkAnswer, held}
+use Rattle.trace.specs.Links.{nexts, astray_fault, shared_fault, cyclic_fault, link_checks, chains, predecessors, LinkListAnswer, held}
 use Rattle.trace.proofs.Accepted.{trace_room}
 use Rattle.trace.proofs.Steps.{length-nexts}
 use Rattle.volumes.specs.Volumes.{volumes_from, volumes_checks}
@@ -142,7 +142,7 @@ module _ (o : Opening) (p : List ℕ) (m k : ℕ) (required : k ≡ trace_requir
     s = nexts a (trace_entry o.layout) n
 
     abbrev Answered : Result ℕ Refusal → Type 0
-    Answered r = LinkAnswer a [] o.head.trace.at (trace_entry o.layout) n m r buffer
+    Answered r = LinkListAnswer (link_at o) s m r buffer
 
     links_decide : (r : Result ℕ Refusal) → Answered r → link_checks (link_at o) s ≡ decision_of r
     links_decide r w = sym (w.answer ∙ trace_room (link_at o) s m (rw (length-nexts a (trace_entry o.layout) n, count) room))

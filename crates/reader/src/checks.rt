@@ -14,9 +14,6 @@ use head::Opening;
 use incremental::{Refusal, Stop, check, reach};
 use names::Entries;
 
-// A file has entries and no table of pairs.
-const NO_PAIRS: [u32; 0] = [];
-
 // Checks 7 and 8, with so many places in the working buffer.
 fn check_counts(file: &[u8], o: Opening, places: usize) -> Result<(), Stop>
     ensures { answer_of result ≡ run (counts_plan places o) file.now }
@@ -97,18 +94,15 @@ fn check_trace(file: &[u8], o: Opening, predecessors: &mut [u32]) -> Result<usiz
     requires { link_count o.layout o.head ≤ length predecessors.old }
     ensures { TraceAnswer (run (trace_plan o) file.now) (length predecessors.old) result predecessors.new }
 {
-    let layout = o.layout;
+    let size = o.layout.trace_entry;
     let section = o.head.trace;
     let entries = sections::part_of(reach(file, trace_required(o))?, section);
-    let count = sections::link_count(layout, o.head);
-    let chains = trace::check_links(
-        entries,
-        &NO_PAIRS,
-        section.at,
-        layout.trace_entry,
-        count,
-        predecessors,
-    )?;
+    let nexts = trace::Entries {
+        section: entries,
+        size,
+        entries: sections::link_count(o.layout, o.head),
+    };
+    let chains = trace::check_links(nexts, section.at, size, predecessors)?;
     Ok(chains)
 }
 

@@ -11,8 +11,8 @@ returns-in_err-reach c =
 pub returns-in_err-chains : goal.returns-in_err-chains
 returns-in_err-chains c =
     trace_exit _ _ _ _ _ _ c.from_residual-in_err-chains.ensures.1 refl
-    (trace_refused c.args.o _ _ _ c.trace_required.ensures _ c.in_ok-reach.ensures.0 c.in_ok-reach.ensures.1 _ c.part_of-entries.ensures.contents _ c.link_count-count.ensures c.requires _ _ c.in_err-chains.ensures)
+    (trace_refused c.args.o _ _ _ c.trace_required.ensures _ c.in_ok-reach.ensures.0 c.in_ok-reach.ensures.1 _ c.part_of-entries.ensures.contents _ c.link_count.ensures c.requires _ _ c.in_err-chains.ensures)
 
 pub returns : goal.returns
 returns c =
-    trace_passed c.args.o _ _ _ c.trace_required.ensures _ c.in_ok-reach.ensures.0 c.in_ok-reach.ensures.1 _ c.part_of-entries.ensures.contents _ c.link_count-count.ensures c.requires _ _ c.in_ok-chains.ensures
+    trace_passed c.args.o _ _ _ c.trace_required.ensures _ c.in_ok-reach.ensures.0 c.in_ok-reach.ensures.1 _ c.part_of-entries.ensures.contents _ c.link_count.ensures c.requires _ _ c.in_ok-chains.ensures
