@@ -1,5 +1,5 @@
 -- Laws of the path hashes.
-use Rattle.std.proofs.Common.{◌≡◌, ℕ, zero, suc, ◌+◌, ◌-◌, ◌*◌, ◌/◌, ◌%◌, ◌^◌, ◌<◌, ◌≤◌, ltb, List, [], ◌∷◌, ◌++◌, length, fold, get_or, take, drop, map, sym, refl, ap, ◌∙◌, mod-lt, add-one, arith, lit<, drop-cons, ltb-true, get_or-take}
+use Rattle.std.proofs.Common.{◌≡◌, ℕ, zero, suc, ◌+◌, ◌-◌, ◌*◌, ◌/◌, ◌%◌, ◌^◌, ◌<◌, ◌≤◌, ltb, List, [], ◌∷◌, ◌++◌, length, fold, get_or, take, drop, map, sym, refl, ap, ◌∙◌, mul_comm, mod-lt, add-one, arith, lit<, drop-cons, ltb-true, get_or-take}
 use Rattle.std.proofs.lemmas.List.{length-map, drop-map}
 use native.Mathlib.Nat.{add-mul-mod_self_right, mod-add-mod}
 use Rattle.lists.proofs.Tests.{by_test}
@@ -103,6 +103,6 @@ unfolding hash2008
 vista_2008 s = sym (eights-plain (length s) 314159 s)
 
 -- a wrapping subtraction of reduced numbers is the definition's
-pub wrapped : (a b : ℕ) → (a % 2 ^ 32 + (2 ^ 32 - b % 2 ^ 32)) % 2 ^ 32 ≡ wrap_sub a b
+pub wrapped : (a h m : ℕ) → (a % 2 ^ 32 + (2 ^ 32 - h * m % 2 ^ 32)) % 2 ^ 32 ≡ wrap_sub a (m * h)
 unfolding wrap_sub
-wrapped a b = mod-add-mod a (2 ^ 32) (2 ^ 32 - b % 2 ^ 32)
+wrapped a h m = rw (mul_comm m h) (mod-add-mod a (2 ^ 32) (2 ^ 32 - h * m % 2 ^ 32))

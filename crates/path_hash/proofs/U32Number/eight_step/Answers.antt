@@ -1,5 +1,5 @@
 -- The sum stays below 2^64 and is reduced to 32 bits, and subtraction wraps as in the definition.
-use Rattle.std.proofs.Common.{List, ℕ, sym, ap, ◌∙◌, mul_comm}
+use Rattle.std.proofs.Common.{List, ℕ, sym, ap, ◌∙◌}
 use Rattle.std.proofs.lemmas.List.{map-id}
 use Rattle.path_hash.specs.Hash.{eight_at, eight, eight_sum}
 use Rattle.path_hash.proofs.Laws.{eight_first, wrapped}
@@ -10,7 +10,7 @@ unfolding eight eight_sum
 returns-clause-step c =
     let s = c.args.numbers.now in
     let t = c.in_ok-eight.eight.now in (
-      rw (mul_comm c.args.h 803794207) (wrapped _ _)
+      wrapped _ c.args.h _
           ∙ eight_first s t c.args.h c.in_ok-eight.ensures.cases.0
           ∙ ap (λ (u : List ℕ). eight_at c.args.h u 0) (sym (map-id s)),
       c.in_ok-eight.ensures.cases.1,
