@@ -82,7 +82,8 @@ pub fn u48_at(s: &[u8], at: usize) -> u64
     u32_at(s, at) as u64 + 4294967296 * (u16_at(s, at + 4) as u64)
 }
 
-// A loop over the bytes asks how many are left, and then neither test is made.
+// A loop over the bytes asks how many are left, and then neither test is made, where the call is inlined.
+#[inline]
 pub fn u64_at(s: &[u8], at: usize) -> u64
     ensures { result ≡ le 8 s.now at }
 {
