@@ -8,9 +8,9 @@ use Rattle.year.specs.declared.YearRefusal.{YearRefusal}
 use Rattle.year.specs.Year.{refused_by}
 use Rattle.hivesaddle.specs.declared.replies.Reply.{Reply}
 
--- its number and its first values
-abbrev pub said_by : Reply → Said
-said_by r = record { number = r.number; values = take r.count r.values }
+-- its number and its values
+abbrev pub said_by : {N : ℕ} → Reply N → Said
+said_by r = record { number = r.number; values = r.values }
 
 abbrev pub saying : ℕ → List ℕ → Said
 saying number values = record { number = number; values = values }

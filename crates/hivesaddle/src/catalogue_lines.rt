@@ -4,29 +4,28 @@ ghost use Rattle.catalogue.specs.Line.{reading, read_answer};
 ghost use Rattle.hivesaddle.specs.Output.{Answered, line_values, line_said, fields_of, LineWriting};
 ghost use Rattle.hivesaddle.specs.Private.{said_by, saying};
 
-use crate::replies::{Reply, put_reply};
+use crate::replies::{Reply, put_reply, reply};
 use catalogue::{Fields, NoLine};
 
 // The refusal of bytes that are no line.
 const NO_LINE: u32 = 18;
 
 // A line's fields in the order of the output.
-fn fields_reply(number: u32, f: Fields) -> Reply
+fn fields_reply(number: u32, f: Fields) -> Reply<4>
     ensures { said_by result ≡ saying number (line_values f) }
 {
-    let mut values = [0; 22];
-    values[0] = f.size as u64;
-    values[1] = f.hash as u64;
-    values[2] = f.runs as u64;
-    values[3] = f.version as u64;
-    Reply {
-        number: number,
-        count: 4,
-        values: values,
-    }
+    reply(
+        number,
+        [
+            f.size as u64,
+            f.hash as u64,
+            f.runs as u64,
+            f.version as u64,
+        ],
+    )
 }
 
-fn line_reply(answer: Result<Fields, NoLine>) -> Reply
+fn line_reply(answer: Result<Fields, NoLine>) -> Reply<4>
     ensures { said_by result ≡ line_said (read_answer answer) }
 {
     match answer {
@@ -55,10 +54,10 @@ pub fn hs_catalogue_write(size: u32, hash: u32, runs: u32, version: u32, output:
     ensures { LineWriting (fields_of size hash runs version) output.old result output.new }
 {
     let fields = Fields {
-        size: size,
-        hash: hash,
-        runs: runs,
-        version: version,
+        size,
+        hash,
+        runs,
+        version,
     };
     match catalogue::write_line(fields, output) {
         Ok(()) => 0,

@@ -1,50 +1,56 @@
 // A file read, walked and written.
 ghost use Rattle.std.specs.Prelude.{◌≡◌, [], ◌∷◌};
-ghost use Rattle.reader.specs.Verdict.{values_of, no_record};
+ghost use Rattle.reader.specs.Verdict.{values_of, verdict_in, no_record};
 ghost use Rattle.walk.specs.Walk as walk;
 ghost use Rattle.writer.specs.LaidOut.{description};
 ghost use Rattle.hivesaddle.specs.Output.{verdict_said, PrefixOut, FileOut, walk_said, WalkOut, WriteOut};
 ghost use Rattle.hivesaddle.specs.Private.{said_by, saying, values_with};
 
-use crate::replies::{Reply, put_reply};
-use reader::{Acceptance, RunTimes, Verdict};
-use walk::WalkAnswer;
+use crate::replies::{Reply, put_reply, reply};
+use incremental::{Refusal, Stop};
+use reader::{Acceptance, RunTimes};
+use walk::Visits;
 use writer::Given;
 
 // The values of a verdict: a refusal's number, index and offset, or the bytes wanted, or a record; zeros for what it has not.
-fn reply_of(kind: u32, number: u32, index: usize, at: usize, wanted: usize, a: Acceptance) -> Reply
+fn reply_of(
+    kind: u32,
+    number: u32,
+    index: usize,
+    at: usize,
+    wanted: usize,
+    a: Acceptance,
+) -> Reply<22>
     ensures { said_by result ≡ verdict_said (values_with kind number index at wanted a) }
 {
     let t = a.times;
-    let values = [
-        number as u64,
-        index as u64,
-        wanted as u64,
-        a.version as u64,
-        a.declared_size as u64,
-        a.name_units as u64,
-        a.stored_hash as u64,
-        t.latest,
-        a.run_count as u64,
-        a.metrics_count as u64,
-        a.trace_count as u64,
-        a.volume_count as u64,
-        a.chain_count as u64,
-        at as u64,
-        t.count as u64,
-        t.second,
-        t.third,
-        t.fourth,
-        t.fifth,
-        t.sixth,
-        t.seventh,
-        t.eighth,
-    ];
-    Reply {
-        number: kind,
-        count: 22,
-        values: values,
-    }
+    reply(
+        kind,
+        [
+            number as u64,
+            index as u64,
+            wanted as u64,
+            a.version as u64,
+            a.declared_size as u64,
+            a.name_units as u64,
+            a.stored_hash as u64,
+            t.latest,
+            a.run_count as u64,
+            a.metrics_count as u64,
+            a.trace_count as u64,
+            a.volume_count as u64,
+            a.chain_count as u64,
+            at as u64,
+            t.count as u64,
+            t.second,
+            t.third,
+            t.fourth,
+            t.fifth,
+            t.sixth,
+            t.seventh,
+            t.eighth,
+        ],
+    )
 }
 
 // The record of an answer that is no acceptance.
@@ -76,13 +82,23 @@ fn no_record() -> Acceptance
     }
 }
 
-fn verdict_reply(v: Verdict) -> Reply
+fn verdict_reply(v: Result<Acceptance, Stop>) -> Reply<22>
     ensures { said_by result ≡ verdict_said (values_of v) }
 {
     match v {
-        Verdict::Accepted(a) => reply_of(0, 0, 0, 0, 0, a),
-        Verdict::Refused(r) => reply_of(1, r.number, r.index, r.offset, 0, no_record()),
-        Verdict::Wanted(k) => reply_of(2, 0, 0, 0, k, no_record()),
+        Ok(a) => reply_of(0, 0, 0, 0, 0, a),
+        Err(Stop::Refused(r)) => reply_of(1, r.number, r.index, r.offset, 0, no_record()),
+        Err(Stop::Wanted(k)) => reply_of(2, 0, 0, 0, k, no_record()),
+    }
+}
+
+// A verdict that makes no request.
+fn full_reply(v: Result<Acceptance, Refusal>) -> Reply<22>
+    ensures { said_by result ≡ verdict_said (values_of (verdict_in v)) }
+{
+    match v {
+        Ok(a) => verdict_reply(Ok(a)),
+        Err(r) => verdict_reply(Err(Stop::Refused(r))),
     }
 }
 
@@ -99,7 +115,7 @@ pub fn hs_read_file(file: &[u8], predecessors: &mut [u32], out: &mut [u64]) -> u
     ensures { FileOut file.now predecessors.old result predecessors.new out.old out.new }
 {
     let v = reader::read_file(file, predecessors);
-    put_reply(verdict_reply(v), out)
+    put_reply(full_reply(v), out)
 }
 
 // The writer of test files: 0 written, 1 refused; `out` as the readers'.
@@ -123,11 +139,11 @@ pub fn hs_write_file(
         output.new out.old out.new }
 {
     let given = Given {
-        version: version,
-        stored_hash: stored_hash,
-        run_time: run_time,
-        run_count: run_count,
-        volume_count: volume_count,
+        version,
+        stored_hash,
+        run_time,
+        run_count,
+        volume_count,
     };
     let v = writer::write_file(
         given,
@@ -139,39 +155,22 @@ pub fn hs_write_file(
         predecessors,
         output,
     );
-    put_reply(verdict_reply(v), out)
+    put_reply(full_reply(v), out)
 }
 
 // A refusal's number, index and offset, and a walk's steps and total; zeros for what the answer has not.
-fn steps_reply(kind: u32, number: u64, index: u64, offset: u64, steps: u64, total: u64) -> Reply
+fn steps_reply(kind: u32, number: u64, index: u64, offset: u64, steps: u64, total: u64) -> Reply<5>
     ensures { said_by result ≡ saying kind (number ∷ index ∷ offset ∷ steps ∷ total ∷ []) }
 {
-    let mut values = [0; 22];
-    values[0] = number;
-    values[1] = index;
-    values[2] = offset;
-    values[3] = steps;
-    values[4] = total;
-    Reply {
-        number: kind,
-        count: 5,
-        values: values,
-    }
+    reply(kind, [number, index, offset, steps, total])
 }
 
-fn walk_reply(answer: WalkAnswer) -> Reply
+fn walk_reply(answer: Result<Visits, Refusal>) -> Reply<5>
     ensures { said_by result ≡ walk_said (walk.values_of answer) }
 {
     match answer {
-        WalkAnswer::Walked { steps, total } => steps_reply(0, 0, 0, 0, steps as u64, total),
-        WalkAnswer::Refused(r) => steps_reply(
-            1,
-            r.number as u64,
-            r.index as u64,
-            r.offset as u64,
-            0,
-            0,
-        ),
+        Ok(visits) => steps_reply(0, 0, 0, 0, visits.steps as u64, visits.total),
+        Err(r) => steps_reply(1, r.number as u64, r.index as u64, r.offset as u64, 0, 0),
     }
 }
 

@@ -5,7 +5,7 @@ ghost use Rattle.power_hash.specs.Powers.{hash_powers, swap_answer, swap_said};
 ghost use Rattle.hivesaddle.specs.Output.{Answered};
 ghost use Rattle.hivesaddle.specs.Private.{said_by};
 
-use crate::replies::{Reply, one, put_reply};
+use crate::replies::{Reply, put_reply, reply};
 use power_hash::TooLong;
 
 pub fn hs_hash_xp(numbers: &[u32]) -> u32
@@ -62,12 +62,12 @@ const TOO_LONG: u32 = 25;
 
 const NO_HASH: u64 = 0;
 
-fn swap_reply(answer: Result<u32, TooLong>) -> Reply
+fn swap_reply(answer: Result<u32, TooLong>) -> Reply<1>
     ensures { said_by result ≡ swap_said answer }
 {
     match answer {
-        Ok(h) => one(0, h as u64),
-        Err(TooLong) => one(TOO_LONG, NO_HASH),
+        Ok(h) => reply(0, [h as u64]),
+        Err(TooLong) => reply(TOO_LONG, [NO_HASH]),
     }
 }
 

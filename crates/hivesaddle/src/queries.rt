@@ -9,19 +9,17 @@ ghost use Rattle.path_search.specs.Search.{path_found, path_said, ListsPaths};
 ghost use Rattle.hivesaddle.specs.Output.{Answered};
 ghost use Rattle.hivesaddle.specs.Private.{said_by, saying};
 
-use crate::replies::{Reply, one, put_reply, three, two};
-use path_search::PathAnswer;
-use query::{
-    CostAnswer, EntryReferenceAnswer, Place, PlaceAnswer, PlacesAnswer, ReferenceAnswer,
-    VolumeAnswer, VolumeFacts,
-};
+use crate::replies::{Reply, put_reply, reply};
+use path_search::PathEntry;
+use query::{FileCost, Place, VolumeFacts};
+use volumes::Reference;
 
-fn places_reply(answer: PlacesAnswer) -> Reply
+fn places_reply(answer: Option<u32>) -> Reply<1>
     ensures { said_by result ≡ places_said answer }
 {
     match answer {
-        PlacesAnswer::Needed(n) => one(1, n as u64),
-        PlacesAnswer::Unknown => one(0, 0),
+        Some(n) => reply(1, [n as u64]),
+        None => reply(0, [0]),
     }
 }
 
@@ -32,12 +30,12 @@ pub fn hs_places(file: &[u8], out: &mut [u64]) -> u32
     put_reply(places_reply(query::places(file)), out)
 }
 
-fn place_reply(answer: PlaceAnswer) -> Reply
+fn place_reply(answer: Option<Place>) -> Reply<2>
     ensures { said_by result ≡ place_said answer }
 {
     match answer {
-        PlaceAnswer::Shown(w) => two(1, w.at as u64, w.len as u64),
-        PlaceAnswer::NotShown => two(0, 0, 0),
+        Some(w) => reply(1, [w.at as u64, w.len as u64]),
+        None => reply(0, [0, 0]),
     }
 }
 
@@ -56,30 +54,29 @@ pub fn hs_entry_name(file: &[u8], i: u64, out: &mut [u64]) -> u32
 }
 
 // A volume's facts in the order of the output.
-fn facts_reply(number: u32, f: VolumeFacts) -> Reply
+fn facts_reply(number: u32, f: VolumeFacts) -> Reply<6>
     ensures { said_by result ≡ saying number (volume_list f) }
 {
     let path = f.path;
-    let mut values = [0; 22];
-    values[0] = f.created;
-    values[1] = f.serial as u64;
-    values[2] = f.references as u64;
-    values[3] = f.directories as u64;
-    values[4] = path.at as u64;
-    values[5] = path.len as u64;
-    Reply {
-        number: number,
-        count: 6,
-        values: values,
-    }
+    reply(
+        number,
+        [
+            f.created,
+            f.serial as u64,
+            f.references as u64,
+            f.directories as u64,
+            path.at as u64,
+            path.len as u64,
+        ],
+    )
 }
 
-fn volume_reply(answer: VolumeAnswer) -> Reply
+fn volume_reply(answer: Option<VolumeFacts>) -> Reply<6>
     ensures { said_by result ≡ volume_said answer }
 {
     match answer {
-        VolumeAnswer::Shown(f) => facts_reply(1, f),
-        VolumeAnswer::NotShown => {
+        Some(f) => facts_reply(1, f),
+        None => {
             let none = VolumeFacts {
                 created: 0,
                 serial: 0,
@@ -99,12 +96,12 @@ pub fn hs_volume(file: &[u8], i: u64, out: &mut [u64]) -> u32
     put_reply(volume_reply(query::volume(file, i as usize)), out)
 }
 
-fn reference_reply(answer: ReferenceAnswer) -> Reply
+fn reference_reply(answer: Option<Reference>) -> Reply<2>
     ensures { said_by result ≡ reference_said answer }
 {
     match answer {
-        ReferenceAnswer::Shown(r) => two(1, r.index, r.sequence as u64),
-        ReferenceAnswer::NotShown => two(0, 0, 0),
+        Some(r) => reply(1, [r.index, r.sequence as u64]),
+        None => reply(0, [0, 0]),
     }
 }
 
@@ -131,12 +128,13 @@ pub fn hs_references(file: &[u8], volume: u64, pairs: &mut [u64]) -> u64
     query::references(file, volume as usize, pairs) as u64
 }
 
-fn entry_reference_reply(answer: EntryReferenceAnswer) -> Reply
+fn entry_reference_reply(answer: Option<Option<Reference>>) -> Reply<3>
     ensures { said_by result ≡ entry_reference_said answer }
 {
     match answer {
-        EntryReferenceAnswer::Shown(r) => three(1, r.known as u64, r.index, r.sequence as u64),
-        EntryReferenceAnswer::NotShown => three(0, 0, 0, 0),
+        Some(Some(r)) => reply(1, [1, r.index, r.sequence as u64]),
+        Some(None) => reply(1, [0, 0, 0]),
+        None => reply(0, [0, 0, 0]),
     }
 }
 
@@ -150,12 +148,12 @@ pub fn hs_entry_reference(file: &[u8], i: u64, out: &mut [u64]) -> u32
     )
 }
 
-fn cost_reply(answer: CostAnswer) -> Reply
+fn cost_reply(answer: Option<FileCost>) -> Reply<2>
     ensures { said_by result ≡ cost_said answer }
 {
     match answer {
-        CostAnswer::Known(c) => two(1, c.names, c.directories),
-        CostAnswer::Unknown => two(0, 0, 0),
+        Some(c) => reply(1, [c.names, c.directories]),
+        None => reply(0, [0, 0]),
     }
 }
 
@@ -169,12 +167,12 @@ pub fn hs_cost(file: &[u8], out: &mut [u64]) -> u32
 // What stands for the number where there is no path.
 const NO_NUMBER: u64 = 0;
 
-fn path_reply(answer: PathAnswer) -> Reply
+fn path_reply(answer: Option<PathEntry>) -> Reply<2>
     ensures { said_by result ≡ path_said answer }
 {
     match answer {
-        PathAnswer::Entry { index, number } => two(1, index as u64, number as u64),
-        PathAnswer::NoPath => two(0, 0, NO_NUMBER),
+        Some(entry) => reply(1, [entry.index as u64, entry.number as u64]),
+        None => reply(0, [0, NO_NUMBER]),
     }
 }
 
