@@ -9,8 +9,8 @@ ghost use Rattle.text.specs.declared.Text.{Text};
 ghost use Rattle.listing_text.specs.Listing.{line, shown_unit, shown_name, path_text, accepted_text, refused_text, listing, Listed};
 ghost use Rattle.listing_text.specs.Private.{count_lines, places_left};
 
-use path_search::PathAnswer;
-use reader::{Acceptance, Verdict};
+use path_search::PathEntry;
+use reader::Acceptance;
 use text::Text;
 
 // The longest file that is read.
@@ -46,12 +46,12 @@ fn put_pair(text: &mut Text, a: u64, b: u64)
     text.put_decimal(b);
 }
 
-fn put_path(text: &mut Text, found: PathAnswer)
+fn put_path(text: &mut Text, found: Option<PathEntry>)
     ensures { Puts text.old (path_text found) text.new }
 {
     match found {
-        PathAnswer::Entry { index, number } => put_pair(text, index as u64, number as u64),
-        PathAnswer::NoPath => text.put_all(b"none"),
+        Some(entry) => put_pair(text, entry.index as u64, entry.number as u64),
+        None => text.put_all(b"none"),
     }
 }
 
@@ -111,9 +111,8 @@ fn put_listing(text: &mut Text, file: &[u8], predecessors: &mut [u32])
         return text.put_all(b"too long\n");
     }
     match reader::read_file(file, predecessors) {
-        Verdict::Accepted(a) => put_accepted(text, file, a),
-        Verdict::Refused(r) => put_refused(text, r.number as u64, r.index as u64),
-        Verdict::Wanted(_) => (),
+        Ok(a) => put_accepted(text, file, a),
+        Err(r) => put_refused(text, r.number as u64, r.index as u64),
     }
 }
 
