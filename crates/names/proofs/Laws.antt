@@ -48,8 +48,8 @@ zero_in_eight s at i j k l m n o q =
     let z : at ≡ at + 2 * 0 = omega arith in
     rw (i ∙ ap (zero_unit s) z, j, k, l, m, n, o, q) (any_eight (λ k. zero_unit s (at + 2 * k)))
 
-pub eight-zero : (s : List ℕ) (at units : ℕ) → 8 ≤ units → zero_in s at 8 ≡ true → false ≡ sound_text s at units
-eight-zero s at units h e = let t = any_true (λ k. zero_unit s (at + 2 * k)) 8 e in text_zero s at units t.0 (omega (arith, t.1)) t.2
+pub eight_zero : (s : List ℕ) (at units : ℕ) → 8 ≤ units → zero_in s at 8 ≡ true → false ≡ sound_text s at units
+eight_zero s at units h e = let t = any_true (λ k. zero_unit s (at + 2 * k)) 8 e in text_zero s at units t.0 (omega (arith, t.1)) t.2
 
 pub eight-clear : (s : List ℕ) (at units : ℕ) → 8 ≤ units → zero_in s at 8 ≡ false → sound_text s (at + 16) (units - 8) ≡ sound_text s at units
 eight-clear s at units h e =

@@ -27,6 +27,7 @@ fn zero_unit(strings: &[u8], at: usize) -> bool
 }
 
 // Whether one of the eight units from an offset is zero. All eight are looked at, so that the processor can compare them at once.
+#[tactic(auto, using(crate::proofs::Laws::zero_in_eight))]
 fn zero_in_eight(strings: &[u8], at: usize) -> bool
     requires { at + 16 ≤ length strings.now }
     ensures { result ≡ zero_in strings.now at 8 }
@@ -42,6 +43,7 @@ fn zero_in_eight(strings: &[u8], at: usize) -> bool
 }
 
 // Whether the units from an offset have no zero unit among them, and one directly after them.
+#[tactic(auto, using(crate::proofs::Laws::text_zero, crate::proofs::Laws::text_end))]
 fn units_sound(strings: &[u8], at: usize, units: usize) -> bool
     requires { at + 2 * units + 2 ≤ length strings.now }
     ensures { result ≡ sound_text strings.now at units }
@@ -55,6 +57,7 @@ fn units_sound(strings: &[u8], at: usize, units: usize) -> bool
 }
 
 // The same: first eight units at a time, then those that are left.
+#[tactic(auto, using(crate::proofs::Laws::eight_zero, crate::proofs::Laws::eight_again))]
 fn text_sound(strings: &[u8], at: usize, units: usize) -> bool
     requires { at + 2 * units + 2 ≤ length strings.now }
     ensures { result ≡ sound_text strings.now at units }
@@ -169,6 +172,7 @@ fn first_fault<F: Fn(u32) -> bool>(l: Layout, start: u32, entries: u32, fails: F
 }
 
 // Check 9: the first entry whose name does not fit a strings section of that size. The metrics start at `start` in the file.
+#[tactic(auto, using(crate::proofs::Laws::first_fault_is), unfolding(crate::specs::Names::misfit_fault))]
 pub fn misfit_fault<N: Names>(
     names: &N,
     l: Layout,
@@ -184,6 +188,7 @@ pub fn misfit_fault<N: Names>(
 }
 
 // Check 10: the first entry whose name is not sound.
+#[tactic(auto, using(crate::proofs::Laws::first_fault_is), unfolding(crate::specs::Names::unsound_fault))]
 pub fn unsound_fault<N: Names>(
     names: &N,
     l: Layout,

@@ -26,6 +26,9 @@ pub after-firsts : (pairs : List ℕ) (entries i : ℕ) → i < entries → afte
 unfolding firsts
 after-firsts pairs entries i l = get_or_tabulate entries (first_of pairs) i end l
 
+-- for `search`, at what reads such a list
+pub ruleset listed = (length-nexts, after-nexts, length-firsts, after-firsts)
+
 -- j is reached from i in one step or more
 abbrev pub Reach : List ℕ → ℕ → ℕ → Type 0
 Reach s i j = (k : ℕ) × (follow s (suc k) i ≡ j)

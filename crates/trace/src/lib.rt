@@ -35,10 +35,12 @@ pub struct Entries<'a> {
 impl<'a> Nexts for Entries<'a> {
     ghost indexes = { λ e. nexts e.section.now e.size e.entries };
 
+    #[tactic(auto, using(crate::proofs::Steps::listed))]
     fn count(&self) -> u32 {
         self.entries
     }
 
+    #[tactic(auto, using(crate::proofs::Steps::listed))]
     fn next(&self, i: u32) -> u32 {
         little_endian::u32_at(self.section, i as usize * (self.size as usize))
     }
@@ -54,11 +56,13 @@ pub struct Pairs<'a> {
 impl<'a> Nexts for Pairs<'a> {
     ghost indexes = { λ p. firsts p.table.now p.pairs };
 
+    #[tactic(auto, using(crate::proofs::Steps::listed))]
     fn count(&self) -> u32 {
         self.pairs
     }
 
     // So many pairs begin in the table, which a loop asks once; past them the number is 0.
+    #[tactic(auto, using(crate::proofs::Steps::listed))]
     fn next(&self, i: u32) -> u32 {
         let i = i as usize;
         if i < self.table.len().div_ceil(2) {
@@ -197,6 +201,7 @@ fn check_cycles<N: Nexts>(links: N, buffer: &mut [u32]) -> Result<(), Broken>
 
 // Checks 11 to 13 with a filled buffer, and the chain count. Where every next index is above its own, as in the files that Windows
 // writes, no entry is on a cycle: no walk is needed, and the table stands as it is.
+#[tactic(auto, using(crate::proofs::Answers::links_refused, crate::proofs::Answers::passed_linked, crate::proofs::Answers::links_forward, crate::proofs::Answers::links_cycle))]
 fn check_entries<N: Nexts>(links: N, buffer: &mut [u32]) -> Result<usize, Broken>
     requires { FilledBuffer (N.indexes links) buffer.old }
     ensures { LinksAnswered (N.indexes links) (length buffer.old) result buffer.new }
@@ -211,6 +216,7 @@ fn check_entries<N: Nexts>(links: N, buffer: &mut [u32]) -> Result<usize, Broken
 
 // Check 7, then checks 11 to 13 on entries of that size, which start at `start` in the file, and the chain count. Where all pass, the
 // buffer becomes the table of predecessors, and else every place of it holds END.
+#[tactic(auto, using(crate::proofs::Answers::answer_room, crate::proofs::Answers::answer_broken))]
 pub fn check_links<N: Nexts>(
     links: N,
     start: u32,
