@@ -65,19 +65,19 @@ small_at : (n i at : ℕ) → n < 100 → i < 2 ^ 32 → SmallRefusal (refusal n
 small_at n i at l h = record { number = l; index = h }
 
 -- ---- faults: one at index 0, or at an index of so many
-abbrev LowFault : Option (Option Fault) → Type 0
-LowFault f = (i at : ℕ) → f ≡ Some (fault i at) → i < 2 ^ 32
+abbrev LowFault : Option Fault → Type 0
+LowFault f = (y : Fault) → f ≡ Some y → y.index < 2 ^ 32
 
 low_fault : (i at : ℕ) (b : Bool) → i < 2 ^ 32 → LowFault (fault_at i at b)
-low_fault i at true l j x e = let q : i ≡ j = cc in omega arith
-low_fault i at false l j x e = never cc
+low_fault i at true l y e = let q : fault i at ≡ y = cc in rw (← q) l
+low_fault i at false l y e = never cc
 
 low_from : (at : ℕ → ℕ) (test : ℕ → Bool) (n i : ℕ) → i + n < 2 ^ 32 → LowFault (fault_of at (first_from test n i))
 low_from at test n i l = go (first_from test n i) refl
   where
     go : (f : Option ℕ) → first_from test n i ≡ f → LowFault (fault_of at f)
-    go (Some k) e j x q = let y : k ≡ j = cc in omega (arith, (first_at test n i k e).1)
-    go None e j x q = never cc
+    go (Some k) e y q = let h : fault k (at k) ≡ y = cc in rw (← h) (omega (arith, (first_at test n i k e).1))
+    go None e y q = never cc
 
 low_signature : (b : List ℕ) → LowFault (signature_fault b)
 unfolding signature_fault
@@ -165,10 +165,10 @@ module _ (p : List ℕ) (m : ℕ) (h : Bytes p) where
   Any a = Unit
 
   -- a check by its number and its fault
-  small-check : (n : ℕ) (f : Option (Option Fault)) → n < 100 → LowFault f → (i at : ℕ) → f ≡ Some (fault i at) → SmallRefusal (refusal n i at)
-  small-check n f l h i at e = small_at n i at l (h i at e)
+  small-check : (n : ℕ) (f : Option Fault) → n < 100 → LowFault f → (i at : ℕ) → f ≡ Some (fault i at) → SmallRefusal (refusal n i at)
+  small-check n f l h i at e = small_at n i at l (h (fault i at) e)
 
-  abbrev line : {B : Type 0} (n : ℕ) (f : Option (Option Fault)) (g : Unit → Plan B) → n < 100 → LowFault f → Each Any SmallRefusal (run (g tt) p)
+  abbrev line : {B : Type 0} (n : ℕ) (f : Option Fault) (g : Unit → Plan B) → n < 100 → LowFault f → Each Any SmallRefusal (run (g tt) p)
       → Each Any SmallRefusal (run (and_then (check n f) g) p)
   line n f g l h k = each_check Any SmallRefusal n f g p (small-check n f l h) (λ _. k)
 

@@ -38,9 +38,9 @@ ten_digits n l = decimal_short 9 n (omega arith)
 module _ (p : List ℕ) (h : Bytes p) where
   path_found_lem : (o : Opening) (r : Option PathEntry) → path_found p ≡ r → run open_plan p ≡ decided (accept o) → length (path_text r) ≤ 12
   path_found_lem o (Some w) e q =
-      let f = path_found_law o p i n q e in
+      let f = path_found_law o p w.index w.number q e in
       let b = (low_counts p o h ((open_facts p).holds o q)).metrics in
-      simp length-append (omega (arith, ten_digits i (omega (arith, f.below)), decimal_short 0 n (omega (arith, f.number))))
+      simp length-append (omega (arith, ten_digits w.index (omega (arith, f.below)), decimal_short 0 w.number (omega (arith, f.number))))
   path_found_lem o None e q = omega arith
 
   path-short : length (path_text (path_found p)) ≤ 12

@@ -8,12 +8,12 @@ pub returns-then-file-gt-FILE_LIMIT-clause-listed : goal.returns-then-file-gt-FI
 returns-then-file-gt-FILE_LIMIT-clause-listed c = rw (← listing_long _ _ c.if-file-gt-FILE_LIMIT.true) c.put_all.ensures
 
 pub put_accepted-requires : goal.put_accepted-requires
-put_accepted-requires c = omega (arith, accepted_units _ _ _ _ _ (λ i. (c.type_inv.file i).fits) c.read_file.ensures c.in-Accepted.is)
+put_accepted-requires c = omega (arith, accepted_units _ _ _ _ _ (λ i. (c.type_inv.file i).fits) c.read_file.ensures c.in-Ok.is)
 
-pub returns-in-Accepted-clause-listed : goal.returns-in-Accepted-clause-listed
-returns-in-Accepted-clause-listed c =
-    rw (← listing_accepted _ _ c.if-file-gt-FILE_LIMIT.false _ _ _ c.read_file.ensures _ c.in-Accepted.is) c.put_accepted.ensures
+pub returns-in-Ok-clause-listed : goal.returns-in-Ok-clause-listed
+returns-in-Ok-clause-listed c =
+    rw (← listing_accepted _ _ c.if-file-gt-FILE_LIMIT.false _ _ _ c.read_file.ensures _ c.in-Ok.is) c.put_accepted.ensures
 
-pub returns-in-Refused-clause-listed : goal.returns-in-Refused-clause-listed
-returns-in-Refused-clause-listed c =
-    rw (← listing_refused _ _ c.if-file-gt-FILE_LIMIT.false _ _ _ c.read_file.ensures _ c.in-Refused.is) c.put_refused.ensures
+pub returns-in-Err-clause-listed : goal.returns-in-Err-clause-listed
+returns-in-Err-clause-listed c =
+    rw (← listing_refused _ _ c.if-file-gt-FILE_LIMIT.false _ _ _ c.read_file.ensures _ c.in-Err.is) c.put_refused.ensures
