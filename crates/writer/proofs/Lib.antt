@@ -1,15 +1,4 @@
-pub mod Answering
-pub mod HeadPieces
 pub mod Bytes
-pub mod Deciding
 pub mod Entries
-pub mod Facts
-pub mod Head
-pub mod Laid
-pub mod Name
-pub mod Planning
-pub mod Runs
-pub mod Sections
 pub mod Spread
 pub mod Stores
-pub mod FilePieces
