@@ -1,4 +1,13 @@
 pub mod Bytes
 pub mod Entries
+pub mod Facts
+pub mod FilePieces
+pub mod Head
+pub mod HeadPieces
+pub mod Laid
+pub mod Name
+pub mod Planning
+pub mod Runs
+pub mod Sections
 pub mod Spread
 pub mod Stores
