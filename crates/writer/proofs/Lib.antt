@@ -11,3 +11,4 @@ pub mod Runs
 pub mod Sections
 pub mod Spread
 pub mod Stores
+pub mod Deciding

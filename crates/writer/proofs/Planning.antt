@@ -1,15 +1,16 @@
 -- A plan within the limit: what its lengths add up to, and where its sections meet.
 use mathlib.Core.Path.{◌≡◌, refl, sym, ap, ◌∙◌}
-use mathlib.Core.Bool.{Bool, true, false}
+use mathlib.Core.Bool.{Bool, true, false, not}
 use mathlib.Core.List.{List, [], ◌∷◌}
 use mathlib.Core.Logic.{⊎_elim}
-use Prim.Native.Nat.{ℕ, zero, suc, ◌+◌, ◌*◌, ◌/◌, ◌≤◌, ◌<◌, max}
+use Prim.Native.Nat.{ℕ, zero, suc, ◌+◌, ◌*◌, ◌/◌, ◌≤◌, ◌<◌, max, min}
 use native.Mathlib.Nat.{mul-one, mul-le-mul_left, not-suc-le-zero, le_of_suc-le-suc, eq-or-lt_of_le}
 use native.Mathlib.Omega.{arith}
 use borrow.Author.Tests.{lt-ltb, le-ltb, ltb-true, ltb-false, eq-eqb, ne_eqb}
 use lib.Dec.{eqb, ltb}
 use lib.ListN.{length, get_or, take, drop, length-take, take-append-drop}
-use lib.Seq.{take-take, take-append_seam}
+use lib.Seq.{take-take, take-append_seam, take_all}
+use Rattle.std.specs.List.{prefix_len}
 use Rattle.lists.specs.Count.{pick}
 use Rattle.lists.proofs.Tests.{by_test}
 use Rattle.layout.specs.Versions.{metrics_entry, trace_entry, size_limit}
@@ -61,30 +62,31 @@ carried_prefix us =
     ∙ ap (take k) (sym (take-append-drop 30 s))
     ∙ take-append_seam (take 30 s) (drop 30 s)
 
--- how long it is: so many units are not zero, and then comes a zero, or the end, or there are 30
-pub record Counting (us : List ℕ) (k : ℕ) : Type 0 where
-  pub low : k ≤ length us
-  pub most : k ≤ 30
-  pub nonzero : (j : ℕ) → j < k → get_or us j 0 ≡ 0 → ⊥
-
-at_zero : (us : List ℕ) (k : ℕ) → k ≤ length us → ((j : ℕ) → j < k → get_or us j 0 ≡ 0 → ⊥) → (k < length us → get_or us k 0 ≡ 0) → length (before_zero us) ≡ k
+-- the code looks at the first 30 units, up to a zero
+before-take : (n : ℕ) (us : List ℕ) → before_zero (take n us) ≡ take n (before_zero us)
 unfolding before_zero
-at_zero [] k l h z = omega arith
-at_zero (u ∷ us) zero l h z = rw (eq-eqb u 0 (z (omega arith))) refl
-at_zero (u ∷ us) (suc k) l h z =
-    rw (ne_eqb u 0 (h 0 (omega arith))) (ap suc (at_zero us k (le_of_suc-le-suc l) (λ j m. h (suc j) (omega arith)) (λ m. z (omega arith))))
+before-take zero us = refl
+before-take (suc n) [] = refl
+before-take (suc n) (u ∷ us) = by_test (eqb u 0) (λ q. rw q refl) (λ q. rw q (ap (λ (s : List ℕ). u ∷ s) (before-take n us)))
 
-at_most : (us : List ℕ) (k : ℕ) → k ≤ length us → ((j : ℕ) → j < k → get_or us j 0 ≡ 0 → ⊥) → k ≤ length (before_zero us)
+until-zero : (us : List ℕ) → take (prefix_len (λ x. not (eqb x 0)) us) us ≡ before_zero us
 unfolding before_zero
-at_most us zero l h = omega arith
-at_most [] (suc k) l h = absurd (not-suc-le-zero l)
-at_most (u ∷ us) (suc k) l h = rw (ne_eqb u 0 (h 0 (omega arith))) (let m = at_most us k (le_of_suc-le-suc l) (λ j m. h (suc j) (omega arith)) in omega arith)
+until-zero [] = refl
+until-zero (u ∷ us) = by_test (eqb u 0) (λ q. rw (q, prefix_len) refl) λ q.
+    let n = prefix_len (λ x. not (eqb x 0)) us in
+    let k : 1 + n ≡ suc n = omega arith in
+    rw (q, prefix_len) (ap (λ (j : ℕ). take j (u ∷ us)) k ∙ ap (λ (s : List ℕ). u ∷ s) (until-zero us))
 
-pub counted : (us : List ℕ) (k : ℕ) → Counting us k → (k < length us → k < 30 → get_or us k 0 ≡ 0) → k ≡ length (take 30 (before_zero us))
-counted us k c z =
-    by_test (ltb k 30)
-    (λ q. omega (arith, length-take 30 (before_zero us), at_zero us k c.low c.nonzero (λ l. z l (ltb-true k 30 q)), ltb-true k 30 q))
-    (λ q. omega (arith, length-take 30 (before_zero us), at_most us k c.low c.nonzero, c.most, ltb-false k 30 q))
+first-units : (us : List ℕ) → take (min (length us) 30) us ≡ take 30 us
+first-units us =
+    by_test (ltb (length us) 30)
+    (λ q. take_all _ us (omega (arith, ltb-true _ _ q)) ∙ sym (take_all 30 us (omega (arith, ltb-true _ _ q))))
+    (λ q. let n : min (length us) 30 ≡ 30 = omega (arith, ltb-false _ _ q) in ap (λ (n : ℕ). take n us) n)
+
+pub counted : (us : List ℕ) (n k : ℕ) → n ≡ min (length us) 30 → k ≡ length (take (prefix_len (λ x. not (eqb x 0)) (take n us)) (take n us))
+    → k ≡ length (take 30 (before_zero us))
+counted us n k e h =
+    h ∙ ap length (until-zero (take n us) ∙ ap (λ (j : ℕ). before_zero (take j us)) e ∙ ap before_zero (first-units us) ∙ before-take 30 us)
 
 pub carried_some : (us : List ℕ) (k : ℕ) → k ≡ length (take 30 (before_zero us)) → k < 30 → Some k ≡ carried_units us
 carried_some us k e l = let n : eqb k 30 ≡ false = ne_eqb k 30 (λ q. absurd (omega arith)) in rw (← e, n) refl

@@ -54,10 +54,7 @@ fn carried_units(name: &[u16]) -> Option<usize>
 {
     let most = layout::PROGRAM_NAME_UNITS as usize;
     let first = &name[..name.len().min(most)];
-    let units = first
-        .iter()
-        .position(|unit| *unit == 0)
-        .unwrap_or(first.len());
+    let units = first.iter().take_while(|unit| **unit != 0).count();
     if units < most { Some(units) } else { None }
 }
 
