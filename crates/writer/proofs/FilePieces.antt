@@ -8,13 +8,13 @@ use Rattle.lists.specs.Pairs.{first_of, second_of}
 use Rattle.layout.specs.Versions.{version_number, metrics_entry, trace_entry, first_section}
 use Rattle.layout.specs.declared.Version.{Version}
 use Rattle.layout.specs.declared.Layout.{Layout}
-use Rattle.writer.specs.declared.Contents.{Contents}
+use Rattle.writer.specs.declared.contents.Contents.{Contents}
 use Rattle.writer.specs.declared.draft.Plan.{Plan}
-use Rattle.writer.specs.LaidOut.{Description, description_of, number, spread, entries, head, metrics_bytes, trace_bytes, laid_by, name_kept, laid_size, pairs}
+use Rattle.writer.specs.LaidOut.{Description, number, spread, entries, head, metrics_bytes, trace_bytes, laid_by, name_kept, laid_size, pairs}
+use Rattle.writer.specs.Plans.{description_of}
 use Rattle.writer.specs.Plans.{Ready}
 use Rattle.writer.proofs.Bytes.{length_entries}
 use Rattle.writer.proofs.Entries.{metrics_size, trace_size}
-use Rattle.writer.proofs.Name.{carried_most}
 use Rattle.writer.proofs.Head.{length_head}
 use Rattle.writer.proofs.HeadPieces.{head_by}
 use Rattle.writer.proofs.Planning.{carried_prefix}

@@ -8,7 +8,7 @@ use lib.ListN.{length, replicate}
 use Rattle.layout.specs.Head.{version_at, signature_at, declared_size_at, program_name_at}
 use Rattle.layout.specs.Versions.{run_time_at, run_count_at, first_section}
 use Rattle.layout.specs.declared.Layout.{Layout}
-use Rattle.writer.specs.declared.Contents.{Contents}
+use Rattle.writer.specs.declared.contents.Contents.{Contents}
 use Rattle.writer.specs.declared.draft.Plan.{Plan}
 use Rattle.writer.specs.LaidOut.{Field, number, bytes_of, unit_bytes, spread}
 use Rattle.writer.specs.Plans.{Writable}

@@ -12,3 +12,4 @@ pub mod Sections
 pub mod Spread
 pub mod Stores
 pub mod Deciding
+pub mod Answering

@@ -7,7 +7,6 @@ use Rattle.layout.specs.Head.{trace_offset_at, trace_count_at, strings_offset_at
 use Rattle.layout.specs.Versions.{version_number, layout_of, run_time_at, run_count_at, metrics_entry, name_offset_at, name_length_at, trace_entry, first_section}
 use Rattle.layout.specs.declared.Version.{Version}
 use Rattle.layout.specs.declared.Layout.{Layout}
-use Rattle.writer.specs.declared.Contents.{Contents}
 
 -- ---- bytes
 
@@ -66,10 +65,6 @@ description name hash time count metrics trace strings volumes volume_count =
       volumes = volumes;
       volume_count = volume_count;
     }
-
-abbrev pub description_of : Contents → Description
-description_of c =
-    description c.name.now c.stored_hash c.run_time c.run_count c.metrics.now c.trace.now c.strings.now c.volumes.now c.volume_count
 
 -- its numbers fit their widths
 pub record Numbers (d : Description) : Type 0 where

@@ -20,7 +20,7 @@ use Rattle.reader.specs.declared.verdict.Acceptance.{Acceptance}
 use Rattle.reader.specs.declared.verdict.RunTimes.{RunTimes}
 use Rattle.reader.specs.Verdict.{Acceptable, verdict_in}
 use Rattle.reader.specs.Private.{verdict_of}
-use Rattle.writer.specs.declared.Contents.{Contents}
+use Rattle.writer.specs.declared.contents.Contents.{Contents}
 use Rattle.writer.specs.declared.draft.Plan.{Plan}
 use Rattle.writer.specs.declared.draft.Entry.{Entry}
 use Rattle.writer.specs.Writes.{placed_answer, output_after}

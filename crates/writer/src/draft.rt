@@ -1,7 +1,6 @@
 // What the bytes of a file are laid by.
 ghost use Rattle.std.specs.Prelude.{◌+◌, ◌≤◌};
-ghost use Rattle.writer.specs.LaidOut.{description_of};
-ghost use Rattle.writer.specs.Plans.{Ready};
+ghost use Rattle.writer.specs.Plans.{description_of, Ready};
 
 use crate::Contents;
 use layout::{Layout, Version};

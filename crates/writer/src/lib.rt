@@ -4,30 +4,18 @@
 
 ghost use Rattle.std.specs.Prelude.{◌≡◌, ◌++◌, ◌+◌, ◌-◌, ◌*◌, ◌/◌, ◌≤◌, length, replicate};
 ghost use Rattle.layout.specs.Versions.{first_section};
-ghost use Rattle.writer.specs.LaidOut.{bytes_of, unit_bytes, entries, description_of, head, laid_by};
+ghost use Rattle.writer.specs.LaidOut.{bytes_of, unit_bytes, entries, head, laid_by};
+ghost use Rattle.writer.specs.Plans.{description_of};
 ghost use Rattle.writer.specs.Private.{patch, Ordered, with_gaps, numbers_at, pair_of, pair_bytes, fields_behind};
 
 use crate::draft::{Draft, Entry};
 
+mod contents;
 mod draft;
 mod write;
 
+pub use contents::Contents;
 pub use write::write_file;
-
-// What a file is made from: the program name in 16-bit units, tables of pairs (name offset, name length; next index, block count), two
-// sections in bytes, and the numbers that stand nowhere else.
-#[derive(Clone, Copy)]
-pub struct Contents<'a> {
-    pub name: &'a [u16],
-    pub stored_hash: u32,
-    pub run_time: u64,
-    pub run_count: u32,
-    pub metrics: &'a [u32],
-    pub trace: &'a [u32],
-    pub strings: &'a [u8],
-    pub volumes: &'a [u8],
-    pub volume_count: u32,
-}
 
 fn put_zeros(output: &mut [u8], from: usize, to: usize)
     requires { (from ≤ to) × (to ≤ length output.old) }

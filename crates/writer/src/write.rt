@@ -1,9 +1,8 @@
 // The checks on what a file is to be made from, in the reader's order, and the writer.
 ghost use Rattle.std.specs.Prelude.{◌≡◌, ◌≤◌, length};
 ghost use Rattle.layout.specs.Versions.{layout_of};
-ghost use Rattle.writer.specs.LaidOut.{description_of};
 ghost use Rattle.writer.specs.Writes.{writable, write_answer, file_for, Writes};
-ghost use Rattle.writer.specs.Plans.{Writable, planned};
+ghost use Rattle.writer.specs.Plans.{description_of, Writable, planned};
 ghost use Rattle.writer.specs.Private.{carried_units, record_for, SectionsAnswered, Drafted, DraftedBy};
 
 use crate::Contents;

@@ -1,7 +1,6 @@
 -- The first check that refuses answers; those before it passed.
-use mathlib.Core.Path.{refl}
 use Rattle.trace.proofs.Steps.{from_pairs}
-use Rattle.writer.specs.LaidOut.{description_of}
+use Rattle.writer.specs.Plans.{description_of}
 use Rattle.writer.proofs.Deciding.{refused_7, refused_8, refused_9, refused_10, refused_links, refused_volumes, all_passed}
 use Rattle.writer.proofs.write.check_sections.Goals as goal
 

@@ -1,6 +1,6 @@
 -- A part that is longer than the limit makes a file that is.
 use native.Mathlib.Omega.{arith}
-use Rattle.writer.specs.LaidOut.{description_of}
+use Rattle.writer.specs.Plans.{description_of}
 use Rattle.writer.proofs.Planning.{many_parts, plan_large}
 use Rattle.writer.proofs.write.plan_of.Goals as goal
 
