@@ -1,137 +1,124 @@
 -- The checks on tables one after another: the first that refuses answers.
 use mathlib.Core.Path.{◌≡◌, refl, sym, ap, ◌∙◌}
-use mathlib.Core.List.{List, []}
-use Prim.Native.Nat.{ℕ, ◌*◌, ◌/◌, ◌≤◌}
-use native.Mathlib.Omega.{arith}
+use mathlib.Core.List.{List}
+use Prim.Native.Nat.{ℕ}
 use lib.ListN.{length}
 use Rattle.lists.proofs.Tests.{never}
 use Rattle.layout.specs.Head.{entry_offset}
 use Rattle.layout.specs.Versions.{volume_entry, trace_entry}
 use Rattle.layout.specs.declared.Layout.{Layout}
-use Rattle.incremental.specs.Decision.{Decision, accept, refuse, refusal, check, decision_of, ◌>>◌}
-use Rattle.incremental.specs.declared.Refusal.{Refusal}
-use Rattle.sections.specs.Fields.{places_fault, entries_fault}
-use Rattle.sections.proofs.Cases.{places_enough, entries_fit}
-use Rattle.trace.specs.Links.{firsts, link_checks, trace_checks, decision_of, predecessors, held, LinkListAnswer, LinkAnswer}
-use Rattle.trace.proofs.Steps.{length-firsts, from_pairs}
-use Rattle.volumes.specs.Volumes.{volumes_from, volumes_checks}
-use Rattle.writer.specs.declared.Plan.{Plan}
-use Rattle.names.specs.Names.{in_pairs, misfit_fault, unsound_fault}
-use Rattle.incremental.proofs.Decision.{check_at, check_nowhere}
-use Rattle.writer.specs.declared.Given.{Given}
-use Rattle.writer.specs.LaidOut.{description_of, metrics_at}
-use Rattle.writer.specs.Private.{name_checks, table_checks, SectionsAnswered, plan_by, section_checks}
-use Rattle.std.specs.Prelude.{Err, None, Ok, Option, Result, Some}
+use Rattle.incremental.specs.Decision.{Decision, accept, refuse, check, decision_of, ◌>>=◌, ◌>>◌}
 use Rattle.incremental.specs.declared.Fault.{Fault}
-use Rattle.incremental.specs.Decision.{fault}
+use Rattle.incremental.specs.declared.Refusal.{Refusal}
+use Rattle.incremental.proofs.Decision.{check_goes, check_stops}
+use Rattle.names.specs.Names.{in_pairs, misfit_fault, unsound_fault}
+use Rattle.sections.specs.Fields.{places_fault, entries_fault}
+use Rattle.std.proofs.lemmas.Result.{err_from_is_err_and}
+use Rattle.std.specs.Prelude.{Err, Ok, Option, Result}
+use Rattle.std.specs.Result.{IsErrAnd}
+use Rattle.trace.specs.Links.{firsts, link_checks, trace_checks, predecessors, held, LinkListAnswer}
+use Rattle.trace.proofs.Steps.{length-firsts}
+use Rattle.volumes.specs.Volumes.{volumes_from, volumes_checks}
+use Rattle.writer.specs.LaidOut.{Description, metrics_at}
+use Rattle.writer.specs.Plans.{plan_for}
+use Rattle.writer.specs.Private.{section_checks, SectionsAnswered}
+use Rattle.writer.specs.declared.draft.Plan.{Plan}
 
--- the last of some checks
-pub last_at : (n i at : ℕ) (f r : Option Fault) (x : Refusal) → r ≡ f → r ≡ Some (fault i at) → x ≡ refusal n i at → refuse x ≡ check n f
-last_at n i at f r x e q h = rw (sym e ∙ q, h) refl
+-- a check has passed, and `x` is what those after it decide
+passed : {A : Type 0} (n : ℕ) (f e : Option Fault) (later x : Decision A) → e ≡ f → accept tt ≡ check n e → x ≡ later → x ≡ (check n f >> later)
+passed n f e later x q h k = k ∙ sym (check_goes n f e later q tt h)
 
-pub last_nowhere : (n : ℕ) (f r : Option Fault) → r ≡ f → r ≡ None → accept tt ≡ check n f
-last_nowhere n f r e q = rw (sym e ∙ q) refl
+module _ (l : Layout) (d : Description) (m : ℕ) (p : Plan) (plan : p ≡ plan_for l d) where
+  abbrev pub Seven : Option Fault → Type 0
+  Seven f = f ≡ places_fault m p.trace
 
--- 7 and 8 have passed
-places_passed : (at : ℕ → ℕ) (s : List ℕ) (m : ℕ) → length s ≤ m → trace_checks at s m ≡ link_checks at s
-unfolding trace_checks
-places_passed at s m h = rw (← places_enough m (length s) h) refl
+  abbrev pub Eight : Option Fault → Type 0
+  Eight f = f ≡ entries_fault d.volume_count (volume_entry l) (length d.volumes)
 
-entries_passed : (s : List ℕ) (l : Layout) (start n : ℕ) → n * volume_entry l ≤ length s → volumes_checks s l start n ≡ volumes_from s l start n 0
-unfolding volumes_checks
-entries_passed s l start n h = rw (← entries_fit n (volume_entry l) (length s) h) refl
+  abbrev pub Nine : Option Fault → Type 0
+  Nine f = f ≡ misfit_fault l (metrics_at l) (in_pairs d.metrics) p.metrics (length d.strings)
 
-module _ (l : Layout) (p : Plan) (count : ℕ) (metrics trace strings volumes : List ℕ) (m : ℕ) where
-  abbrev all : Decision ℕ
-  all = table_checks l p count metrics trace strings volumes
+  abbrev pub Ten : Option Fault → Type 0
+  Ten f = f ≡ unsound_fault l (metrics_at l) (in_pairs d.metrics) p.metrics d.strings
+
+  abbrev at : ℕ → ℕ
+  at = entry_offset p.trace_at (trace_entry l)
 
   abbrev s : List ℕ
-  s = firsts trace p.trace
+  s = firsts d.trace p.trace
 
-  none_held : (f : Refusal) (buffer : List ℕ) (n : ℕ) → Err f ≡ Ok n → buffer ≡ predecessors s m
-  none_held f buffer n e = never cc
+  -- the checks by the plan
+  abbrev checks : Decision ℕ
+  checks =
+      check 7 (places_fault m p.trace)
+      >> (check 8 (entries_fault d.volume_count (volume_entry l) (length d.volumes))
+      >> (check 9 (misfit_fault l (metrics_at l) (in_pairs d.metrics) p.metrics (length d.strings))
+      >> (check 10 (unsound_fault l (metrics_at l) (in_pairs d.metrics) p.metrics d.strings)
+      >> (link_checks at s >>= λ n. (volumes_from d.volumes l p.volumes_at d.volume_count 0 >> accept n)))))
 
-  -- names
-  module _ (c : Result Unit Refusal) (e : decision_of c ≡ name_checks l metrics strings p.metrics) where
-    pub names_refused : (f : Refusal) (buffer : List ℕ) → c ≡ Err f → SectionsAnswered all s m (Err f) buffer
-    unfolding table_checks
-    names_refused f buffer q = record { answer = rw (sym e ∙ ap decision_of q) refl; holds = none_held f buffer }
+  by_plan : checks ≡ section_checks l d m
+  unfolding section_checks
+  by_plan = rw plan refl
 
-    module _ (q : c ≡ Ok tt) (room : p.trace ≤ m) (k : Result ℕ Refusal) (buffer : List ℕ)
-        (w : LinkAnswer [] trace p.trace_at (trace_entry l) p.trace m k buffer) where
-      a : LinkListAnswer (entry_offset p.trace_at (trace_entry l)) s m k buffer
-      a = rw from_pairs at w
+  -- the way out of a `?`
+  exit : (f : Refusal) (r : Result ℕ Refusal) (buffer : List ℕ) → IsErrAnd r (λ y. y ≡ f) → refuse f ≡ checks → SectionsAnswered l d m r buffer
+  exit f r buffer e h =
+      let q = err_from_is_err_and r e in
+      rw (q.1, q.2) (record { answer = h ∙ by_plan; holds = λ n z. never cc })
 
-      decided-links : decision_of k ≡ link_checks (entry_offset p.trace_at (trace_entry l)) s
-      decided-links = a.answer ∙ places_passed _ s m (omega (arith, length-firsts trace p.trace))
+  module _ (r : Result ℕ Refusal) (buffer : List ℕ) (f : Refusal) (out : IsErrAnd r (λ y. y ≡ f)) where
+    pub refused_7 : (a : Option Fault) → Seven a → refuse f ≡ check 7 a → SectionsAnswered l d m r buffer
+    refused_7 a e h = exit f r buffer out (check_stops 7 _ a _ e f h)
 
-      pub links_refused : (f : Refusal) → k ≡ Err f → SectionsAnswered all s m (Err f) buffer
-      unfolding table_checks
-      links_refused f z = record { answer = rw (sym e ∙ ap decision_of q, sym decided-links ∙ ap decision_of z) refl; holds = none_held f buffer }
+  module _ (a : Option Fault) (ea : Seven a) (ha : accept tt ≡ check 7 a) where
+    module _ (r : Result ℕ Refusal) (buffer : List ℕ) (f : Refusal) (out : IsErrAnd r (λ y. y ≡ f)) where
+      pub refused_8 : (b : Option Fault) → Eight b → refuse f ≡ check 8 b → SectionsAnswered l d m r buffer
+      refused_8 b e h = exit f r buffer out (passed 7 _ a _ _ ea ha (check_stops 8 _ b _ e f h))
 
-      -- volumes
-      module _ (n : ℕ) (z : k ≡ Ok n) (fits : count * volume_entry l ≤ length volumes) (v : Result Unit Refusal)
-          (b : decision_of v ≡ volumes_checks volumes l p.volumes_at count) where
-        decided-volumes : decision_of v ≡ volumes_from volumes l p.volumes_at count 0
-        decided-volumes = b ∙ entries_passed volumes l p.volumes_at count fits
+    module _ (b : Option Fault) (eb : Eight b) (hb : accept tt ≡ check 8 b) where
+      module _ (r : Result ℕ Refusal) (buffer : List ℕ) (f : Refusal) (out : IsErrAnd r (λ y. y ≡ f)) where
+        pub refused_9 : (g : Option Fault) → Nine g → refuse f ≡ check 9 g → SectionsAnswered l d m r buffer
+        refused_9 g e h = exit f r buffer out (passed 7 _ a _ _ ea ha (passed 8 _ b _ _ eb hb (check_stops 9 _ g _ e f h)))
 
-        pub volumes_refused : (f : Refusal) → v ≡ Err f → SectionsAnswered all s m (Err f) buffer
-        unfolding table_checks
-        volumes_refused f y =
-            record {
-              answer = rw (sym e ∙ ap decision_of q, sym decided-links ∙ ap decision_of z, sym decided-volumes ∙ ap decision_of y) refl;
-              holds = none_held f buffer;
-            }
+        pub refused_10 : (g k : Option Fault) → Nine g → accept tt ≡ check 9 g → Ten k → refuse f ≡ check 10 k → SectionsAnswered l d m r buffer
+        refused_10 g k eg hg e h =
+            exit f r buffer out (passed 7 _ a _ _ ea ha (passed 8 _ b _ _ eb hb (passed 9 _ g _ _ eg hg (check_stops 10 _ k _ e f h))))
 
-        pub all_passed : v ≡ Ok tt → SectionsAnswered all s m (Ok n) buffer
-        unfolding table_checks
-        all_passed y =
-            record {
-              answer = rw (sym e ∙ ap decision_of q, sym decided-links ∙ ap decision_of z, sym decided-volumes ∙ ap decision_of y) refl;
-              holds = λ i j. a.holds ∙ ap (λ (d : Decision ℕ). held d s m) (sym a.answer ∙ ap decision_of z);
-            }
+      module _ (g : Option Fault) (eg : Nine g) (hg : accept tt ≡ check 9 g) (k : Option Fault) (ek : Ten k) (hk : accept tt ≡ check 10 k)
+          (t : Result ℕ Refusal) (buffer : List ℕ) (w : LinkListAnswer at s m t buffer) where
+        -- 7 has passed, so the trace decides by 11 to 13
+        places : trace_checks at s m ≡ link_checks at s
+        unfolding trace_checks
+        places = check_goes 7 _ a _ (ea ∙ ap (places_fault m) (sym (length-firsts d.trace p.trace))) tt ha
 
--- ---- 7 and 8 before them
-regroup : (a b : Decision Unit) (c : Decision ℕ) → ((a >> b) >> c) ≡ (a >> (b >> c))
-regroup (accept tt) b c = refl
-regroup (refuse f) b c = refl
+        links : decision_of t ≡ link_checks at s
+        links = w.answer ∙ places
 
-module _ (l : Layout) (p : Plan) (g : Given) (metrics trace strings volumes : List ℕ) (m : ℕ)
-    (plan : p ≡ plan_by l (length metrics) (length trace) (length strings) (length volumes)) where
-  abbrev every : Decision ℕ
-  every = section_checks l (description_of [] g metrics trace strings volumes) m
+        -- what 7 to 13 leave to decide
+        so_far : (x : Decision ℕ) → x ≡ (decision_of t >>= λ n. (volumes_from d.volumes l p.volumes_at d.volume_count 0 >> accept n)) → x ≡ checks
+        so_far x e =
+            passed 7 _ a _ _ ea ha (passed 8 _ b _ _ eb hb (passed 9 _ g _ _ eg hg (passed 10 _ k _ _ ek hk
+            (e ∙ ap (λ (y : Decision ℕ). y >>= λ n. (volumes_from d.volumes l p.volumes_at d.volume_count 0 >> accept n)) links))))
 
-  in_turn : every
-      ≡ (check 7 (places_fault m p.trace)
-      >> (check 8 (entries_fault g.volume_count (volume_entry l) (length volumes)) >> table_checks l p g.volume_count metrics trace strings volumes))
-  unfolding section_checks table_checks
-  in_turn =
-      let nine = check 9 (misfit_fault l (metrics_at l) (in_pairs metrics) (length metrics / 2) (length strings)) in
-      let ten = check 10 (unsound_fault l (metrics_at l) (in_pairs metrics) (length metrics / 2) strings) in
-      rw plan
-      (ap (λ (d : Decision ℕ). check 7 (places_fault m (length trace / 2)) >> (check 8 (entries_fault g.volume_count (volume_entry l) (length volumes)) >> d))
-      (sym (regroup nine ten _)))
+        pub refused_links : (r : Result ℕ Refusal) (f : Refusal) → IsErrAnd r (λ y. y ≡ f) → t ≡ Err f → SectionsAnswered l d m r buffer
+        refused_links r f out e = exit f r buffer out (so_far (refuse f) (rw e refl))
 
-  pub too_few : (r : Option Fault) (i at : ℕ) (x : Refusal) (buffer : List ℕ) → r ≡ places_fault m p.trace → r ≡ Some (fault i at) → x ≡ refusal 7 i at
-      → SectionsAnswered every (firsts trace p.trace) m (Err x) buffer
-  too_few r i at x buffer e q h =
-      record {
-        answer = check_at 7 i at _ r _ x e q h ∙ sym in_turn;
-        holds = none_held l p g.volume_count metrics trace strings volumes m x buffer;
-      }
+        module _ (n : ℕ) (e : t ≡ Ok n) (v : Result Unit Refusal) (h : decision_of v ≡ volumes_checks d.volumes l p.volumes_at d.volume_count) where
+          -- 8 has passed, so the volumes decide by 14 and 15
+          volumes : decision_of v ≡ volumes_from d.volumes l p.volumes_at d.volume_count 0
+          unfolding volumes_checks
+          volumes = h ∙ check_goes 8 _ b _ eb tt hb
 
-  pub too_crowded : (s r : Option Fault) (i at : ℕ) (x : Refusal) (buffer : List ℕ) → s ≡ places_fault m p.trace → s ≡ None
-      → r ≡ entries_fault g.volume_count (volume_entry l) (length volumes) → r ≡ Some (fault i at) → x ≡ refusal 8 i at
-      → SectionsAnswered every (firsts trace p.trace) m (Err x) buffer
-  too_crowded s r i at x buffer a b e q h =
-      record {
-        answer = check_nowhere 7 _ s _ _ a b (check_at 8 i at _ r _ x e q h) ∙ sym in_turn;
-        holds = none_held l p g.volume_count metrics trace strings volumes m x buffer;
-      }
+          decided : (x : Decision ℕ) → x ≡ (decision_of v >> accept n) → x ≡ checks
+          decided x q = so_far x (q ∙ ap (λ (y : Decision Unit). y >> accept n) volumes ∙ rw e refl)
 
-  pub tables_decide : (s r : Option Fault) (k : Result ℕ Refusal) (buffer : List ℕ) → s ≡ places_fault m p.trace → s ≡ None
-      → r ≡ entries_fault g.volume_count (volume_entry l) (length volumes) → r ≡ None
-      → SectionsAnswered (table_checks l p g.volume_count metrics trace strings volumes) (firsts trace p.trace) m k buffer
-      → SectionsAnswered every (firsts trace p.trace) m k buffer
-  tables_decide s r k buffer a b e q h =
-      record { answer = check_nowhere 7 _ s _ _ a b (check_nowhere 8 _ r _ _ e q h.answer) ∙ sym in_turn; holds = h.holds }
+          pub refused_volumes : (r : Result ℕ Refusal) (f : Refusal) → IsErrAnd r (λ y. y ≡ f) → v ≡ Err f → SectionsAnswered l d m r buffer
+          refused_volumes r f out q = exit f r buffer out (decided (refuse f) (rw q refl))
+
+          pub all_passed : v ≡ Ok tt → SectionsAnswered l d m (Ok n) buffer
+          all_passed q =
+              record {
+                answer = decided (accept n) (rw q refl) ∙ by_plan;
+                holds = λ j z. w.holds ∙ ap (λ (y : Decision ℕ). held y s m) (sym w.answer ∙ ap decision_of e)
+                    ∙ ap (λ (q : Plan). predecessors (firsts d.trace q.trace) m) plan;
+              }

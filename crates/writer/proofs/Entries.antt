@@ -9,132 +9,133 @@ use lib.Seq.{drop-cons}
 use Rattle.lists.specs.Pairs.{first_of, second_of}
 use Rattle.layout.specs.Versions.{metrics_entry, name_offset_at, name_length_at, trace_entry}
 use Rattle.layout.specs.declared.Layout.{Layout}
+use Rattle.writer.specs.declared.draft.Entry.{Entry}
 use Rattle.writer.specs.LaidOut.{number, bytes_of, spread, entries, metrics_bytes, trace_bytes}
-use Rattle.writer.specs.Private.{patch, Ordered, with_gaps, numbers_at, Writable}
+use Rattle.writer.specs.Plans.{Writable}
+use Rattle.writer.specs.Private.{patch, Ordered, with_gaps, numbers_at, pair_of, pair_bytes}
 use Rattle.writer.proofs.Bytes.{length_bytes, length_entries}
 use Rattle.writer.proofs.Spread.{ordered_end, length-spread}
 use Rattle.writer.proofs.Stores.{patch-none, patch_join, laid_long, then_laid}
-
--- a trace entry
-pub link_laid : (size a b a' b' : ℕ) → size ≡ 12 → a ≡ a' → b ≡ b' → (bytes_of 4 a ++ bytes_of 4 b) ++ bytes_of 4 0 ≡ spread 0
-    (number 0 4 a' ∷ number 4 4 b' ∷ []) size
-unfolding spread bytes_of
-link_laid size a b a' b' e f g = rw (e, f, g) refl
 
 -- zeros and a number
 pub field_size : (k n : ℕ) → length (replicate k 0 ++ bytes_of 4 n) ≡ k + 4
 field_size k n = length-append (replicate k 0) (bytes_of 4 n) ∙ omega (arith, length-replicate {A = ℕ} k 0, length_bytes 4 n)
 
--- a metrics entry
-pub metric_laid : (offset units size a b a' b' i j k : ℕ) → i ≡ offset → j ≡ units - (offset + 4) → k ≡ size - (units + 4) → a ≡ a' → b ≡ b'
-    → ((replicate i 0 ++ bytes_of 4 a) ++ (replicate j 0 ++ bytes_of 4 b)) ++ replicate k 0 ≡ spread 0 (number offset 4 a' ∷ number units 4 b' ∷ []) size
+-- an entry
+pub pair_laid : (e : Entry) (a b i j k : ℕ) → i ≡ e.first → j ≡ e.second - (e.first + 4) → k ≡ e.size - (e.second + 4)
+    → ((replicate i 0 ++ bytes_of 4 a) ++ (replicate j 0 ++ bytes_of 4 b)) ++ replicate k 0 ≡ pair_of e a b
 unfolding spread
-metric_laid offset units size a b a' b' i j k e f g p q =
-    rw (e, f, g, p, q, length_bytes 4 a', length_bytes 4 b', sub-zero offset)
-    (append_assoc (replicate offset 0 ++ bytes_of 4 a') (replicate (units - (offset + 4)) 0 ++ bytes_of 4 b') (replicate (size - (units + 4)) 0)
-    ∙ append_assoc (replicate offset 0) (bytes_of 4 a') _
-    ∙ ap (λ (s : List ℕ). replicate offset 0 ++ (bytes_of 4 a' ++ s)) (append_assoc (replicate (units - (offset + 4)) 0) (bytes_of 4 b') _))
+pair_laid e a b i j k p q r =
+    let x = e.first in
+    let y = e.second in
+    rw (p, q, r, length_bytes 4 a, length_bytes 4 b, sub-zero x)
+    (append_assoc (replicate x 0 ++ bytes_of 4 a) (replicate (y - (x + 4)) 0 ++ bytes_of 4 b) (replicate (e.size - (y + 4)) 0)
+    ∙ append_assoc (replicate x 0) (bytes_of 4 a) _
+    ∙ ap (λ (s : List ℕ). replicate x 0 ++ (bytes_of 4 a ++ s)) (append_assoc (replicate (y - (x + 4)) 0) (bytes_of 4 b) _))
 
 -- ---- numbers at their places: what is put and what is left make up the whole
-pub record Putting (o places values : List ℕ) (start : ℕ) (output : List ℕ) (from i : ℕ) : Type 0 where
-  pub ordered : Ordered from (numbers_at (drop i places) (drop i values)) (length o)
-  pub whole : patch output from (with_gaps from (numbers_at (drop i places) (drop i values))) ≡ patch o start (with_gaps start (numbers_at places values))
+pub record Putting (o : List ℕ) (fields : List (ℕ × ℕ)) (start : ℕ) (output : List ℕ) (from i : ℕ) : Type 0 where
+  pub ordered : Ordered from (numbers_at (drop i fields)) (length o)
+  pub whole : patch output from (with_gaps from (numbers_at (drop i fields))) ≡ patch o start (with_gaps start (numbers_at fields))
   pub long : length output ≡ length o
-  pub low : i ≤ length places
-  pub same : length places ≡ length values
 
-pub putting_start : {o places values : List ℕ} {start : ℕ} → length places ≡ length values → Ordered start (numbers_at places values) (length o)
-    → Putting o places values start o start 0
-putting_start s h = record { ordered = h; whole = refl; long = refl; low = omega arith; same = s }
+pub putting_start : {o : List ℕ} {fields : List (ℕ × ℕ)} {start : ℕ} → Ordered start (numbers_at fields) (length o) → Putting o fields start o start 0
+putting_start h = record { ordered = h; whole = refl; long = refl }
 
-module _ {o places values : List ℕ} {start : ℕ} {output : List ℕ} {from i : ℕ} (g : Putting o places values start output from i) where
-  fields : i < length places
-      → numbers_at (drop i places) (drop i values) ≡ number (get_or places i 0) 4 (get_or values i 0) ∷ numbers_at (drop (suc i) places) (drop (suc i) values)
-  fields l = rw (drop-cons places i 0 l, drop-cons values i 0 (omega (arith, g.same))) refl
+module _ {o : List ℕ} {fields : List (ℕ × ℕ)} {start : ℕ} {output : List ℕ} {from i : ℕ} (g : Putting o fields start output from i) (d : ℕ × ℕ) (l : i < length fields) where
+  abbrev f : ℕ × ℕ
+  f = get_or fields i d
+
+  next : numbers_at (drop i fields) ≡ number f.0 4 f.1 ∷ numbers_at (drop (suc i) fields)
+  next = rw (drop-cons fields i d l) refl
 
   -- the next place lies behind what is put, and there is room
-  pub putting_room : i < length places → (from ≤ get_or places i 0) × (get_or places i 0 + 4 ≤ length output)
-  putting_room l =
-      let h = rw (fields l) at g.ordered in
-      (h.0, omega (arith, ordered_end _ (numbers_at (drop (suc i) places) (drop (suc i) values)) _ h.1, length_bytes 4 (get_or values i 0), g.long))
+  pub putting_room : (from ≤ f.0) × (f.0 + 4 ≤ length output)
+  putting_room =
+      let h = rw next at g.ordered in
+      (h.0, omega (arith, ordered_end _ (numbers_at (drop (suc i) fields)) _ h.1, length_bytes 4 f.1, g.long))
 
-  pub putting_step : (next : List ℕ) → i < length places
-      → next ≡ patch output from (replicate (get_or places i 0 - from) 0 ++ bytes_of 4 (get_or values i 0))
-      → Putting o places values start next (get_or places i 0 + 4) (i + 1)
+  pub putting_step : (output' : List ℕ) → output' ≡ patch output from (replicate (f.0 - from) 0 ++ bytes_of 4 f.1)
+      → Putting o fields start output' (f.0 + 4) (i + 1)
   unfolding with_gaps
-  putting_step next l e =
-      let at = get_or places i 0 in
-      let z : List ℕ = replicate (at - from) 0 in
-      let b = bytes_of 4 (get_or values i 0) in
-      let r = putting_room l in
-      let n : length (z ++ b) ≡ at + 4 - from =
-      length-append z b ∙ omega (arith, length-replicate {A = ℕ} (at - from) 0, length_bytes 4 (get_or values i 0), r.0) in
+  putting_step output' e =
+      let z : List ℕ = replicate (f.0 - from) 0 in
+      let b = bytes_of 4 f.1 in
+      let r = putting_room in
+      let n : length (z ++ b) ≡ f.0 + 4 - from =
+      length-append z b ∙ omega (arith, length-replicate {A = ℕ} (f.0 - from) 0, length_bytes 4 f.1, r.0) in
       let k : i + 1 ≡ suc i = omega arith in
-      let s : at + length b ≡ at + 4 = omega (arith, length_bytes 4 (get_or values i 0)) in
-      let rest = numbers_at (drop (suc i) places) (drop (suc i) values) in
-      let h = rw (fields l) at g.ordered in
-      let w = rw (fields l) at g.whole in
+      let s : f.0 + length b ≡ f.0 + 4 = omega (arith, length_bytes 4 f.1) in
+      let rest = numbers_at (drop (suc i) fields) in
+      let h = rw next at g.ordered in
+      let w = rw next at g.whole in
       record {
         ordered = rw (k, ← s) h.1;
         whole = rw (k, e, ← s)
-            (patch_join output from (z ++ b) (with_gaps (at + length b) rest) (at + length b) (omega (arith, n, r.0)) ∙ w);
+            (patch_join output from (z ++ b) (with_gaps (f.0 + length b) rest) (f.0 + length b) (omega (arith, n, r.0)) ∙ w);
         long = laid_long _ _ _ _ e ∙ g.long;
-        low = omega arith;
-        same = g.same;
       }
 
-  pub putting_end : length places ≤ i → output ≡ patch o start (with_gaps start (numbers_at places values))
-  unfolding with_gaps
-  putting_end l =
-      let e : drop i places ≡ [] = drop_of_length-le places l in
-      patch-none output from ∙ rw e at g.whole
+pub putting_end : {o : List ℕ} {fields : List (ℕ × ℕ)} {start : ℕ} {output : List ℕ} {from i : ℕ} → Putting o fields start output from i → length fields ≤ i
+    → output ≡ patch o start (with_gaps start (numbers_at fields))
+unfolding with_gaps
+putting_end {fields = fields} {output = output} {from = from} {i = i} g l =
+    let e : drop i fields ≡ [] = drop_of_length-le fields l in
+    patch-none output from ∙ rw e at g.whole
 
 -- ---- entries of one size one behind another
+pub ordered_pair : (e : Entry) (a b : ℕ) → Ordered 0 (number e.first 4 a ∷ number e.second 4 b ∷ []) e.size
+unfolding bytes_of
+ordered_pair e a b = omega arith
+
+pub pair_size : (e : Entry) (table : List ℕ) (i : ℕ) → length (pair_bytes e table i) ≡ e.size
+pair_size e table i = length-spread 0 _ e.size (ordered_pair e (first_of table i) (second_of table i)) ∙ omega arith
+
+-- those of the two arrays
+abbrev pub metrics_shape : (l : Layout) → Writable l → Entry
+metrics_shape l w = record { first = name_offset_at l; second = name_length_at l; size = metrics_entry l; ordered = (w.name_length, w.metrics) }
+
+abbrev pub trace_shape : (l : Layout) → Writable l → Entry
+trace_shape l w = record { first = 0; second = 4; size = trace_entry l; ordered = (omega arith, omega (arith, w.trace)) }
+
 module _ (l : Layout) (w : Writable l) (table : List ℕ) where
-  pub ordered_metrics : (i : ℕ) → Ordered 0 (number (name_offset_at l) 4 (first_of table i) ∷ number (name_length_at l) 4 (second_of table i) ∷ []) (metrics_entry l)
-  unfolding bytes_of
-  ordered_metrics i = omega arith
-
-  pub ordered_trace : (i : ℕ) → Ordered 0 (number 0 4 (first_of table i) ∷ number 4 4 (second_of table i) ∷ []) (trace_entry l)
-  unfolding bytes_of
-  ordered_trace i = omega arith
-
   pub metrics_size : (i : ℕ) → length (metrics_bytes l table i) ≡ metrics_entry l
-  metrics_size i = length-spread 0 _ (metrics_entry l) (ordered_metrics i) ∙ omega arith
+  metrics_size i = pair_size (metrics_shape l w) table i
 
   pub trace_size : (i : ℕ) → length (trace_bytes l table i) ≡ trace_entry l
-  trace_size i = length-spread 0 _ (trace_entry l) (ordered_trace i) ∙ omega arith
+  trace_size i = pair_size (trace_shape l w) table i
+
+  pub ordered_metrics : (i : ℕ) → Ordered 0 (number (name_offset_at l) 4 (first_of table i) ∷ number (name_length_at l) 4 (second_of table i) ∷ []) (metrics_entry l)
+  ordered_metrics i = ordered_pair (metrics_shape l w) (first_of table i) (second_of table i)
+
+  pub ordered_trace : (i : ℕ) → Ordered 0 (number 0 4 (first_of table i) ∷ number 4 4 (second_of table i) ∷ []) (trace_entry l)
+  ordered_trace i = ordered_pair (trace_shape l w) (first_of table i) (second_of table i)
 
 -- the loop that puts them: after i turns the first i are there
 pub record Laying (o : List ℕ) (at : ℕ) (f : ℕ → List ℕ) (size count : ℕ) (output : List ℕ) (i : ℕ) : Type 0 where
   pub sized : (k : ℕ) → length (f k) ≡ size
   pub room : at + count * size ≤ length o
   pub placed : output ≡ patch o at (entries f i)
-  pub low : i ≤ count
 
 pub laying_start : {o : List ℕ} {at : ℕ} {f : ℕ → List ℕ} {size count : ℕ} → ((k : ℕ) → length (f k) ≡ size) → at + count * size ≤ length o
     → Laying o at f size count o 0
 unfolding entries
-laying_start {o} {at} sized room = record { sized = sized; room = room; placed = patch-none o at; low = omega arith }
+laying_start {o} {at} sized room = record { sized = sized; room = room; placed = patch-none o at }
 
 module _ {o : List ℕ} {at : ℕ} {f : ℕ → List ℕ} {size count : ℕ} {output : List ℕ} {i : ℕ} (g : Laying o at f size count output i) where
   pub laying_long : length output ≡ length o
   laying_long = laid_long _ _ _ _ g.placed
 
   pub laying_room : i < count → at + i * size + size ≤ length output
-  laying_room l = let m : suc i * size ≤ count * size = mul-le-mul_right size l in omega (arith, laying_long, suc-mul i size)
+  laying_room l = let m : suc i * size ≤ count * size = mul-le-mul_right size l in omega (arith, laying_long, suc-mul i size, g.room)
 
-  pub laying_step : {output' : List ℕ} {next : ℕ} → i < count → next ≡ at + i * size → output' ≡ patch output next (f i) → Laying o at f size count output' (i + 1)
+  pub laying_step : {output' : List ℕ} {next : ℕ} → next ≡ at + i * size → output' ≡ patch output next (f i) → Laying o at f size count output' (i + 1)
   unfolding entries
-  laying_step {output'} {next} l n e =
+  laying_step {output'} {next} n e =
       let k : i + 1 ≡ suc i = omega arith in
       let s = length_entries f size g.sized i in
       record {
         sized = g.sized;
         room = g.room;
         placed = rw k (then_laid o output output' (entries f i) (f i) (entries f i ++ f i) at next g.placed e (omega (arith, s)) refl);
-        low = omega arith;
       }
-
-  pub laying_end : count ≤ i → output ≡ patch o at (entries f count)
-  laying_end l = let e : i ≡ count = omega (arith, g.low) in rw (← e) g.placed

@@ -12,7 +12,8 @@ use Rattle.layout.specs.declared.Version.{Version}
 use Rattle.layout.specs.declared.Version.TheVariants.{V17, V23, V26, V30}
 use Rattle.layout.specs.declared.Layout.{Layout}
 use Rattle.writer.specs.LaidOut.{Numbers, number, bytes_of, unit_bytes, spread, Description, name_kept, laid_size, head_fields, head}
-use Rattle.writer.specs.Private.{Ordered, Writable}
+use Rattle.writer.specs.Plans.{Writable}
+use Rattle.writer.specs.Private.{Ordered}
 use Rattle.writer.proofs.Bytes.{length-units, le_left, le_right, le-units, le_zeros}
 use Rattle.writer.proofs.Spread.{length-spread, spread-drop, field_number, field_at, fields_after}
 use Rattle.writer.proofs.Name.{carried_most, carried_low}

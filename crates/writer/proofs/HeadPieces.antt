@@ -5,12 +5,14 @@ use Prim.Native.Nat.{ℕ, ◌+◌, ◌-◌, ◌*◌, ◌/◌, ◌%◌, ◌≤◌
 use native.Mathlib.Nat.{sub_self, add-mul-div_left}
 use native.Mathlib.Omega.{arith}
 use lib.ListN.{length, replicate}
+use Rattle.layout.specs.Head.{version_at, signature_at, declared_size_at, program_name_at}
 use Rattle.layout.specs.Versions.{run_time_at, run_count_at, first_section}
 use Rattle.layout.specs.declared.Layout.{Layout}
-use Rattle.writer.specs.declared.Plan.{Plan}
-use Rattle.writer.specs.declared.Given.{Given}
-use Rattle.writer.specs.LaidOut.{Field, number, bytes_of, unit_bytes}
-use Rattle.writer.specs.Private.{Ordered, with_gaps, Writable, fields_behind, head_by}
+use Rattle.writer.specs.declared.contents.Contents.{Contents}
+use Rattle.writer.specs.declared.draft.Plan.{Plan}
+use Rattle.writer.specs.LaidOut.{Field, number, bytes_of, unit_bytes, spread}
+use Rattle.writer.specs.Plans.{Writable}
+use Rattle.writer.specs.Private.{Ordered, with_gaps, fields_behind}
 use Rattle.writer.proofs.Bytes.{length_bytes, length-units}
 use Rattle.writer.proofs.Spread.{spread-joined, joined-append, joined_same, length-joined}
 
@@ -53,7 +55,18 @@ time_joined at t fs from =
     rw (length_bytes 4 (t % 4294967296), length_bytes 4 (t / 4294967296), length_bytes 8 t, sub_self (at + 4), n, bytes_split t)
     (sym (append_assoc (z ++ lo) hi (with_gaps (at + 8) fs)) ∙ ap (λ (s : List ℕ). s ++ with_gaps (at + 8) fs) (append_assoc z lo hi))
 
-module _ (l : Layout) (w : Writable l) (p : Plan) (g : Given) where
+-- the head by a plan
+abbrev pub head_by : ℕ → Layout → Plan → Contents → List ℕ → List ℕ
+head_by version l p g units =
+    spread 0
+    (number version_at 4 version
+    ∷ number signature_at 4 0x41434353
+    ∷ number declared_size_at 4 p.size
+    ∷ record { at = program_name_at; bytes = unit_bytes units }
+    ∷ fields_behind l p g)
+    (first_section l)
+
+module _ (l : Layout) (w : Writable l) (p : Plan) (g : Contents) where
   -- those before the time
   abbrev before : List Field
   before =

@@ -26,7 +26,8 @@ use Rattle.names.specs.Names.{name_at, name_units}
 use Rattle.trace.specs.Links.{nexts, firsts}
 use Rattle.writer.specs.LaidOut.{Numbers, Description, number, head_fields, entries, head, metrics_bytes, trace_bytes, laid_by}
 use Rattle.writer.specs.LaidOut.{name_kept, pairs, metrics_at, trace_at, strings_at, volumes_at, laid_size}
-use Rattle.writer.specs.Private.{Writable, head_for, links_in}
+use Rattle.writer.specs.Plans.{Writable}
+use Rattle.writer.specs.Private.{head_for, links_in}
 use Rattle.writer.proofs.Facts.{StartFacts, LaidFacts}
 use Rattle.writer.proofs.Bytes.{le_left, length_entries, le_entry}
 use Rattle.writer.proofs.Spread.{field_number, field_at}

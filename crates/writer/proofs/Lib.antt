@@ -1,10 +1,9 @@
-pub mod Answering
-pub mod HeadPieces
 pub mod Bytes
-pub mod Deciding
 pub mod Entries
 pub mod Facts
+pub mod FilePieces
 pub mod Head
+pub mod HeadPieces
 pub mod Laid
 pub mod Name
 pub mod Planning
@@ -12,4 +11,5 @@ pub mod Runs
 pub mod Sections
 pub mod Spread
 pub mod Stores
-pub mod FilePieces
+pub mod Deciding
+pub mod Answering

@@ -1,68 +1,47 @@
 -- A plan within the limit: what its lengths add up to, and where its sections meet.
 use mathlib.Core.Path.{◌≡◌, refl, sym, ap, ◌∙◌}
-use mathlib.Core.Bool.{Bool}
+use mathlib.Core.Bool.{Bool, true, false, not}
 use mathlib.Core.List.{List, [], ◌∷◌}
-use mathlib.Core.Logic.{⊎_elim}
-use Prim.Native.Nat.{ℕ, zero, suc, ◌+◌, ◌*◌, ◌/◌, ◌≤◌, ◌<◌}
-use native.Mathlib.Nat.{mul-one, mul-le-mul_left, not-suc-le-zero, le_of_suc-le-suc, eq-or-lt_of_le}
+use Prim.Native.Nat.{ℕ, zero, suc, ◌+◌, ◌*◌, ◌≤◌, ◌<◌, max, min}
+use native.Mathlib.Nat.{mul-one, mul-le-mul_left}
 use native.Mathlib.Omega.{arith}
-use borrow.Author.Tests.{lt-ltb, le-ltb, eq-eqb, ne_eqb}
-use lib.Dec.{eqb}
-use lib.ListN.{length, get_or, take, drop, length-take, take-append-drop}
-use lib.Seq.{take-take, take-append_seam}
+use borrow.Author.Tests.{lt-ltb, le-ltb, ltb-true, ltb-false, eq-eqb, ne_eqb}
+use lib.Dec.{eqb, ltb}
+use lib.ListN.{length, take, drop, length-take, take-append-drop}
+use lib.Seq.{take-take, take-append_seam, take_all}
+use Rattle.std.specs.List.{prefix_len}
 use Rattle.lists.specs.Count.{pick}
 use Rattle.lists.proofs.Tests.{by_test}
-use Rattle.layout.specs.Versions.{first_section, metrics_entry, trace_entry, size_limit}
+use Rattle.layout.specs.Versions.{metrics_entry, trace_entry, size_limit}
 use Rattle.layout.specs.declared.Layout.{Layout}
-use Rattle.writer.specs.declared.Plan.{Plan}
-use Rattle.writer.specs.declared.Draft.{Draft}
-use Rattle.writer.specs.LaidOut.{Description, before_zero}
-use Rattle.writer.specs.Private.{Writable, plan_by, planned, Ready}
+use Rattle.writer.specs.LaidOut.{Description, before_zero, pairs, laid_size}
+use Rattle.writer.specs.Plans.{Writable, plan_for, planned}
+use Rattle.writer.specs.Private.{carried_units}
 use Rattle.std.specs.Prelude.{None, Some}
 
 -- ---- the plan
-module _ (l : Layout) (w : Writable l) (m t s v : ℕ) where
+module _ (l : Layout) (w : Writable l) (d : Description) where
   at_least : (a e : ℕ) → 1 ≤ e → a ≤ a * e
   at_least a e h = let z : a * 1 ≤ a * e = mul-le-mul_left a h in omega (arith, mul-one a)
 
-  pub many_metrics : m / 2 ≤ (plan_by l m t s v).size
-  many_metrics = omega (arith, at_least (m / 2) (metrics_entry l) (omega arith))
+  -- the longest of its parts is not longer than the file
+  pub many_parts : (n : ℕ) → n < max (max (max (pairs d.metrics) (pairs d.trace)) (length d.strings)) (length d.volumes) → n < laid_size l d
+  many_parts n h =
+      omega (arith, at_least (pairs d.metrics) (metrics_entry l) (omega arith), at_least (pairs d.trace) (trace_entry l) (omega arith))
 
-  pub many_links : t / 2 ≤ (plan_by l m t s v).size
-  many_links = omega (arith, at_least (t / 2) (trace_entry l) (omega arith))
+  pub plan_large : size_limit < laid_size l d → None ≡ planned l d
+  plan_large h = sym (ap (λ (b : Bool). pick b None (Some (plan_for l d))) (lt-ltb _ _ h))
 
-  pub plan_large : size_limit < (plan_by l m t s v).size → None ≡ planned l m t s v
-  plan_large h = sym (ap (λ (b : Bool). pick b None (Some (plan_by l m t s v))) (lt-ltb _ _ h))
-
-  pub plan_fits : (plan_by l m t s v).size ≤ size_limit → Some (plan_by l m t s v) ≡ planned l m t s v
-  plan_fits h = sym (ap (λ (b : Bool). pick b None (Some (plan_by l m t s v))) (le-ltb _ _ h))
+  pub plan_fits : laid_size l d ≤ size_limit → Some (plan_for l d) ≡ planned l d
+  plan_fits h = sym (ap (λ (b : Bool). pick b None (Some (plan_for l d))) (le-ltb _ _ h))
 
   -- no sum wraps
-  pub plan_low : m / 2 ≤ size_limit → t / 2 ≤ size_limit → s ≤ size_limit → v ≤ size_limit → (plan_by l m t s v).size ≤ 4294967296
-  plan_low a b c d =
-      let x : m / 2 * metrics_entry l ≤ m / 2 * 32 = mul-le-mul_left (m / 2) w.metrics_small in
-      let y : t / 2 * trace_entry l ≤ t / 2 * 12 = mul-le-mul_left (t / 2) (omega arith) in
+  pub plan_low : pairs d.metrics ≤ size_limit → pairs d.trace ≤ size_limit → length d.strings ≤ size_limit → length d.volumes ≤ size_limit
+      → laid_size l d ≤ 4294967296
+  plan_low a b c e =
+      let x : pairs d.metrics * metrics_entry l ≤ pairs d.metrics * 32 = mul-le-mul_left (pairs d.metrics) w.metrics_small in
+      let y : pairs d.trace * trace_entry l ≤ pairs d.trace * 12 = mul-le-mul_left (pairs d.trace) (omega arith) in
       omega arith
-
--- ---- the places of a plan
-module _ (w : Draft) (d : Description) (r : Ready w d) where
-  abbrev l : Layout
-  l = w.layout
-
-  abbrev p : Plan
-  p = w.plan
-
-  pub trace_place : p.trace_at ≡ first_section l + p.metrics * metrics_entry l
-  trace_place = rw r.plan refl
-
-  pub strings_place : p.strings_at ≡ p.trace_at + p.trace * trace_entry l
-  strings_place = rw r.plan refl
-
-  pub volumes_place : p.volumes_at ≡ p.strings_at + length d.strings
-  volumes_place = rw r.plan refl
-
-  pub size_place : p.size ≡ p.volumes_at + length d.volumes
-  size_place = rw r.plan refl
 
 -- ---- the name
 
@@ -82,38 +61,34 @@ carried_prefix us =
     ∙ ap (take k) (sym (take-append-drop 30 s))
     ∙ take-append_seam (take 30 s) (drop 30 s)
 
--- how long it is: so many units are not zero, and then comes a zero, or the end, or there are 30
-pub record Counting (us : List ℕ) (k : ℕ) : Type 0 where
-  pub low : k ≤ length us
-  pub most : k ≤ 30
-  pub nonzero : (j : ℕ) → j < k → get_or us j 0 ≡ 0 → ⊥
-
-at_zero : (us : List ℕ) (k : ℕ) → k ≤ length us → ((j : ℕ) → j < k → get_or us j 0 ≡ 0 → ⊥) → (k < length us → get_or us k 0 ≡ 0) → length (before_zero us) ≡ k
+-- the code looks at the first 30 units, up to a zero
+before-take : (n : ℕ) (us : List ℕ) → before_zero (take n us) ≡ take n (before_zero us)
 unfolding before_zero
-at_zero [] k l h z = omega arith
-at_zero (u ∷ us) zero l h z = rw (eq-eqb u 0 (z (omega arith))) refl
-at_zero (u ∷ us) (suc k) l h z =
-    rw (ne_eqb u 0 (h 0 (omega arith))) (ap suc (at_zero us k (le_of_suc-le-suc l) (λ j m. h (suc j) (omega arith)) (λ m. z (omega arith))))
+before-take zero us = refl
+before-take (suc n) [] = refl
+before-take (suc n) (u ∷ us) = by_test (eqb u 0) (λ q. rw q refl) (λ q. rw q (ap (λ (s : List ℕ). u ∷ s) (before-take n us)))
 
-at_most : (us : List ℕ) (k : ℕ) → k ≤ length us → ((j : ℕ) → j < k → get_or us j 0 ≡ 0 → ⊥) → k ≤ length (before_zero us)
+until-zero : (us : List ℕ) → take (prefix_len (λ x. not (eqb x 0)) us) us ≡ before_zero us
 unfolding before_zero
-at_most us zero l h = omega arith
-at_most [] (suc k) l h = absurd (not-suc-le-zero l)
-at_most (u ∷ us) (suc k) l h = rw (ne_eqb u 0 (h 0 (omega arith))) (let m = at_most us k (le_of_suc-le-suc l) (λ j m. h (suc j) (omega arith)) in omega arith)
+until-zero [] = refl
+until-zero (u ∷ us) = by_test (eqb u 0) (λ q. rw (q, prefix_len) refl) λ q.
+    let n = prefix_len (λ x. not (eqb x 0)) us in
+    let k : 1 + n ≡ suc n = omega arith in
+    rw (q, prefix_len) (ap (λ (j : ℕ). take j (u ∷ us)) k ∙ ap (λ (s : List ℕ). u ∷ s) (until-zero us))
 
-pub counted_zero : (us : List ℕ) (k : ℕ) → Counting us k → (k < length us → get_or us k 0 ≡ 0) → k ≡ length (take 30 (before_zero us))
-counted_zero us k c z = omega (arith, length-take 30 (before_zero us), at_zero us k c.low c.nonzero z, c.most)
+first-units : (us : List ℕ) → take (min (length us) 30) us ≡ take 30 us
+first-units us =
+    by_test (ltb (length us) 30)
+    (λ q. take_all _ us (omega (arith, ltb-true _ _ q)) ∙ sym (take_all 30 us (omega (arith, ltb-true _ _ q))))
+    (λ q. let n : min (length us) 30 ≡ 30 = omega (arith, ltb-false _ _ q) in ap (λ (n : ℕ). take n us) n)
 
-pub counted_most : (us : List ℕ) (k : ℕ) → Counting us k → k ≡ 30 → k ≡ length (take 30 (before_zero us))
-counted_most us k c e = omega (arith, length-take 30 (before_zero us), at_most us k c.low c.nonzero)
+pub counted : (us : List ℕ) (n k : ℕ) → n ≡ min (length us) 30 → k ≡ length (take (prefix_len (λ x. not (eqb x 0)) (take n us)) (take n us))
+    → k ≡ length (take 30 (before_zero us))
+counted us n k e h =
+    h ∙ ap length (until-zero (take n us) ∙ ap (λ (j : ℕ). before_zero (take j us)) e ∙ ap before_zero (first-units us) ∙ before-take 30 us)
 
-pub counting_start : (us : List ℕ) → Counting us 0
-counting_start us = record { low = omega arith; most = omega arith; nonzero = λ j l e. not-suc-le-zero l }
+pub carried_some : (us : List ℕ) (k : ℕ) → k ≡ length (take 30 (before_zero us)) → k < 30 → Some k ≡ carried_units us
+carried_some us k e l = let n : eqb k 30 ≡ false = ne_eqb k 30 (λ q. absurd (omega arith)) in rw (← e, n) refl
 
-pub counting_step : (us : List ℕ) (k : ℕ) → Counting us k → k < length us → (k ≡ 30 → ⊥) → (get_or us k 0 ≡ 0 → ⊥) → Counting us (k + 1)
-counting_step us k c l n z =
-    record {
-      low = omega arith;
-      most = omega (arith, c.most);
-      nonzero = λ j h e. ⊎_elim (λ (q : j ≡ k). z (rw (← q) e)) (λ m. c.nonzero j m e) (eq-or-lt_of_le (omega arith));
-    }
+pub carried_none : (us : List ℕ) (k : ℕ) → k ≡ length (take 30 (before_zero us)) → 30 ≤ k → None ≡ carried_units us
+carried_none us k e l = let n : eqb k 30 ≡ true = eq-eqb k 30 (omega (arith, e, length-take 30 (before_zero us))) in rw (← e, n) refl

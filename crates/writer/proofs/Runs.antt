@@ -21,7 +21,7 @@ use Rattle.incremental.specs.declared.Refusal.{Refusal}
 use Rattle.incremental.proofs.Plan.{onward, run_then, answer_then, run_decide, reach_here, check_passed, check_fault, given_some, given_none}
 use Rattle.sections.specs.Fields.{declared_size, signature_fault, part, link_count, places_fault, entries_fault}
 use Rattle.sections.proofs.Cases.{signature_right, size_high, size_right, links_all}
-use Rattle.head.specs.Checks.{version, units, start_plan, open_plan}
+use Rattle.head.specs.Checks.{start_plan, open_plan}
 use Rattle.head.specs.Opened.{OpenFacts}
 use Rattle.head.specs.declared.checks.Opening.{Opening}
 use Rattle.head.proofs.Facts.{open_sound}
@@ -35,12 +35,12 @@ use Rattle.reader.proofs.Early.{names_required_low, trace_required_low, volumes_
 use Rattle.reader.proofs.Taken.{misfit_take, unsound_take, nexts_take, volumes_take, record_take}
 use Rattle.reader.proofs.Rest.{read_rest}
 use Rattle.writer.specs.LaidOut.{Description, name_kept, pairs, metrics_at, volumes_at, laid_size}
-use Rattle.writer.specs.Private.{Writable, head_for, links_in, section_checks, record_for, acceptable_for, described}
+use Rattle.writer.specs.Plans.{Writable}
+use Rattle.writer.specs.Private.{head_for, links_in, section_checks, record_for, acceptable_for, described}
 use Rattle.writer.proofs.Facts.{StartFacts, LaidFacts}
 use Rattle.writer.proofs.Sections.{size_stands, opens}
 use Rattle.incremental.specs.declared.Fault.{Fault}
 use Rattle.std.specs.Prelude.{None, Option, Some}
-use Rattle.incremental.specs.Decision.{fault}
 
 -- ---- a run, by what its lines decide
 
@@ -119,13 +119,13 @@ module _ (v : Version) (l : Layout) (d : Description) (p : List ℕ) (m : ℕ) (
 
     -- 1 and 2 pass
     begins : {B : Type 0} (g : Version → Plan B)
-        → run (and_then (reach 4) λ b. and_then (given 1 version_at (version (version_of (le 4 b version_at)))) λ v.
+        → run (and_then (reach 4) λ b. and_then (given 1 version_at (version_of (le 4 b version_at))) λ v.
         and_then (reach 8) λ b. and_then (check 2 (signature_fault b)) λ _. g v) p
         ≡ run (g v) p
     begins g =
         let h = long-head in
         reach_here 4 _ p (omega arith)
-        ∙ given_some 1 _ _ _ p v (ap (λ (n : ℕ). version (version_of n)) (le-take 4 4 p 0 (omega arith) ∙ s.version) ∙ ap version known)
+        ∙ given_some 1 _ _ _ p v (ap (λ (n : ℕ). version_of n) (le-take 4 4 p 0 (omega arith) ∙ s.version) ∙ known)
         ∙ reach_here 8 _ p (omega arith)
         ∙ check_passed 2 _ _ p (sym (signature_right (take 8 p) _ refl (le-take 4 8 p 4 (omega arith) ∙ s.signature)))
 
@@ -155,7 +155,7 @@ module _ (v : Version) (l : Layout) (d : Description) (p : List ℕ) (m : ℕ) (
         ∙ reach_here 16 _ p (omega arith)
         ∙ check_passed 3 _ _ p (sym (size_right (layout_of v) _ _ size-reads (rw (← laid) (omega arith)) (omega arith)))
         ∙ reach_here 76 _ p (omega arith)
-        ∙ given_none 4 _ _ _ p (ap units {y = None} (s.ended ∙ rw (eq-eqb (length (name_kept d)) 30 e))))
+        ∙ given_none 4 _ _ _ p (s.ended ∙ rw (eq-eqb (length (name_kept d)) 30 e)))
 
   -- ---- the other checks, where the size is within the limit and the name ends
   module _ (f : LaidFacts v l d p) (short : length (name_kept d) < 30) where

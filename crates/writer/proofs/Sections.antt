@@ -6,19 +6,20 @@ use Prim.Native.Nat.{ℕ, ◌+◌, ◌*◌, ◌≤◌, ◌<◌}
 use native.Mathlib.Omega.{arith}
 use lib.Dec.{eqb}
 use lib.ListN.{length}
-use borrow.Author.Tests.{ne_eqb}
+use borrow.Author.Tests.{ne_eqb, eq-eqb}
 use Rattle.lists.proofs.Tests.{by_test}
-use Rattle.layout.specs.Versions.{version_number, version_of, layout_of, head_end, metrics_entry, trace_entry}
+use Rattle.layout.specs.Versions.{version_number, version_of, layout_of, head_end, metrics_entry, trace_entry, form_required}
 use Rattle.layout.specs.declared.Version.{Version}
 use Rattle.layout.specs.declared.Layout.{Layout}
-use Rattle.sections.specs.Fields.{declared_size, section_of, outside_fault, overlap_fault}
-use Rattle.sections.proofs.Cases.{signature_right, form_one}
+use Rattle.sections.specs.Fields.{declared_size, section_of, outside_fault, overlap_fault, form_in}
+use Rattle.sections.proofs.Cases.{signature_right}
 use Rattle.head.specs.Rules.{Inside, Apart}
 use Rattle.head.specs.Opened.{OpenFacts}
 use Rattle.head.proofs.Rules.{outside_law, shares_law}
 use Rattle.reader.specs.Checks.{opening}
 use Rattle.writer.specs.LaidOut.{Description, name_kept, pairs, metrics_at, trace_at, strings_at, volumes_at, laid_size}
-use Rattle.writer.specs.Private.{Writable, head_for}
+use Rattle.writer.specs.Plans.{Writable}
+use Rattle.writer.specs.Private.{head_for}
 use Rattle.writer.proofs.Facts.{LaidFacts}
 use Rattle.std.specs.Prelude.{None, Some}
 
@@ -67,6 +68,11 @@ module _ (l : Layout) (d : Description) (w : Writable l) where
 pub size_stands : (v : Version) (l : Layout) (d : Description) (p : List ℕ) → LaidFacts v l d p → declared_size p ≡ laid_size l d
 size_stands v l d p f = f.start.size ∙ omega (arith, f.small)
 
+-- a version with one head form
+form_one : (l : Layout) (b : List ℕ) → form_required l ≡ 0 → form_in l b ≡ Some l
+unfolding form_in
+form_one l b h = rw (eq-eqb _ _ h) refl
+
 -- what checks 1 to 6 accept
 module _ (v : Version) (l : Layout) (d : Description) (p : List ℕ) (laid : l ≡ layout_of v) (w : Writable l)
     (known : version_of (version_number v) ≡ Some v) (f : LaidFacts v l d p) where
@@ -88,7 +94,7 @@ module _ (v : Version) (l : Layout) (d : Description) (p : List ℕ) (laid : l �
               signed = sym (signature_right p _ refl f.start.signature);
             };
         told = rw (← laid, w.formed) (omega arith);
-        formed = rw (← laid) (sym (form_one l p w.formed));
+        formed = rw (← laid) (form_one l p w.formed);
         least = omega arith;
         whole = omega arith;
         fields = sym f.sections;

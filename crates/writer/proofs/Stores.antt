@@ -1,27 +1,35 @@
 -- Bytes put one behind another into a list are put as one.
 use mathlib.Core.Path.{◌≡◌, refl, sym, ap, ◌∙◌}
 use mathlib.Core.List.{List, [], ◌∷◌, ◌++◌, append_assoc, append-nil}
-use Prim.Native.Nat.{ℕ, suc, ◌+◌, ◌-◌, ◌≤◌, ◌<◌}
-use native.Mathlib.Nat.{sub_self}
+use Prim.Native.Nat.{ℕ, zero, suc, ◌+◌, ◌/◌, ◌%◌, ◌^◌, ◌≤◌, ◌<◌}
+use native.Mathlib.Nat.{div-one, div-div-eq-div-mul, pow-zero, pow-suc}
 use native.Mathlib.Omega.{arith}
-use lib.ListN.{length, get_or, set, take, replicate, length-append, replicate-append-replicate}
+use borrow.Rule.Slice.PartMut.{put_mid}
+use lib.ListN.{length, get_or, set, take, drop, length-append}
 use lib.Seq.{take-suc, sets, length-sets}
+use Rattle.std.specs.Int.{byte_at, bytes_low_first}
+use Rattle.std.proofs.lemmas.List.Edits.{sets-eq}
+use Rattle.std.proofs.lemmas.List.{drop-drop}
 use Rattle.writer.specs.LaidOut.{bytes_of, unit_bytes}
 use Rattle.writer.specs.Private.{patch}
+
+-- a write to a part of the list
+pub part_put : (a k : ℕ) (o ys zs : List ℕ) → ys ≡ zs → k ≡ length zs → a + length zs ≤ length o → put_mid a k o ys ≡ patch o a zs
+unfolding patch
+part_put a k o ys zs e n h =
+    rw (e, n) (ap (λ (t : List ℕ). take a o ++ (zs ++ t)) (drop-drop (length zs) a o)
+    ∙ sym (append_assoc (take a o) zs (drop (a + length zs) o))
+    ∙ sym (sets-eq zs o a h))
 
 pub patch_join : (o : List ℕ) (at : ℕ) (x y : List ℕ) (next : ℕ) → next ≡ at + length x → patch (patch o at x) next y ≡ patch o at (x ++ y)
 unfolding patch
 patch_join o at [] y next e = let q : next ≡ at = omega arith in ap (λ (k : ℕ). sets o k y) q
 patch_join o at (v ∷ x) y next e = patch_join (set o at v) (suc at) x y next (omega arith)
 
--- nothing, and one store
+-- nothing
 pub patch-none : (o : List ℕ) (at : ℕ) → o ≡ patch o at []
 unfolding patch
 patch-none o at = refl
-
-pub patch_one : (o : List ℕ) (at v : ℕ) → set o at v ≡ patch o at (v ∷ [])
-unfolding patch
-patch_one o at v = refl
 
 -- `x` is there from `at` on, and `y` is put behind it
 pub then_laid : (o output output' x y z : List ℕ) (at next : ℕ) → output ≡ patch o at x → output' ≡ patch output next y → next ≡ at + length x
@@ -33,15 +41,24 @@ pub laid_long : (o output x : List ℕ) (at : ℕ) → output ≡ patch o at x �
 unfolding patch
 laid_long o output x at e = ap length e ∙ length-sets o at x
 
--- ---- the pieces of loops
-pub zeros_more : (n : ℕ) → ◌≡◌ {A = List ℕ} (replicate n 0 ++ 0 ∷ []) (replicate (n + 1) 0)
-zeros_more n = replicate-append-replicate n 1 0
+-- the bytes of a number, as the library gives them
+pub low_first : (k i n : ℕ) → bytes_low_first i k n ≡ bytes_of k (n / 256 ^ i)
+unfolding bytes_of
+low_first zero i n = refl
+low_first (suc k) i n =
+    let a : byte_at i n ≡ n / 256 ^ i % 256 = lowest i in
+    let b : n / 256 ^ suc i ≡ n / 256 ^ i / 256 = rw pow-suc (sym (div-div-eq-div-mul n (256 ^ i) 256)) in
+    rw (a, low_first k (suc i) n, b)
+  where
+    lowest : (i : ℕ) → byte_at i n ≡ n / 256 ^ i % 256
+    lowest zero = rw (pow-zero, div-one) refl
+    lowest (suc i) = refl
 
-pub bytes_more : (s : List ℕ) (i : ℕ) → i < length s → take i s ++ get_or s i 0 ∷ [] ≡ take (i + 1) s
-bytes_more s i h = let e : suc i ≡ i + 1 = omega arith in sym (take-suc s i 0 h) ∙ ap (λ (k : ℕ). take k s) e
+pub low_bytes : (k n : ℕ) → bytes_low_first 0 k n ≡ bytes_of k n
+low_bytes k n = let e : n / 256 ^ 0 ≡ n = rw (pow-zero, div-one) refl in low_first k 0 n ∙ ap (bytes_of k) e
 
 -- the units of the first i + 1
-pub units_join : (us vs : List ℕ) → unit_bytes (us ++ vs) ≡ unit_bytes us ++ unit_bytes vs
+units_join : (us vs : List ℕ) → unit_bytes (us ++ vs) ≡ unit_bytes us ++ unit_bytes vs
 unfolding unit_bytes
 units_join [] vs = refl
 units_join (u ∷ us) vs = ap (λ (s : List ℕ). bytes_of 2 u ++ s) (units_join us vs) ∙ sym (append_assoc (bytes_of 2 u) (unit_bytes us) (unit_bytes vs))
@@ -49,34 +66,13 @@ units_join (u ∷ us) vs = ap (λ (s : List ℕ). bytes_of 2 u ++ s) (units_join
 pub units_more : (us : List ℕ) (i : ℕ) → i < length us → unit_bytes (take i us) ++ bytes_of 2 (get_or us i 0) ≡ unit_bytes (take (i + 1) us)
 unfolding unit_bytes
 units_more us i h =
+    let e : suc i ≡ i + 1 = omega arith in
+    let more : take i us ++ get_or us i 0 ∷ [] ≡ take (i + 1) us = sym (take-suc us i 0 h) ∙ ap (λ (k : ℕ). take k us) e in
     ap (λ (s : List ℕ). unit_bytes (take i us) ++ s) (sym (append-nil (bytes_of 2 (get_or us i 0))))
     ∙ sym (units_join (take i us) (get_or us i 0 ∷ []))
-    ∙ ap unit_bytes (bytes_more us i h)
+    ∙ ap unit_bytes more
 
--- a loop's last turn
-pub laid_by : (o output : List ℕ) (at : ℕ) (f : ℕ → List ℕ) (i n : ℕ) → output ≡ patch o at (f i) → i ≡ n → output ≡ patch o at (f n)
-laid_by o output at f i n e q = rw (← q) e
-
-pub zeros_start : (o : List ℕ) (from : ℕ) → o ≡ patch o from (replicate (from - from) 0)
-zeros_start o from = rw (sub_self from) (patch-none o from)
-
-pub zeros_next : (from i : ℕ) → from ≤ i → ◌≡◌ {A = List ℕ} (replicate (i - from) 0 ++ 0 ∷ []) (replicate (i + 1 - from) 0)
-zeros_next from i h = let e : i - from + 1 ≡ i + 1 - from = omega arith in zeros_more (i - from) ∙ ap (λ (k : ℕ). replicate k 0) e
-
--- two and four bytes
-pub two_stores : (o : List ℕ) (at a b : ℕ) → set (set o at a) (at + 1) b ≡ patch o at (a ∷ b ∷ [])
-unfolding patch
-two_stores o at a b = let e : at + 1 ≡ suc at = omega arith in rw e refl
-
-pub four_stores : (o : List ℕ) (at a b c d : ℕ) → set (set (set (set o at a) (at + 1) b) (at + 2) c) (at + 3) d ≡ patch o at (a ∷ b ∷ c ∷ d ∷ [])
-unfolding patch
-four_stores o at a b c d =
-    let e : at + 1 ≡ suc at = omega arith in
-    let f : at + 2 ≡ suc (suc at) = omega arith in
-    let g : at + 3 ≡ suc (suc (suc at)) = omega arith in
-    rw (e, f, g) refl
-
--- three pieces one behind another
+-- three pieces one behind another, and more
 pub three_laid : (o o₁ o₂ o₃ x y z w : List ℕ) (at p q : ℕ) → o₁ ≡ patch o at x → o₂ ≡ patch o₁ p y → o₃ ≡ patch o₂ q z → p ≡ at + length x
     → q ≡ p + length y → (x ++ y) ++ z ≡ w → o₃ ≡ patch o at w
 three_laid o o₁ o₂ o₃ x y z w at p q e f g a b j =

@@ -7,7 +7,6 @@ use Rattle.layout.specs.Head.{trace_offset_at, trace_count_at, strings_offset_at
 use Rattle.layout.specs.Versions.{version_number, layout_of, run_time_at, run_count_at, metrics_entry, name_offset_at, name_length_at, trace_entry, first_section}
 use Rattle.layout.specs.declared.Version.{Version}
 use Rattle.layout.specs.declared.Layout.{Layout}
-use Rattle.writer.specs.declared.Given.{Given}
 
 -- ---- bytes
 
@@ -66,10 +65,6 @@ description name hash time count metrics trace strings volumes volume_count =
       volumes = volumes;
       volume_count = volume_count;
     }
-
-abbrev pub description_of : List ℕ → Given → List ℕ → List ℕ → List ℕ → List ℕ → Description
-description_of name g metrics trace strings volumes =
-    description name g.stored_hash g.run_time g.run_count metrics trace strings volumes g.volume_count
 
 -- its numbers fit their widths
 pub record Numbers (d : Description) : Type 0 where

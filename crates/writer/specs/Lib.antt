@@ -1,3 +1,4 @@
 pub mod LaidOut
+pub mod Plans
 pub mod Writes
 pub mod Private

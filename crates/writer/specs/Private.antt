@@ -1,33 +1,31 @@
 -- What only private contracts need: how the bytes come into the place, and the checks on a description in place of its file.
-use Rattle.std.specs.Prelude.{◌≡◌, true, List, [], ◌∷◌, ◌++◌, ℕ, ◌+◌, ◌-◌, ◌*◌, ◌/◌, ◌≤◌, ltb, length, replicate}
+use Rattle.std.specs.Prelude.{◌≡◌, List, [], ◌∷◌, ◌++◌, ℕ, ◌+◌, ◌-◌, ◌*◌, ◌≤◌, eqb, length, take, replicate, None, Ok, Option, Result, Some}
 use Rattle.std.proofs.lemmas.List.Edits.{sets}
 use Rattle.lists.specs.Count.{pick}
-use Rattle.layout.specs.Head.{version_at, signature_at, declared_size_at, program_name_at, stored_hash_at, metrics_offset_at, metrics_count_at, entry_offset}
+use Rattle.lists.specs.Pairs.{first_of, second_of}
+use Rattle.layout.specs.Head.{stored_hash_at, program_name_units, metrics_offset_at, metrics_count_at, entry_offset}
 use Rattle.layout.specs.Head.{trace_offset_at, trace_count_at, strings_offset_at, strings_size_at, volumes_offset_at, volumes_count_at, volumes_size_at}
-use Rattle.layout.specs.Versions.{version_number, head_end, time_count, run_time_at, run_count_at, metrics_entry, name_offset_at, name_length_at, volume_entry, trace_entry}
-use Rattle.layout.specs.Versions.{has_next, first_section, form_required, size_limit}
-use Rattle.layout.specs.Versions.{layout_of, version_of}
+use Rattle.layout.specs.Versions.{version_number, head_end, run_time_at, run_count_at, metrics_entry, volume_entry, trace_entry}
 use Rattle.layout.specs.declared.Version.{Version}
 use Rattle.layout.specs.declared.Layout.{Layout}
-use Rattle.incremental.specs.Decision.{Decision, accept, check, ◌>>=◌, ◌>>◌}
+use Rattle.incremental.specs.Decision.{Decision, accept, check, decision_of, ◌>>=◌, ◌>>◌}
+use Rattle.incremental.specs.Plan.{Answer}
+use Rattle.incremental.specs.declared.Refusal.{Refusal}
 use Rattle.sections.specs.declared.Head.{Head}
 use Rattle.sections.specs.Fields.{section_of, places_fault, entries_fault}
 use Rattle.names.specs.Names.{in_pairs, misfit_fault, unsound_fault}
-use Rattle.trace.specs.Links.{link_checks, predecessors, decision_of}
-use Rattle.trace.specs.Links.{firsts}
+use Rattle.trace.specs.Links.{link_checks, predecessors, firsts}
 use Rattle.volumes.specs.Volumes.{volumes_from}
 use Rattle.reader.specs.declared.verdict.Acceptance.{Acceptance}
 use Rattle.reader.specs.declared.verdict.RunTimes.{RunTimes}
-use Rattle.reader.specs.Verdict.{Acceptable}
-use Rattle.writer.specs.declared.Plan.{Plan}
-use Rattle.writer.specs.declared.Given.{Given}
-use Rattle.writer.specs.declared.Draft.{Draft}
-use Rattle.writer.specs.Writes.{placed_answer, Lays}
-use Rattle.writer.specs.LaidOut.{Field, number, unit_bytes, spread, Description, Numbers, laid_by, name_kept, pairs, metrics_at, trace_at, strings_at}
+use Rattle.reader.specs.Verdict.{Acceptable, verdict_in}
+use Rattle.reader.specs.Private.{verdict_of}
+use Rattle.writer.specs.declared.contents.Contents.{Contents}
+use Rattle.writer.specs.declared.draft.Plan.{Plan}
+use Rattle.writer.specs.declared.draft.Entry.{Entry}
+use Rattle.writer.specs.Writes.{placed_answer, output_after}
+use Rattle.writer.specs.LaidOut.{Field, number, spread, Description, before_zero, laid_by, name_kept, pairs, metrics_at, trace_at, strings_at}
 use Rattle.writer.specs.LaidOut.{volumes_at, laid_size}
-use Rattle.std.specs.Prelude.{None, Ok, Option, Result, Some}
-use Rattle.incremental.specs.declared.Refusal.{Refusal}
-use Rattle.incremental.specs.declared.Stop.{Stop}
 
 -- ---- bytes into the place
 
@@ -46,68 +44,12 @@ with_gaps from [] = []
 with_gaps from (f ∷ fs) = (replicate (f.at - from) 0 ++ f.bytes) ++ with_gaps (f.at + length f.bytes) fs
 
 -- 32-bit numbers at their places
-abbrev pub numbers_at : List ℕ → List ℕ → List Field
-numbers_at [] values = []
-numbers_at (p ∷ places) [] = []
-numbers_at (p ∷ places) (n ∷ values) = number p 4 n ∷ numbers_at places values
+abbrev pub numbers_at : List (ℕ × ℕ) → List Field
+numbers_at [] = []
+numbers_at (f ∷ fs) = number f.0 4 f.1 ∷ numbers_at fs
 
--- ---- the layouts that are written
-
-pub record Writable (l : Layout) : Type 0 where
-  pub times : time_count l ≡ 1
-  pub linked : has_next l ≡ true
-  pub formed : form_required l ≡ 0
-  pub trace : trace_entry l ≡ 12
-  pub run_time : 120 ≤ run_time_at l
-  pub run_count_lem : run_time_at l + 8 ≤ run_count_at l
-  pub head : run_count_at l + 4 ≤ head_end l
-  pub section : head_end l ≤ first_section l
-  pub small : first_section l ≤ 240
-  pub name_length : name_offset_at l + 4 ≤ name_length_at l
-  pub metrics : name_length_at l + 4 ≤ metrics_entry l
-  pub metrics_small : metrics_entry l ≤ 32
-
--- ---- a description
-
--- where its sections stand, by the lengths of its tables and sections
-abbrev pub plan_by : Layout → ℕ → ℕ → ℕ → ℕ → Plan
-plan_by l metrics trace strings volumes =
-    record {
-      metrics = metrics / 2;
-      trace = trace / 2;
-      trace_at = first_section l + metrics / 2 * metrics_entry l;
-      strings_at = first_section l + metrics / 2 * metrics_entry l + trace / 2 * trace_entry l;
-      strings = strings;
-      volumes_at = first_section l + metrics / 2 * metrics_entry l + trace / 2 * trace_entry l + strings;
-      volumes = volumes;
-      size = first_section l + metrics / 2 * metrics_entry l + trace / 2 * trace_entry l + strings + volumes;
-    }
-
-abbrev pub plan_for : Layout → Description → Plan
-plan_for l d = plan_by l (length d.metrics) (length d.trace) (length d.strings) (length d.volumes)
-
--- 3 where the size exceeds the limit
-abbrev pub planned : Layout → ℕ → ℕ → ℕ → ℕ → Option Plan
-planned l metrics trace strings volumes =
-    pick (ltb size_limit (plan_by l metrics trace strings volumes).size) None (Some (plan_by l metrics trace strings volumes))
-
--- a plan within the limit, for a description by a version's layout, and the length of its name
-pub record Ready (w : Draft) (d : Description) : Type 0 where
-  pub laid : w.layout ≡ layout_of w.version
-  pub known : version_of (version_number w.version) ≡ Some w.version
-  pub writable : Writable w.layout
-  pub numbers : Numbers d
-  pub plan : w.plan ≡ plan_for w.layout d
-  pub small : laid_size w.layout d ≤ size_limit
-  pub named : w.units ≡ length (name_kept d)
-
--- the version of a number as the promise has it
-abbrev pub known_is : Option Version → Option Version
-known_is (Some v) = Some v
-known_is None = None
-
--- the head by a plan: the fields behind the program name, and all of it
-abbrev pub fields_behind : Layout → Plan → Given → List Field
+-- the fields of the head behind the program name, by a plan
+abbrev pub fields_behind : Layout → Plan → Contents → List Field
 fields_behind l p g =
     number stored_hash_at 4 g.stored_hash
     ∷ number metrics_offset_at 4 (metrics_at l)
@@ -123,15 +65,19 @@ fields_behind l p g =
     ∷ number (run_count_at l) 4 g.run_count
     ∷ []
 
-abbrev pub head_by : ℕ → Layout → Plan → Given → List ℕ → List ℕ
-head_by version l p g units =
-    spread 0
-    (number version_at 4 version
-    ∷ number signature_at 4 0x41434353
-    ∷ number declared_size_at 4 p.size
-    ∷ record { at = program_name_at; bytes = unit_bytes units }
-    ∷ fields_behind l p g)
-    (first_section l)
+-- an entry that has the numbers of a pair
+abbrev pub pair_of : Entry → ℕ → ℕ → List ℕ
+pair_of e first second = spread 0 (number e.first 4 first ∷ number e.second 4 second ∷ []) e.size
+
+abbrev pub pair_bytes : Entry → List ℕ → ℕ → List ℕ
+pair_bytes e table i = pair_of e (first_of table i) (second_of table i)
+
+-- ---- a description
+
+-- how many units of a name a file carries, unless they leave no room for a zero
+abbrev pub carried_units : List ℕ → Option ℕ
+carried_units name =
+    pick (eqb (length (take program_name_units (before_zero name))) program_name_units) None (Some (length (take program_name_units (before_zero name))))
 
 -- ---- its checks
 
@@ -187,41 +133,17 @@ acceptable_for v l d m n = record { fields = record_for v l d n; table = predece
 abbrev pub described : Version → Layout → Description → ℕ → Decision Acceptable
 described v l d m = section_checks l d m >>= λ n. accept (acceptable_for v l d m n)
 
--- the record by a plan
-abbrev pub record_by : ℕ → Plan → Given → ℕ → ℕ → Acceptance
-record_by version p g units n =
-    record {
-      version = version;
-      declared_size = p.size;
-      name_units = units;
-      stored_hash = g.stored_hash;
-      times = times_for g.run_time;
-      run_count = g.run_count;
-      metrics_count = p.metrics;
-      trace_count = p.trace;
-      volume_count = g.volume_count;
-      chain_count = n;
-    }
+-- what the checks of the sections answer, with m working places, and the buffer where they pass
+pub record SectionsAnswered (l : Layout) (d : Description) (m : ℕ) (r : Result ℕ Refusal) (buffer : List ℕ) : Type 0 where
+  pub answer : decision_of r ≡ section_checks l d m
+  pub holds : (n : ℕ) → r ≡ Ok n → buffer ≡ predecessors (links_in d) m
 
--- what the checks of the sections answer, and the buffer where they pass
-pub record SectionsAnswered (c : Decision ℕ) (s : List ℕ) (m : ℕ) (r : Result ℕ Refusal) (buffer : List ℕ) : Type 0 where
-  pub answer : decision_of r ≡ c
-  pub holds : (n : ℕ) → r ≡ Ok n → buffer ≡ predecessors s m
+-- the writer's promise but for the buffer after a refusal: an acceptance leaves the table in it
+pub record Drafted (answer : Answer Acceptable) (file output : List ℕ) (r : Result Acceptance Refusal) (buffer' output' : List ℕ) : Type 0 where
+  pub verdict : verdict_of (verdict_in r) buffer' ≡ answer
+  pub placed : output' ≡ output_after answer file output
 
--- checks 9 and 10, and 9 to 15
-abbrev pub name_checks : Layout → List ℕ → List ℕ → ℕ → Decision Unit
-name_checks l metrics strings entries =
-    check 9 (misfit_fault l (metrics_at l) (in_pairs metrics) entries (length strings))
-    >> check 10 (unsound_fault l (metrics_at l) (in_pairs metrics) entries strings)
-
-unfoldable pub table_checks : Layout → Plan → ℕ → List ℕ → List ℕ → List ℕ → List ℕ → Decision ℕ
-table_checks l p count metrics trace strings volumes = do
-  name_checks l metrics strings p.metrics
-  n ← link_checks (entry_offset p.trace_at (trace_entry l)) (firsts trace p.trace)
-  volumes_from volumes l p.volumes_at count 0
-  accept n
-
--- the writer's promise, by a version's layout
-abbrev pub LaysBy : Version → Layout → Description → List ℕ → List ℕ → Result Acceptance Stop → List ℕ → List ℕ → Type 0
-LaysBy v l d buffer output r buffer' output' =
-    Lays (placed_answer (laid_by v l d) (length buffer) (length output)) (laid_by v l d) buffer output r buffer' output'
+-- the same by a version's layout, with m working places
+abbrev pub DraftedBy : Version → Layout → Description → ℕ → List ℕ → Result Acceptance Refusal → List ℕ → List ℕ → Type 0
+DraftedBy v l d m output r buffer' output' =
+    Drafted (placed_answer (laid_by v l d) m (length output)) (laid_by v l d) output r buffer' output'

@@ -6,12 +6,12 @@ use Rattle.layout.specs.declared.Version.{Version}
 use Rattle.layout.specs.declared.Version.TheVariants.{V17, V23}
 use Rattle.incremental.specs.Decision.{accept, refuse, refusal}
 use Rattle.incremental.specs.Plan.{Answer, decided, wants}
-use Rattle.reader.specs.Verdict.{Acceptable, Reads}
+use Rattle.reader.specs.Verdict.{Acceptable, Reads, verdict_in}
 use Rattle.reader.specs.Checks.{file_answer}
 use Rattle.writer.specs.LaidOut.{Description, laid_out}
 use Rattle.reader.specs.declared.verdict.Acceptance.{Acceptance}
 use Rattle.std.specs.Prelude.{None, Option, Result, Some}
-use Rattle.incremental.specs.declared.Stop.{Stop}
+use Rattle.incremental.specs.declared.Refusal.{Refusal}
 
 -- the versions that are written, by their numbers
 unfoldable pub writable : ℕ → Option Version
@@ -46,11 +46,11 @@ output_after (decided (refuse r)) file output = output
 output_after (wants k) file output = output
 
 -- THE PROMISE for an answer and a file: the verdict and the working buffer as a reader's, and the place
-pub record Lays (answer : Answer Acceptable) (file buffer output : List ℕ) (r : Result Acceptance Stop) (buffer' output' : List ℕ) : Type 0 where
-  pub reads : Reads answer (length buffer) r buffer'
+pub record Lays (answer : Answer Acceptable) (file buffer output : List ℕ) (r : Result Acceptance Refusal) (buffer' output' : List ℕ) : Type 0 where
+  pub reads : Reads answer (length buffer) (verdict_in r) buffer'
   pub placed : output' ≡ output_after answer file output
 
 -- THE PROMISE of the writer
-abbrev pub Writes : ℕ → Description → List ℕ → List ℕ → Result Acceptance Stop → List ℕ → List ℕ → Type 0
+abbrev pub Writes : ℕ → Description → List ℕ → List ℕ → Result Acceptance Refusal → List ℕ → List ℕ → Type 0
 Writes version d buffer output r buffer' output' =
     Lays (write_answer version d (length buffer) (length output)) (file_for (writable version) d) buffer output r buffer' output'

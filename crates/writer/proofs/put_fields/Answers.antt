@@ -1,14 +1,15 @@
--- The numbers at their places; the time is put as two.
-use mathlib.Core.Path.{refl, ap, ◌∙◌}
-use Rattle.writer.specs.Private.{patch}
-use Rattle.writer.proofs.HeadPieces.{behind_joined, behind_ordered}
+use native.Mathlib.Omega.{arith}
+use Rattle.writer.proofs.Entries.{putting_room, putting_step, putting_end}
 use Rattle.writer.proofs.put_fields.Goals as goal
 
-pub put_numbers-requires : goal.put_numbers-requires
-put_numbers-requires c =
-    (refl, behind_ordered c.args.l c.requires.0 c.args.p c.args.g _ _ c.requires.1 c.requires.2)
+pub put_field-requires : goal.put_field-requires
+put_field-requires c = putting_room c.loop-at.invariant (0, 0) (omega arith)
+
+pub overflow_add-from : goal.overflow_add-from
+overflow_add-from c = omega (arith, (putting_room c.loop-at.invariant (0, 0) (omega arith)).1)
+
+pub loop-at-preserved : goal.loop-at-preserved
+loop-at-preserved c = putting_step c.loop-at.invariant (0, 0) (omega arith) _ c.put_field.ensures
 
 pub returns : goal.returns
-returns c =
-    c.put_numbers.ensures ∙ ap (patch c.args.output.now c.args.from) (behind_joined c.args.l c.requires.0 c.args.p
-    c.args.g c.args.from)
+returns c = putting_end c.loop-at.invariant (omega arith)

@@ -1,34 +1,33 @@
 -- Three numbers, the name, the fields behind it, and zeros.
-use mathlib.Core.Path.{◌≡◌, refl, ◌∙◌}
+use mathlib.Core.Path.{◌≡◌, ◌∙◌}
 use mathlib.Core.List.{[]}
 use Prim.Native.Nat.{◌≤◌}
 use native.Mathlib.Omega.{arith}
 use lib.ListN.{length, take, length-take}
 use Rattle.writer.proofs.Bytes.{length-units}
 use Rattle.writer.proofs.Stores.{four_laid}
+use Rattle.writer.proofs.FilePieces.{name_fits, head_same}
 use Rattle.writer.proofs.HeadPieces.{first_ordered, first_long, behind_long, head_pieces}
 use Rattle.writer.proofs.put_head.Goals as goal
 
-pub put_zeros-requires : goal.put_zeros-requires
-put_zeros-requires c = (
-  omega (arith, c.requires.0.head, c.requires.0.section),
-  omega
-      (arith, c.put_fields.auto.output, c.put_units.auto.output, c.put_numbers.auto.output, c.requires.1),
-)
+pub put_fields-requires : goal.put_fields-requires
+put_fields-requires c =
+    let w = c.args.w in
+    first_ordered w.layout w.ready.writable w.plan w.contents c.from.result [] (omega arith) _ c.requires
 
-pub put_numbers-requires : goal.put_numbers-requires
-put_numbers-requires c =
-    (refl, first_ordered c.args.l c.requires.0 c.args.p c.args.g c.args.version [] (omega arith) _ c.requires.1)
+pub slice_bounds-put_units-end : goal.slice_bounds-put_units-end
+slice_bounds-put_units-end c = let w = c.args.w in omega (arith, length-take w.units w.contents.name.now, name_fits w.version w.layout w.contents w.plan w.units w.ready)
 
 pub returns : goal.returns
 returns c =
-    let w = c.requires.0 in
-    let us = take c.args.units c.args.name.now in
-    let few : length us ≡ c.args.units = length-take c.args.units c.args.name.now ∙ omega arith in
-    let at_most : length us ≤ 30 = omega arith in
-    let x = first_long c.args.l w c.args.p c.args.g c.args.version us at_most in
+    let w = c.args.w in
+    let f = w.ready.writable in
+    let us = take w.units w.contents.name.now in
+    let few : length us ≡ w.units = length-take w.units w.contents.name.now ∙ omega (arith, name_fits w.version w.layout w.contents w.plan w.units w.ready) in
+    let at_most : length us ≤ 30 = omega (arith, name_fits w.version w.layout w.contents w.plan w.units w.ready) in
+    let x = first_long w.layout f w.plan w.contents c.from.result us at_most in
     let y = length-units us in
-    let z = rw few at (behind_long c.args.l w c.args.p c.args.g c.args.version us at_most) in
-    let whole = rw few at (head_pieces c.args.l w c.args.p c.args.g c.args.version us at_most) in
-    four_laid _ _ _ _ _ _ _ _ _ _ _ _ _ _ c.put_numbers.ensures c.put_units.ensures c.put_fields.ensures c.put_zeros.ensures
-    (omega (arith, x)) (omega (arith, y)) (omega (arith, z, w.run_time, w.run_count_lem)) whole
+    let z = rw few at (behind_long w.layout f w.plan w.contents c.from.result us at_most) in
+    let whole = rw few at (head_pieces w.layout f w.plan w.contents c.from.result us at_most) in
+    four_laid _ _ _ _ _ _ _ _ _ _ _ _ _ _ c.put_fields.ensures c.put_units.ensures c.put_behind.ensures c.put_zeros.ensures
+    (omega (arith, x)) (omega (arith, y)) (omega (arith, z, f.run_time, f.run_count_lem)) (whole ∙ head_same w.version w.layout w.contents w.plan w.units w.ready _ c.from.ensures)
