@@ -56,7 +56,7 @@ fair_bind : {A B : Type 0} (c : Decision A) (g : A → Decision B) → Fair Midd
 fair_bind (accept a) g h k = k a
 fair_bind (refuse f) g h k = fair_refuse Middle f (h.refuses f refl)
 
-fair_line : {A : Type 0} (n : ℕ) (f : Option (Option Fault)) (later : Decision A) → (7 ≤ n) × (n ≤ 15) → Fair Middle later → Fair Middle (check n f >> later)
+fair_line : {A : Type 0} (n : ℕ) (f : Option Fault) (later : Decision A) → (7 ≤ n) × (n ≤ 15) → Fair Middle later → Fair Middle (check n f >> later)
 fair_line n f later h k = fair_check Middle n f later (λ i at e. h) k
 
 fair_links : (at : ℕ → ℕ) (s : List ℕ) → Fair Middle (link_checks at s)

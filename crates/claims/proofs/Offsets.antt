@@ -64,7 +64,7 @@ module _ (p : List ℕ) (m : ℕ) where
       → Each Any Placed (run (and_then (reach k) f) p)
   wait k f h = each_reach Any Placed k f p h
 
-  abbrev line : {B : Type 0} (n : ℕ) (f : Option (Option Fault)) (g : Unit → Plan B) → ((i at : ℕ) → f ≡ Some (fault i at) → Placed (refusal n i at))
+  abbrev line : {B : Type 0} (n : ℕ) (f : Option Fault) (g : Unit → Plan B) → ((i at : ℕ) → f ≡ Some (fault i at) → Placed (refusal n i at))
       → Each Any Placed (run (g tt) p) → Each Any Placed (run (and_then (check n f) g) p)
   line n f g h k = each_check Any Placed n f g p h (λ _. k)
 

@@ -179,7 +179,7 @@ module _ (p q : List ℕ) (o : Opening) (f : OpenFacts p o) (h : SameOutside o.h
       (λ l. let m : k ≤ length p = leb-true _ _ l in reach_here k t p m ∙ e ∙ sym (reach_here k t q (rw (← h.long) m)))
       (λ l. let m : length p < k = leb-false _ _ l in reach_short k t p m ∙ sym (reach_short k t q (rw (← h.long) m)))
 
-  check-same : (n : ℕ) (a b : Option (Option Fault)) → a ≡ b
+  check-same : (n : ℕ) (a b : Option Fault) → a ≡ b
       → ◌≡◌ {A = Answer Unit} (run (and_then (check n a) (λ _. done tt)) p) (run (and_then (check n b) (λ _. done tt)) q)
   unfolding check and_then run
   check-same n (Some w) b e = rw (← e)

@@ -13,7 +13,6 @@ use names::Pairs;
 use reader::{Acceptance, RunTimes};
 
 // What a file is made from has tables of pairs and no bytes of entries.
-const NO_BYTES: [u8; 0] = [];
 
 // What the lengths give: a plan, where its size is within the limit. Each length is compared before it is multiplied, so that no product
 // wraps.
@@ -79,14 +78,11 @@ fn check_sections(w: Draft, predecessors: &mut [u32]) -> Result<usize, Refusal>
         10,
         names::unsound_fault(&names, l, start, p.metrics, c.strings),
     )?;
-    let chains = trace::check_links(
-        &NO_BYTES,
-        c.trace,
-        p.trace_at,
-        l.trace_entry,
-        p.trace,
-        predecessors,
-    )?;
+    let nexts = trace::Pairs {
+        table: c.trace,
+        pairs: p.trace,
+    };
+    let chains = trace::check_links(nexts, p.trace_at, l.trace_entry, predecessors)?;
     volumes::check_volumes(c.volumes, l, p.volumes_at, c.volume_count)?;
     Ok(chains)
 }
