@@ -157,17 +157,6 @@ pub version_laid : (v : Version) (l : Layout) (d : Description) (m : ℕ) (outpu
     → DraftedBy v l d m output x after output' → DraftedBy v (layout_of v) d m output x after output'
 version_laid v l d m output x after output' e h = rw (← e) h
 
--- ---- the version's number
-module _ (version : ℕ) (d : Description) (m : ℕ) (output : List ℕ) (x : Result Acceptance Refusal) (after output' : List ℕ) where
-  abbrev WritesChecked : Type 0
-  WritesChecked = Drafted (write_answer version d m (length output)) (file_for (writable version) d) output x after output'
-
-  -- nothing comes before the reader's answer on the laid-out file: `first` says so
-  pub checked_known : (v : Version) → writable version ≡ Some v
-      → answer_for (Some v) d m (length output) ≡ placed_answer (laid_out v d) m (length output)
-      → DraftedBy v (layout_of v) d m output x after output' → WritesChecked
-  checked_known v e first h = rw (e, first) h
-
 -- ---- the working buffer: an acceptance keeps its table, and after a refusal it is filled
 module _ (answer : Answer Acceptable) (file buffer output after output' : List ℕ) where
   pub lays_kept : (r : Result Acceptance Refusal) → Drafted answer file output r after output' → is_err r ≡ false → Lays answer file buffer output r after output'
