@@ -12,8 +12,6 @@ use layout::{Layout, Version};
 use names::Pairs;
 use reader::{Acceptance, RunTimes};
 
-// What a file is made from has tables of pairs and no bytes of entries.
-
 // What the lengths give: a plan, where its size is within the limit. Each length is compared before it is multiplied, so that no product
 // wraps.
 fn plan_of(l: Layout, c: Contents) -> Option<Plan>
