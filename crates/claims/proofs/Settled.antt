@@ -6,23 +6,19 @@ use native.Mathlib.Omega.{arith}
 use lib.Dec.{eqb}
 use lib.ListN.{get_or}
 use denote.Ref.{Bor}
-use Rattle.std.specs.Prelude.{Result, Ok, Err}
 use Rattle.lists.specs.Answer.{Said}
 use Rattle.lists.specs.Count.{pick}
 use Rattle.lists.specs.Part.{IsPart}
 use Rattle.text.specs.Put.{Put}
-use Rattle.layout.specs.Versions.{form_said}
 use Rattle.layout.specs.declared.Layout.{Layout}
 use Rattle.incremental.specs.Decision.{Decision, accept, refuse, refusal, decision_of}
-use Rattle.incremental.specs.Plan.{Answer, decided, wants, run}
+use Rattle.incremental.specs.Plan.{Answer, decided, wants, run, answer_of}
 use Rattle.catalogue.specs.Line.{LineAnswer, read_answer, no_line, Writing}
 use Rattle.catalogue.specs.declared.Fields.{Fields}
 use Rattle.catalogue.specs.declared.NoLine.{NoLine}
 use Rattle.catalogue.specs.declared.Unwritten.{Unwritten}
 use Rattle.head.specs.Checks.{open_plan}
-use Rattle.head.specs.declared.checks.Start.{Start}
 use Rattle.head.specs.declared.checks.Opening.{Opening}
-use Rattle.trace.specs.Links.{decision_of}
 use Rattle.reader.specs.declared.verdict.Acceptance.{Acceptance}
 use Rattle.reader.specs.Verdict.{Acceptable, Reads, verdict_in}
 use Rattle.reader.specs.Checks.{ReadsOpened}
@@ -31,7 +27,6 @@ use Rattle.lists.specs.Pairs.{PairsListed}
 use Rattle.walk.specs.Walk.{Values, values_of}
 use Rattle.readings.specs.Replay.{said_of}
 use Rattle.readings.specs.declared.BadLine.{BadLine}
-use Rattle.std.specs.Prelude.{IfOk}
 use Rattle.year.specs.Year.{Refusal as YearRefused, number_of, refused_by}
 use Rattle.year.specs.declared.YearRefusal.{YearRefusal}
 use Rattle.year.specs.declared.Fault.{Fault}
@@ -39,11 +34,11 @@ use Rattle.year.specs.declared.Fault.TheVariants as fault
 use Rattle.year.proofs.Taking.{numbered}
 use Rattle.hivesaddle.specs.Output.{Answered, ReadOut}
 use Rattle.claims.specs.Settled.{Settles₁, Settles₂, SettlesPart, Settled}
-use Rattle.std.specs.Prelude.{Err, None, Ok, Option, Result, Some}
+use Rattle.std.specs.Prelude.{IfOk, Result, Ok, Err}
 use Rattle.incremental.specs.declared.Refusal.{Refusal}
 use Rattle.incremental.specs.declared.Stop.TheVariants.{Refused, Wanted}
 use Rattle.incremental.specs.declared.Stop.{Stop}
-use Rattle.walk.specs.declared.Walked.{Walked}
+use Rattle.walk.specs.declared.Visits.{Visits}
 use Rattle.walk.specs.Walk.{steps_walked}
 
 -- ---- maps from cases to what they say, each one-to-one: the case can be told from it
@@ -51,55 +46,29 @@ use Rattle.walk.specs.Walk.{steps_walked}
 told : {A B : Type 0} (said : A → B) (back : B → A) → ((a : A) → back (said a) ≡ a) → (a b : A) → said a ≡ said b → a ≡ b
 told said back same a b e = sym (same a) ∙ ap back e ∙ same b
 
-abbrev form_back : Option Layout → Option Layout
-form_back (Some l) = Some l
-form_back None = None
+abbrev answer_back : {A : Type 0} → Answer A → Result A Stop
+answer_back (decided (accept x)) = Ok x
+answer_back (decided (refuse x)) = Err (Refused x)
+answer_back (wants k) = Err (Wanted k)
 
-known_form : (f : Option Layout) → form_back (form_said f) ≡ f
-known_form (Some l) = refl
-known_form None = refl
+answer : {A : Type 0} (r : Result A Stop) → answer_back (answer_of r) ≡ r
+answer (Ok x) = refl
+answer (Err (Refused x)) = refl
+answer (Err (Wanted x)) = refl
 
-abbrev start_back : Answer Start → Result Start Stop
-start_back (decided (accept x)) = Ok x
-start_back (decided (refuse x)) = Err (Refused x)
-start_back (wants k) = Err (Wanted k)
+abbrev decision_back : {A : Type 0} → Decision A → Result A Refusal
+decision_back (accept x) = Ok x
+decision_back (refuse x) = Err x
 
-start : (r : Result Start Stop) → start_back (start_of r) ≡ r
-start (Ok x) = refl
-start (Err (Refused x)) = refl
-start (Err (Wanted x)) = refl
+decision : {A : Type 0} (r : Result A Refusal) → decision_back (decision_of r) ≡ r
+decision (Ok x) = refl
+decision (Err x) = refl
 
-abbrev open_back : Answer Opening → Result Opening Stop
-open_back (decided (accept x)) = Ok x
-open_back (decided (refuse x)) = Err (Refused x)
-open_back (wants k) = Err (Wanted k)
-
-opening : (r : Result Opening Stop) → open_back (answer_of r) ≡ r
-opening (Ok x) = refl
-opening (Err (Refused x)) = refl
-opening (Err (Wanted x)) = refl
-
-abbrev check_back : Decision Unit → Result Unit Refusal
-check_back (accept x) = Ok tt
-check_back (refuse x) = Err x
-
-check : (r : Result Unit Refusal) → check_back (decision_of r) ≡ r
-check (Ok tt) = refl
-check (Err x) = refl
-
-abbrev link_back : Decision ℕ → Result ℕ Refusal
-link_back (accept x) = Ok x
-link_back (refuse x) = Err x
-
-link : (r : Result ℕ Refusal) → link_back (decision_of r) ≡ r
-link (Ok x) = refl
-link (Err x) = refl
-
-abbrev walk_back : Values → Result Walked Refusal
+abbrev walk_back : Values → Result Visits Refusal
 walk_back v =
     pick (eqb v.kind 0) (Ok (steps_walked v.steps v.total)) (Err (refusal v.number v.index v.offset))
 
-walk : (r : Result Walked Refusal) → walk_back (values_of r) ≡ r
+walk : (r : Result Visits Refusal) → walk_back (values_of r) ≡ r
 walk (Ok w) = refl
 walk (Err x) = refl
 
@@ -195,13 +164,11 @@ settled =
       text_put_hex = λ out at width x. put out at _;
       catalogue_read_line = λ line r s p q. told read_answer line_back read_line_lem r s (p ∙ sym q);
       catalogue_write_line = λ f out r s a b p q. (written f out r s a b p q, cc);
-      layout_of_form = λ n r s p q. told form_said form_back known_form r s (p ∙ sym q);
-      sections_find_form = λ l b r s p q. told form_said form_back known_form r s (p ∙ sym q);
-      head_read_start = λ bytes r s p q. told start_of start_back start r s (p ∙ sym q);
-      head_read_open = λ bytes r s p q. told answer_of open_back opening r s (p ∙ sym q);
-      trace_check_links = λ section table at size entries m r s a b p q. (told decision_of link_back link r s (p.answer ∙ sym q.answer), cc);
-      volumes_check_volume = λ section l at i r s p q. told decision_of check_back check r s (p ∙ sym q);
-      volumes_check_volumes = λ section l at count r s p q. told decision_of check_back check r s (p ∙ sym q);
+      head_read_start = λ bytes r s p q. told answer_of answer_back answer r s (p ∙ sym q);
+      head_read_open = λ bytes r s p q. told answer_of answer_back answer r s (p ∙ sym q);
+      trace_check_links = λ at nexts m r s a b p q. (told decision_of decision_back decision r s (p.answer ∙ sym q.answer), cc);
+      volumes_check_volume = λ section l at i r s p q. told decision_of decision_back decision r s (p ∙ sym q);
+      volumes_check_volumes = λ section l at count r s p q. told decision_of decision_back decision r s (p ∙ sym q);
       reader_read_prefix = λ bytes buffer. reads _ _;
       reader_read_file = λ bytes buffer. reads _ _;
       reader_read_opened = opened;

@@ -36,7 +36,7 @@ use Rattle.claims.specs.Walks.{WalksSay}
 use Rattle.claims.proofs.WithoutNext.{no_nexts}
 use Rattle.std.specs.Prelude.{Err, Ok, Result}
 use Rattle.incremental.specs.declared.Refusal.{Refusal}
-use Rattle.walk.specs.declared.Walked.{Walked}
+use Rattle.walk.specs.declared.Visits.{Visits}
 use Rattle.walk.specs.Walk.{steps_walked}
 
 -- a walk is an acceptance
@@ -88,7 +88,7 @@ accepted_walked p m n x e q =
     rw (e, room)
 
 -- an answer is known by its values
-same_answer : (r : Result Walked Refusal) (n t : ℕ) → values_of r ≡ walked_values n t → r ≡ Ok (steps_walked n t)
+same_answer : (r : Result Visits Refusal) (n t : ℕ) → values_of r ≡ walked_values n t → r ≡ Ok (steps_walked n t)
 same_answer (Ok w) n t e = λ i. Ok (steps_walked (ap (λ (w : Values). w.steps) e i) (ap (λ (w : Values). w.total) e i))
 same_answer (Err f) n t e = never (ap (λ (w : Values). w.kind) (sym e))
 

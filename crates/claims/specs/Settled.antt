@@ -7,17 +7,15 @@ use Rattle.lists.specs.Part.{IsPart}
 use Rattle.digits.specs.Hex.{hex_digits}
 use Rattle.text.specs.Decimal.{decimal}
 use Rattle.text.specs.Put.{Put}
-use Rattle.layout.specs.Versions.{forms, form_at, form_said}
 use Rattle.layout.specs.declared.Layout.{Layout}
 use Rattle.incremental.specs.Decision.{decision_of}
-use Rattle.incremental.specs.Plan.{run}
+use Rattle.incremental.specs.Plan.{run, answer_of}
 use Rattle.catalogue.specs.Line.{reading, read_answer, Writing}
 use Rattle.catalogue.specs.declared.Fields.{Fields}
-use Rattle.sections.specs.Fields.{form_in}
 use Rattle.sections.specs.declared.Section.{Section}
 use Rattle.power_hash.specs.Powers.{swap_answer, swap_said}
-use Rattle.head.specs.Checks.{start_plan, open_plan, answer_of, answer_of}
-use Rattle.trace.specs.Links.{LinkAnswer}
+use Rattle.head.specs.Checks.{start_plan, open_plan}
+use Rattle.trace.specs.Links.{LinkListAnswer}
 use Rattle.volumes.specs.Volumes.{volume_checks, volumes_checks}
 use Rattle.reader.specs.Checks.{ReadsPrefix, ReadsFile, ReadsOpened}
 use Rattle.query.specs.Queries.{ShownAt, places_needed, places_said, place_of, place_said, program_place, entry_place}
@@ -80,11 +78,9 @@ pub record Settled : Type 0 where
   pub catalogue_read_line : (line : List ℕ) → Settles (λ r. read_answer r ≡ reading line)
   pub catalogue_write_line : (f : Fields) (out : List ℕ) → Settles₁ (Writing f out)
   -- ---- heads and sections
-  pub layout_of_form : (start : ℕ) → Settles (λ r. form_said r ≡ form_at start forms)
-  pub sections_find_form : (l : Layout) (b : List ℕ) → Settles (λ r. form_said r ≡ form_in l b)
   pub head_read_start : (file : List ℕ) → Settles (λ r. answer_of r ≡ run start_plan file)
   pub head_read_open : (file : List ℕ) → Settles (λ r. answer_of r ≡ run open_plan file)
-  pub trace_check_links : (section pairs : List ℕ) (start size entries m : ℕ) → Settles₁ (LinkAnswer section pairs start size entries m)
+  pub trace_check_links : (at : ℕ → ℕ) (nexts : List ℕ) (m : ℕ) → Settles₁ (LinkListAnswer at nexts m)
   pub volumes_check_volume : (section : List ℕ) (l : Layout) (start i : ℕ) → Settles (λ r. decision_of r ≡ volume_checks section l start i)
   pub volumes_check_volumes : (section : List ℕ) (l : Layout) (start count : ℕ) → Settles (λ r. decision_of r ≡ volumes_checks section l start count)
   -- ---- whole files

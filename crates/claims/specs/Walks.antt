@@ -12,7 +12,7 @@ use Rattle.walk.specs.Walk.{heads, total, blocks_in, Walks}
 use Rattle.walk.specs.EveryEntry.{times}
 use Rattle.std.specs.Prelude.{Ok, Result}
 use Rattle.incremental.specs.declared.Refusal.{Refusal}
-use Rattle.walk.specs.declared.Walked.{Walked}
+use Rattle.walk.specs.declared.Visits.{Visits}
 use Rattle.walk.specs.Walk.{steps_walked}
 
 -- a walk of a file with next indexes, of n steps and the total t
@@ -29,7 +29,7 @@ pub record EachOnce (p buffer : List ℕ) (o : Opening) (n t : ℕ) (order' : Li
   pub heads_ends : length (heads (nexts_in o p)) ≡ namers (nexts_in o p) o.head.trace.count end
 
 -- what the promise says of a file that opens, with the working buffer and the place before and after
-pub record WalkSays (p buffer order : List ℕ) (o : Opening) (r : Result Walked Refusal) (buffer' order' : List ℕ) : Type 0 where
+pub record WalkSays (p buffer order : List ℕ) (o : Opening) (r : Result Visits Refusal) (buffer' order' : List ℕ) : Type 0 where
   -- with next indexes every entry is visited once
   pub each_once : has_next o.layout ≡ true → (n t : ℕ) → r ≡ Ok (steps_walked n t) → EachOnce p buffer o n t order'
   -- without them an empty list, 0 steps and total 0; and whatever the whole-file reader accepts is walked: 23 is never given
@@ -37,7 +37,7 @@ pub record WalkSays (p buffer order : List ℕ) (o : Opening) (r : Result Walked
   pub never_23 : has_next o.layout ≡ false → (x : Acceptable) → file_answer p (length buffer) ≡ decided (accept x) → r ≡ Ok (steps_walked 0 0)
 
 abbrev pub WalksSay : Type 0
-WalksSay = (p buffer order : List ℕ) (o : Opening) (r : Result Walked Refusal) (buffer' order' : List ℕ)
+WalksSay = (p buffer order : List ℕ) (o : Opening) (r : Result Visits Refusal) (buffer' order' : List ℕ)
     → run open_plan p ≡ decided (accept o)
     → Walks p buffer order r buffer' order'
     → WalkSays p buffer order o r buffer' order'

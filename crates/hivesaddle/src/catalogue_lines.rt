@@ -4,7 +4,7 @@ ghost use Rattle.catalogue.specs.Line.{reading, read_answer};
 ghost use Rattle.hivesaddle.specs.Output.{Answered, line_values, line_said, fields_of, LineWriting};
 ghost use Rattle.hivesaddle.specs.Private.{said_by, saying};
 
-use crate::replies::{Reply, put_reply, reply};
+use crate::replies::{Reply, put_reply};
 use catalogue::{Fields, NoLine};
 
 // The refusal of bytes that are no line.
@@ -14,7 +14,7 @@ const NO_LINE: u32 = 18;
 fn fields_reply(number: u32, f: Fields) -> Reply<4>
     ensures { said_by result ≡ saying number (line_values f) }
 {
-    reply(
+    Reply::new(
         number,
         [
             f.size as u64,

@@ -6,11 +6,11 @@ ghost use Rattle.writer.specs.LaidOut.{description};
 ghost use Rattle.hivesaddle.specs.Output.{verdict_said, PrefixOut, FileOut, walk_said, WalkOut, WriteOut};
 ghost use Rattle.hivesaddle.specs.Private.{said_by, saying, values_with};
 
-use crate::replies::{Reply, put_reply, reply};
+use crate::replies::{Reply, put_reply};
 use incremental::{Refusal, Stop};
 use reader::{Acceptance, RunTimes};
 use walk::Visits;
-use writer::Given;
+use writer::Contents;
 
 // The values of a verdict: a refusal's number, index and offset, or the bytes wanted, or a record; zeros for what it has not.
 fn reply_of(
@@ -24,7 +24,7 @@ fn reply_of(
     ensures { said_by result ≡ verdict_said (values_with kind number index at wanted a) }
 {
     let t = a.times;
-    reply(
+    Reply::new(
         kind,
         [
             number as u64,
@@ -138,23 +138,18 @@ pub fn hs_write_file(
         strings.now volumes.now volume_count) predecessors.old output.old result predecessors.new
         output.new out.old out.new }
 {
-    let given = Given {
-        version,
+    let contents = Contents {
+        name,
         stored_hash,
         run_time,
         run_count,
-        volume_count,
-    };
-    let v = writer::write_file(
-        given,
-        name,
         metrics,
         trace,
         strings,
         volumes,
-        predecessors,
-        output,
-    );
+        volume_count,
+    };
+    let v = writer::write_file(version, contents, predecessors, output);
     put_reply(full_reply(v), out)
 }
 
@@ -162,7 +157,7 @@ pub fn hs_write_file(
 fn steps_reply(kind: u32, number: u64, index: u64, offset: u64, steps: u64, total: u64) -> Reply<5>
     ensures { said_by result ≡ saying kind (number ∷ index ∷ offset ∷ steps ∷ total ∷ []) }
 {
-    reply(kind, [number, index, offset, steps, total])
+    Reply::new(kind, [number, index, offset, steps, total])
 }
 
 fn walk_reply(answer: Result<Visits, Refusal>) -> Reply<5>

@@ -5,7 +5,7 @@ ghost use Rattle.power_hash.specs.Powers.{hash_powers, swap_answer, swap_said};
 ghost use Rattle.hivesaddle.specs.Output.{Answered};
 ghost use Rattle.hivesaddle.specs.Private.{said_by};
 
-use crate::replies::{Reply, put_reply, reply};
+use crate::replies::{Reply, put_reply};
 use power_hash::TooLong;
 
 pub fn hs_hash_xp(numbers: &[u32]) -> u32
@@ -66,8 +66,8 @@ fn swap_reply(answer: Result<u32, TooLong>) -> Reply<1>
     ensures { said_by result ≡ swap_said answer }
 {
     match answer {
-        Ok(h) => reply(0, [h as u64]),
-        Err(TooLong) => reply(TOO_LONG, [NO_HASH]),
+        Ok(h) => Reply::new(0, [h as u64]),
+        Err(TooLong) => Reply::new(TOO_LONG, [NO_HASH]),
     }
 }
 

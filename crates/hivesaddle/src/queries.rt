@@ -9,7 +9,7 @@ ghost use Rattle.path_search.specs.Search.{path_found, path_said, ListsPaths};
 ghost use Rattle.hivesaddle.specs.Output.{Answered};
 ghost use Rattle.hivesaddle.specs.Private.{said_by, saying};
 
-use crate::replies::{Reply, put_reply, reply};
+use crate::replies::{Reply, put_reply};
 use path_search::PathEntry;
 use query::{FileCost, Place, VolumeFacts};
 use volumes::Reference;
@@ -18,8 +18,8 @@ fn places_reply(answer: Option<u32>) -> Reply<1>
     ensures { said_by result ≡ places_said answer }
 {
     match answer {
-        Some(n) => reply(1, [n as u64]),
-        None => reply(0, [0]),
+        Some(n) => Reply::new(1, [n as u64]),
+        None => Reply::new(0, [0]),
     }
 }
 
@@ -34,8 +34,8 @@ fn place_reply(answer: Option<Place>) -> Reply<2>
     ensures { said_by result ≡ place_said answer }
 {
     match answer {
-        Some(w) => reply(1, [w.at as u64, w.len as u64]),
-        None => reply(0, [0, 0]),
+        Some(w) => Reply::new(1, [w.at as u64, w.len as u64]),
+        None => Reply::new(0, [0, 0]),
     }
 }
 
@@ -58,7 +58,7 @@ fn facts_reply(number: u32, f: VolumeFacts) -> Reply<6>
     ensures { said_by result ≡ saying number (volume_list f) }
 {
     let path = f.path;
-    reply(
+    Reply::new(
         number,
         [
             f.created,
@@ -100,8 +100,8 @@ fn reference_reply(answer: Option<Reference>) -> Reply<2>
     ensures { said_by result ≡ reference_said answer }
 {
     match answer {
-        Some(r) => reply(1, [r.index, r.sequence as u64]),
-        None => reply(0, [0, 0]),
+        Some(r) => Reply::new(1, [r.index, r.sequence as u64]),
+        None => Reply::new(0, [0, 0]),
     }
 }
 
@@ -132,9 +132,9 @@ fn entry_reference_reply(answer: Option<Option<Reference>>) -> Reply<3>
     ensures { said_by result ≡ entry_reference_said answer }
 {
     match answer {
-        Some(Some(r)) => reply(1, [1, r.index, r.sequence as u64]),
-        Some(None) => reply(1, [0, 0, 0]),
-        None => reply(0, [0, 0, 0]),
+        Some(Some(r)) => Reply::new(1, [1, r.index, r.sequence as u64]),
+        Some(None) => Reply::new(1, [0, 0, 0]),
+        None => Reply::new(0, [0, 0, 0]),
     }
 }
 
@@ -152,8 +152,8 @@ fn cost_reply(answer: Option<FileCost>) -> Reply<2>
     ensures { said_by result ≡ cost_said answer }
 {
     match answer {
-        Some(c) => reply(1, [c.names, c.directories]),
-        None => reply(0, [0, 0]),
+        Some(c) => Reply::new(1, [c.names, c.directories]),
+        None => Reply::new(0, [0, 0]),
     }
 }
 
@@ -171,8 +171,8 @@ fn path_reply(answer: Option<PathEntry>) -> Reply<2>
     ensures { said_by result ≡ path_said answer }
 {
     match answer {
-        Some(entry) => reply(1, [entry.index as u64, entry.number as u64]),
-        None => reply(0, [0, NO_NUMBER]),
+        Some(entry) => Reply::new(1, [entry.index as u64, entry.number as u64]),
+        None => Reply::new(0, [0, NO_NUMBER]),
     }
 }
 

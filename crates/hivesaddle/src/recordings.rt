@@ -4,7 +4,7 @@ ghost use Rattle.readings.specs.Replay.{said_of};
 ghost use Rattle.hivesaddle.specs.Output.{ReplayOut, progress_of, BeginOut, FeedOut, FinishOut, YearOut};
 ghost use Rattle.hivesaddle.specs.Private.{said_by, rows_said};
 
-use crate::replies::{Reply, put_reply, reply};
+use crate::replies::{Reply, put_reply};
 use readings::{BadLine, Progress};
 use year::YearRefusal;
 
@@ -17,8 +17,8 @@ fn replay_reply(answer: Result<(), BadLine>) -> Reply<1>
     ensures { said_by result ≡ said_of answer }
 {
     match answer {
-        Ok(()) => reply(0, [NO_LINE]),
-        Err(line) => reply(BAD_LINE, [line.number]),
+        Ok(()) => Reply::new(0, [NO_LINE]),
+        Err(line) => Reply::new(BAD_LINE, [line.number]),
     }
 }
 
@@ -51,7 +51,7 @@ pub fn hs_replay_begin(
 {
     let begun = readings::begin(times, boards, work, answers);
     let p = begun.progress;
-    put_reply(reply(0, [p.lines, p.bad, begun.served as u64]), out)
+    put_reply(Reply::new(0, [p.lines, p.bad, begun.served as u64]), out)
 }
 
 // A piece, behind the bytes of the one before that were not used.
@@ -70,7 +70,7 @@ pub fn hs_replay_feed(
 {
     let fed = readings::feed(Progress { lines, bad }, piece, times, boards, work, answers);
     let p = fed.progress;
-    put_reply(reply(0, [p.lines, p.bad, fed.used as u64]), out)
+    put_reply(Reply::new(0, [p.lines, p.bad, fed.used as u64]), out)
 }
 
 // After the last piece, where so many bytes were not used: 0, or 22 and the number of the first bad line.
@@ -96,8 +96,8 @@ fn year_reply(answer: Result<usize, YearRefusal>) -> Reply<2>
     ensures { said_by result ≡ rows_said answer }
 {
     match answer {
-        Ok(count) => reply(0, [0, count as u64]),
-        Err(refusal) => reply(refusal.fault.number(), [refusal.place as u64, 0]),
+        Ok(count) => Reply::new(0, [0, count as u64]),
+        Err(refusal) => Reply::new(refusal.fault.number(), [refusal.place as u64, 0]),
     }
 }
 

@@ -10,10 +10,12 @@ pub(crate) struct Reply<const N: usize> {
     pub values: [u64; N],
 }
 
-pub(crate) fn reply<const N: usize>(number: u32, values: [u64; N]) -> Reply<N>
-    ensures { said_by result ≡ saying number values }
-{
-    Reply { number, values }
+impl<const N: usize> Reply<N> {
+    pub(crate) fn new(number: u32, values: [u64; N]) -> Reply<N>
+        ensures { said_by result ≡ saying number values }
+    {
+        Reply { number, values }
+    }
 }
 
 // As many of some values as fit.

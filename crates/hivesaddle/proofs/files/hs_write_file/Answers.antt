@@ -5,6 +5,6 @@ pub returns : goal.returns
 returns c =
     let a = c.write_file-v.ensures in
     record {
-      said = record { said = rw (c.verdict_reply.ensures, a.reads.verdict) at c.put_reply.ensures; places = a.reads.buffer };
+      said = record { said = rw (c.full_reply.ensures, a.reads.verdict) at c.put_reply.ensures; places = a.reads.buffer };
       placed = a.placed;
     }
