@@ -140,7 +140,8 @@ fn store_predecessor(buffer: &mut [u32], i: u32, next: u32, least: u32) -> u32
 }
 
 // Checks 11 and 12: the first entry astray, or else the smallest entry that two entries name. All in one pass, since a large
-// section has to come from memory each time. A filled buffer becomes the table of predecessors where no entry is astray.
+// section has to come from memory each time. A filled buffer becomes the table of predecessors where no entry is astray. `least` is
+// the number of entries while none is named twice: a minimum is quicker than an Option.
 fn store_predecessors<N: Nexts>(links: N, buffer: &mut [u32]) -> Result<Pass, Broken>
     requires { FilledBuffer (N.indexes links) buffer.old }
     ensures { Passed (N.indexes links) (length buffer.old) result buffer.new }
