@@ -22,12 +22,8 @@ pub length-firsts : (pairs : List ℕ) (entries : ℕ) → length (firsts pairs 
 unfolding firsts
 length-firsts pairs entries = length-tabulate entries (first_of pairs)
 
-pub after-firsts : (pairs : List ℕ) (entries i : ℕ) → i < entries → after (firsts pairs entries) i ≡ first_of pairs i
-unfolding firsts
-after-firsts pairs entries i l = get_or_tabulate entries (first_of pairs) i end l
-
--- for `search`, at what reads such a list
-pub ruleset listed = (length-nexts, after-nexts, length-firsts, after-firsts)
+-- for `search`, at what counts such a list
+pub ruleset listed = (length-nexts, length-firsts)
 
 -- j is reached from i in one step or more
 abbrev pub Reach : List ℕ → ℕ → ℕ → Type 0

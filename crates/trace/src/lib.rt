@@ -1,12 +1,15 @@
 // Checks 11 to 13 on a list of next indexes, the table of predecessors and the chain count.
 #![tactic(auto)]
 
-ghost use Rattle.std.specs.Prelude.{◌≡◌, ◌⊎◌, ◌<◌, List, ℕ, length};
+ghost use Rattle.std.specs.Prelude.{◌≡◌, ◌⊎◌, ◌*◌, ◌<◌, List, ℕ, length};
+ghost use Rattle.lists.specs.Pairs.{first_of};
+ghost use Rattle.little_endian.specs.Number.{le};
 ghost use Rattle.layout.specs.Head.{entry_offset};
 ghost use Rattle.incremental.specs.Decision.{refusal};
 ghost use Rattle.trace.specs.Links.{end, after, nexts, firsts, predecessors, LinkListAnswer};
 ghost use Rattle.trace.specs.Private.{Distinct, first_cyclic, LinkedBuffer, FilledBuffer, refusal_of};
 ghost use Rattle.trace.specs.Private.{Stored, Passed, CyclesAnswered, LinksAnswered};
+ghost use Rattle.trace.specs.Reads.{read-nexts, read-firsts};
 
 use incremental::{Refusal, check};
 
@@ -17,11 +20,16 @@ const END: u32 = 4294967295;
 pub trait Nexts: Copy + Drop {
     ghost indexes: { Self → List ℕ };
 
+    // What is read as the one of entry i, be there such an entry or not.
+    ghost read: { Self → ℕ → ℕ };
+
     fn count(&self) -> u32
         ensures { result ≡ length (indexes self.now) };
 
     fn next(&self, i: u32) -> u32
-        ensures { i < length (indexes self.now) → result ≡ after (indexes self.now) i };
+        ensures { result ≡ read self.now i };
+
+    ghost agrees: { (x : Self) (i : ℕ) → i < length (indexes x) → read x i ≡ after (indexes x) i };
 }
 
 // Those in a file: the first field of each of so many entries of that size.
@@ -35,15 +43,18 @@ pub struct Entries<'a> {
 impl<'a> Nexts for Entries<'a> {
     ghost indexes = { λ e. nexts e.section.now e.size e.entries };
 
+    ghost read = { λ e i. le 4 e.section.now (i * e.size) };
+
     #[tactic(auto, using(crate::proofs::Steps::listed))]
     fn count(&self) -> u32 {
         self.entries
     }
 
-    #[tactic(auto, using(crate::proofs::Steps::listed))]
     fn next(&self, i: u32) -> u32 {
         little_endian::u32_at(self.section, i as usize * (self.size as usize))
     }
+
+    ghost agrees = { λ e. read-nexts e.section.now e.size e.entries };
 }
 
 // Those that a description gives: the first number of each of so many pairs in a flat table.
@@ -56,13 +67,14 @@ pub struct Pairs<'a> {
 impl<'a> Nexts for Pairs<'a> {
     ghost indexes = { λ p. firsts p.table.now p.pairs };
 
+    ghost read = { λ p. first_of p.table.now };
+
     #[tactic(auto, using(crate::proofs::Steps::listed))]
     fn count(&self) -> u32 {
         self.pairs
     }
 
     // So many pairs begin in the table, which a loop asks once; past them the number is 0.
-    #[tactic(auto, using(crate::proofs::Steps::listed))]
     fn next(&self, i: u32) -> u32 {
         let i = i as usize;
         if i < self.table.len().div_ceil(2) {
@@ -71,6 +83,8 @@ impl<'a> Nexts for Pairs<'a> {
             0
         }
     }
+
+    ghost agrees = { λ p. read-firsts p.table.now p.pairs };
 }
 
 // What a check refuses: an entry astray, one that two entries name, one on a cycle.
@@ -126,7 +140,8 @@ fn store_predecessor(buffer: &mut [u32], i: u32, next: u32, least: u32) -> u32
 }
 
 // Checks 11 and 12: the first entry astray, or else the smallest entry that two entries name. All in one pass, since a large
-// section has to come from memory each time. A filled buffer becomes the table of predecessors where no entry is astray.
+// section has to come from memory each time. A filled buffer becomes the table of predecessors where no entry is astray. `least` is
+// the number of entries while none is named twice: a minimum is quicker than an Option.
 fn store_predecessors<N: Nexts>(links: N, buffer: &mut [u32]) -> Result<Pass, Broken>
     requires { FilledBuffer (N.indexes links) buffer.old }
     ensures { Passed (N.indexes links) (length buffer.old) result buffer.new }

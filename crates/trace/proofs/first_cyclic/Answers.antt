@@ -40,7 +40,7 @@ loop-j-preserved g c =
     let n = c.count-i-end in
     let w = c.loop-j in
     let l = entry w.j _ w.invariant.1.at c.loop-j-test.true in
-    let e : c.next-j.result ≡ after (g.N.Nexts.indexes c.args.links) w.j = c.next-j.ensures l in
+    let e : c.next-j.result ≡ after (g.N.Nexts.indexes c.args.links) w.j = rw c.next-j.ensures (g.met.N.Nexts.agrees _ _ l) in
     let q = c.requires in (
       w.invariant.0,
       rw e
@@ -68,7 +68,7 @@ returns-then-j-i g c =
     let small : length s ≤ end = omega (arith, n.ensures, n.type_inv) in
     let w = c.loop-j in
     let l = entry w.j _ w.invariant.1.at c.loop-j-test.true in
-    let e : c.next-j.result ≡ after s w.j = c.next-j.ensures l in
+    let e : c.next-j.result ≡ after s w.j = rw c.next-j.ensures (g.met.N.Nexts.agrees _ _ l) in
     let found = walk_found s small w.marks c.entries.i w.j w.invariant.1 l c.if-marks-at.false (rw c.if-j-i.true at (sym e)) in
     sym (first_is_at (cyclic s) (length s) c.entries.i (omega (arith, n.ensures)) found
     (seen_before s small c.entries.marks c.entries.i (omega (arith, n.ensures)) c.entries.invariant.1))

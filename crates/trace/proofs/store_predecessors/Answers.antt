@@ -1,6 +1,6 @@
 -- What a turn reads is the next index of its entry; the laws of `Passing` say the rest.
 use mathlib.Core.Logic.{inl, inr}
-use mathlib.Core.Path.{sym}
+use mathlib.Core.Path.{sym, ◌∙◌}
 use native.Mathlib.Omega.{arith}
 use Rattle.trace.proofs.Passing.{passing_none, passing_length, passing_astray, passing_more, passing_shared, passing_clear}
 use Rattle.trace.proofs.store_predecessors.Goals.{then-next, else-next+else-entries-next}
@@ -12,13 +12,13 @@ loop-i-init g c = passing_none _ _ _ _ (sym c.count-entries.ensures) c.requires.
 pub returns-then-entries-next : goal.returns-then-entries-next
 returns-then-entries-next g c =
     let n = c.count-entries in
-    passing_astray c.loop-i.invariant c.next-next.result (omega (arith, n.ensures)) (c.next-next.ensures (omega (arith, n.ensures))) c.loop-i.buffer
+    passing_astray c.loop-i.invariant c.next-next.result (omega (arith, n.ensures)) (c.next-next.ensures ∙ g.met.N.Nexts.agrees _ _ (omega (arith, n.ensures))) c.loop-i.buffer
     (omega (arith, n.ensures, n.type_inv)) c.if-next.false (omega (arith, n.ensures))
 
 pub loop-i-preserved : goal.loop-i-preserved
 loop-i-preserved g c =
     let n = c.count-entries in
-    passing_more c.loop-i.invariant c.next-next.result (omega (arith, n.ensures)) (c.next-next.ensures (omega (arith, n.ensures))) _ _ _
+    passing_more c.loop-i.invariant c.next-next.result (omega (arith, n.ensures)) (c.next-next.ensures ∙ g.met.N.Nexts.agrees _ _ (omega (arith, n.ensures))) _ _ _
     (omega (arith, n.ensures, n.type_inv)) c.requires.room c.store_predecessor-least.ensures
     (elim c.if-next.branch [
       | then-next w ↦ inl (w.if-next.true, w.ends-is)
