@@ -1,5 +1,5 @@
 -- What only private contracts need: what a reply says.
-use Rattle.std.specs.Prelude.{List, [], ◌∷◌, ℕ, take, Result}
+use Rattle.std.specs.Prelude.{List, [], ◌∷◌, ℕ, Result}
 use Rattle.std.specs.Result.{result_unwrap_or}
 use Rattle.lists.specs.Answer.{Said}
 use Rattle.reader.specs.Verdict.{Values}

@@ -12,7 +12,7 @@ pub(crate) struct Reply<const N: usize> {
 
 impl<const N: usize> Reply<N> {
     pub(crate) fn new(number: u32, values: [u64; N]) -> Reply<N>
-        ensures { said_by result ≡ saying number values }
+        ensures { said_by result ≡ saying number values.entry }
     {
         Reply { number, values }
     }
@@ -28,7 +28,7 @@ fn put(out: &mut [u64], values: &[u64])
 
 // Puts a reply's values, and answers its number.
 pub(crate) fn put_reply<const N: usize>(reply: Reply<N>, out: &mut [u64]) -> u32
-    ensures { Answered (said_by reply) result out.old out.new }
+    ensures { Answered (said_by reply.entry) result out.old out.new }
 {
     put(out, &reply.values);
     reply.number

@@ -4,4 +4,4 @@ use Rattle.hivesaddle.proofs.recordings.hs_replay_begin.Goals as goal
 pub returns : goal.returns
 returns c =
     let a = c.begin-begun.ensures in
-    record { said = rw (c.three.ensures, a.says) at c.put_reply.ensures; given = a.given; working = a.working }
+    record { said = rw (c.new.ensures, a.says) at c.put_reply.ensures; given = a.given; working = a.working }
