@@ -37,12 +37,16 @@ use Rattle.claims.proofs.Points.{points}
 use Rattle.claims.proofs.Settled.{settled}
 use Rattle.year.proofs.Facts.{year_facts}
 use Rattle.claims.specs.Claims.{Claims}
+use Rattle.reader.specs.Verdict.{verdict_in, values_of}
+use mathlib.Core.Path.{ap}
+use Rattle.reader.proofs.Values.{same_verdicts}
+use Rattle.std.specs.Prelude.{Ok}
 
 pub claims : Claims
 claims =
     record {
       filled_prefix = λ p buffer. not_accepted_filled _ _;
-      filled_file = λ p buffer. not_accepted_filled _ _;
+      filled_file = λ p buffer v after r n. not_accepted_filled _ _ (verdict_in v) after r (λ a e. n a (same_verdicts v (Ok a) (ap values_of e)));
       demand_2 = demand_2;
       demand_3 = demand_3;
       offsets = offsets;

@@ -13,7 +13,7 @@ use Rattle.trace.specs.Links.{end}
 use Rattle.reader.specs.declared.verdict.Acceptance.{Acceptance}
 use Rattle.reader.specs.Verdict.{Acceptable, Reads, values_of, answer_values, buffer_after}
 use Rattle.reader.proofs.Values.{same_values}
-use Rattle.reader.specs.Checks.{record_of, prefix_answer, file_answer, ReadsPrefix, whole as whole_answer}
+use Rattle.reader.specs.Checks.{record_of, prefix_answer, file_answer, ReadsPrefix, ReadsFile, whole as whole_answer}
 use Rattle.reader.proofs.Rest.{whole_accepted}
 use Rattle.reader.proofs.Allowed.{demand_2}
 use Rattle.reader.proofs.Early.{demand_3}
@@ -126,7 +126,9 @@ empty_programs =
       can_be_met = λ k. (honest k, meets_honest k);
       settled = agree;
       refuses_always = λ k f h n. never (cc (one-run k f h, (n (smallest 1) []).1));
-      refuses_allowed = λ f h p buffer o a l r e. never (cc ((demand_2 p buffer _ _ (h p buffer)).complete o a l).0);
+      refuses_allowed = λ f h p buffer o a l r e.
+          let x : ReadsFile p buffer (Err r) (f.left p buffer) = rw e at (h p buffer) in
+          never (cc ((demand_2 p buffer (Err r) _ x).complete o a l).0);
       asks_for_four = λ k f h w. never (cc (one-run k f h, w (smallest 1) []));
       accepts_always = λ k f h a w. never-one-record k f h a (λ p buffer b e. let q : Ok b ≡ Ok a = sym e ∙ w p buffer in cc);
       fixed_record = never-one-record;
@@ -144,7 +146,8 @@ empty_programs =
           never_again f h p (replicate n 0) buffer n e l (w (replicate n 0));
       repeats_request = never_again;
       chain_count = λ f h p buffer a e.
-          let s = (demand_2 p buffer _ _ (h p buffer)).sound a e in
+          let x : ReadsFile p buffer (Ok a) (f.left p buffer) = rw e at (h p buffer) in
+          let s = (demand_2 p buffer (Ok a) _ x).sound a refl in
           (s.0, s.1, ap (λ (b : Acceptance). b.chain_count) s.3);
       invented_count = λ k f g h i p buffer a b d e n. n (let q = (agree k f g h i p buffer).0 in cc);
       one_chain = λ k f h v x y a e. let q = (accepts k f h (full v) (x ∷ y ∷ []) _ _ (examples.full_file v).answer).0 in cc;

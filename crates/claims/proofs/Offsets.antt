@@ -32,7 +32,7 @@ use Rattle.names.specs.Names.{name_field_at, fits, misfit_fault, unsound_fault}
 use Rattle.trace.specs.Links.{astray, shared, cyclic}
 use Rattle.trace.proofs.Steps.{length-nexts}
 use Rattle.volumes.proofs.Fair.{fair_volumes}
-use Rattle.reader.specs.Verdict.{Acceptable, Reads, values_of}
+use Rattle.reader.specs.Verdict.{Acceptable, Reads, values_of, verdict_in}
 use Rattle.reader.specs.Checks.{nexts_in, trace_required, volumes_required, prefix_answer, whole, size_of}
 use Rattle.reader.specs.Checks.{counts_plan, fits_plan, texts_plan, trace_plan, volumes_plan, rest_plan, read_plan}
 use Rattle.reader.specs.Private.{EntriesFit}
@@ -266,6 +266,6 @@ offsets =
     record {
       table_prefix = λ p buffer v after r h q. ((each_placed p (length buffer)).refuses r (refused_by _ _ v after r h q)).0;
       table_file = λ p buffer v after r h q.
-          (each-whole p (length buffer) (length p) _ (each_placed p (length buffer))).refuses r (refused_by _ _ v after r h q);
+          (each-whole p (length buffer) (length p) _ (each_placed p (length buffer))).refuses r (refused_by _ _ (verdict_in v) after r h (ap verdict_in q));
       inside = λ p buffer v after r h q. ((each_placed p (length buffer)).refuses r (refused_by _ _ v after r h q)).1;
     }

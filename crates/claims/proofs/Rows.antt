@@ -1,5 +1,5 @@
 -- What one row says: a fault has the index and offset of the first that fails, and the entry or field there lies in its section.
-use mathlib.Core.Path.{◌≡◌, refl}
+use mathlib.Core.Path.{◌≡◌, refl, sym, ap, ◌∙◌}
 use mathlib.Core.Bool.{Bool, true, false}
 use mathlib.Core.List.{List}
 use mathlib.Core.Logic.{◌⊎◌, inl, inr}
@@ -24,17 +24,18 @@ use Rattle.query.proofs.Parts.{section_end}
 use Rattle.reader.specs.Checks.{trace_required}
 use Rattle.std.specs.Prelude.{None, Option, Some}
 use Rattle.incremental.specs.Decision.{fault}
+use Rattle.incremental.proofs.Decision.{fault_same}
 
 -- ---- what a fault says of its index and offset
 pub at_index : (i at : ℕ) (b : Bool) (j x : ℕ) → fault_at i at b ≡ Some (fault j x) → (j ≡ i) × (x ≡ at) × (b ≡ true)
-at_index i at true j x e = (cc, cc, refl)
+at_index i at true j x e = let s = fault_same i at j x e in (sym s.0, sym s.1, refl)
 at_index i at false j x e = never cc
 
 pub found_index : (at : ℕ → ℕ) (test : ℕ → Bool) (n k j x : ℕ) → fault_of at (first_from test n k) ≡ Some (fault j x) → (x ≡ at j) × (j < k + n)
 found_index at test n k j x e = go (first_from test n k) refl e
   where
     go : (f : Option ℕ) → first_from test n k ≡ f → fault_of at f ≡ Some (fault j x) → (x ≡ at j) × (j < k + n)
-    go (Some i) q h = let a : i ≡ j = cc in (cc, omega (arith, (first_at test n k i q).1))
+    go (Some i) q h = let s = fault_same i (at i) j x h in (sym s.1 ∙ ap at s.0, omega (arith, s.0, (first_at test n k i q).1))
     go None q h = never cc
 
 pub field_low : (n : ℕ) → offset_field_at n ≤ 108

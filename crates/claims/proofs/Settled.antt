@@ -10,7 +10,6 @@ use Rattle.lists.specs.Answer.{Said}
 use Rattle.lists.specs.Count.{pick}
 use Rattle.lists.specs.Part.{IsPart}
 use Rattle.text.specs.Put.{Put}
-use Rattle.layout.specs.declared.Layout.{Layout}
 use Rattle.incremental.specs.Decision.{Decision, accept, refuse, refusal, decision_of}
 use Rattle.incremental.specs.Plan.{Answer, decided, wants, run, answer_of}
 use Rattle.catalogue.specs.Line.{LineAnswer, read_answer, no_line, Writing}
@@ -21,8 +20,8 @@ use Rattle.head.specs.Checks.{open_plan}
 use Rattle.head.specs.declared.checks.Opening.{Opening}
 use Rattle.reader.specs.declared.verdict.Acceptance.{Acceptance}
 use Rattle.reader.specs.Verdict.{Acceptable, Reads, verdict_in}
-use Rattle.reader.specs.Checks.{ReadsOpened}
-use Rattle.reader.proofs.Values.{same_values}
+use Rattle.reader.specs.Checks.{ReadsOpened, accepted_in}
+use Rattle.reader.proofs.Values.{same_values, same_verdicts}
 use Rattle.lists.specs.Pairs.{PairsListed}
 use Rattle.walk.specs.Walk.{Values, values_of}
 use Rattle.readings.specs.Replay.{said_of}
@@ -127,6 +126,9 @@ answered said out r s a b p q = (cc, cc)
 reads : (answer : Answer Acceptable) (m : ℕ) → Settles₁ (Reads answer m)
 reads answer m r s a b p q = (same_values r s (p.verdict ∙ sym q.verdict), cc)
 
+full : (answer : Answer Acceptable) (m : ℕ) → Settles₁ (λ r. Reads answer m (verdict_in r))
+full answer m r s a b p q = (same_verdicts r s (p.verdict ∙ sym q.verdict), cc)
+
 read_out : (answer : Answer Acceptable) (m : ℕ) (out : List ℕ) → Settles₂ (λ r buffer. ReadOut answer m r buffer out)
 read_out answer m out r s a b c d p q =
     let h = answered _ out r s c d p.said q.said in
@@ -138,10 +140,10 @@ pairs all held r s a b x y = (omega (arith, x.count, y.count), cc)
 -- the opening that an acceptance comes with is the one that the checks give
 opened : (p buffer : List ℕ) → Settles₁ (ReadsOpened p buffer)
 opened p buffer r s a b x y =
-    let h = reads _ _ (verdict_in r) (verdict_in s) a b x.reads y.reads in
+    let h = full _ _ (accepted_in r) (accepted_in s) a b x.reads y.reads in
     (go r s h.0 x.opens y.opens, h.1)
   where
-    go : (r s : Result (Acceptance × Opening) Refusal) → verdict_in r ≡ verdict_in s
+    go : (r s : Result (Acceptance × Opening) Refusal) → accepted_in r ≡ accepted_in s
         → ((a : Acceptance) (o : Opening) → r ≡ Ok (a, o) → run open_plan p ≡ decided (accept o))
         → ((a : Acceptance) (o : Opening) → s ≡ Ok (a, o) → run open_plan p ≡ decided (accept o))
         → r ≡ s
@@ -170,7 +172,7 @@ settled =
       volumes_check_volume = λ section l at i r s p q. told decision_of decision_back decision r s (p ∙ sym q);
       volumes_check_volumes = λ section l at count r s p q. told decision_of decision_back decision r s (p ∙ sym q);
       reader_read_prefix = λ bytes buffer. reads _ _;
-      reader_read_file = λ bytes buffer. reads _ _;
+      reader_read_file = λ bytes buffer. full _ _;
       reader_read_opened = opened;
       query_program_name = λ bytes. part bytes _ _;
       query_entry_name = λ bytes i. part bytes _ _;
@@ -180,7 +182,7 @@ settled =
       query_references = λ bytes i held. pairs _ held;
       path_search_list_paths = λ bytes held. pairs _ held;
       walk_walk = λ bytes buffer order r s a b c d p q. (told values_of walk_back walk r s (p.answer ∙ sym q.answer), cc, cc);
-      writer_write_file = λ version d buffer output r s a b c e p q. let h = reads _ _ r s a b p.reads q.reads in (h.0, h.1, cc);
+      writer_write_file = λ version d buffer output r s a b c e p q. let h = full _ _ r s a b p.reads q.reads in (h.0, h.1, cc);
       listing_text_list = λ bytes buffer out r s a b c d p q. let h = put out 0 _ r s c d p.text q.text in (h.0, cc, h.1);
       readings_replay = λ recording times boards work answers r s a b c d p q. (told said_of replay_back replay r s (p.says ∙ sym q.says), cc, cc);
       readings_begin = λ times boards work answers r s a b c d p q. (cc, cc, cc);

@@ -10,19 +10,19 @@ use lib.Dec.{ltb, eqb}
 use lib.ListN.{length, take, drop, length-append, length-drop}
 use lib.Seq.{take_at, drop_at}
 use Rattle.lists.proofs.Tests.{by_test, never}
-use Rattle.layout.specs.Head.{version_at, declared_size_at}
+use Rattle.layout.specs.Head.{version_at}
 use Rattle.layout.specs.Versions.{layout_of}
 use Rattle.layout.specs.declared.Version.{Version}
-use Rattle.incremental.specs.Decision.{Decision, accept, refuse, refusal}
+use Rattle.incremental.specs.Decision.{accept, refuse, refusal}
 use Rattle.incremental.specs.Plan.{Answer, decided, wants}
 use Rattle.incremental.specs.declared.Refusal.{Refusal}
 use Rattle.reader.specs.declared.verdict.Acceptance.{Acceptance}
-use Rattle.reader.specs.Verdict.{Acceptable, values_of, answer_values, buffer_after}
-use Rattle.reader.specs.Checks.{prefix_answer, sized, size_of, whole, file_answer, ReadsFile}
+use Rattle.reader.specs.Verdict.{Acceptable, values_of, answer_values, buffer_after, verdict_in}
+use Rattle.reader.specs.Checks.{prefix_answer, file_answer, ReadsFile}
 use Rattle.reader.specs.Allowed.{Allowed}
 use Rattle.reader.proofs.Allowed.{demand_2}
 use Rattle.reader.proofs.Rest.{whole_accepted}
-use Rattle.reader.proofs.Values.{accepted_answer, refused_answer, wanted_answer, same_values}
+use Rattle.reader.proofs.Values.{accepted_answer, refused_answer, same_verdicts}
 use Rattle.writer.specs.LaidOut.{Description, Numbers, laid_out}
 use Rattle.writer.specs.Writes.{writable, roomed, placed_answer, write_answer, file_for, output_after, Lays, Writes}
 use Rattle.writer.proofs.Laid.{next_written, blocks_written}
@@ -30,8 +30,6 @@ use Rattle.writer.proofs.Answering.{is_other, written_known}
 use Rattle.claims.specs.Writer.{AsksFor, Occurs, FileWritten, WriterSays, WritersSay}
 use Rattle.claims.proofs.LaidOut.{o, accepted_fits, record_given, refused_number, opening_is, unit_written, name_shown_lem, entry_written}
 use Rattle.std.specs.Prelude.{Err, None, Ok, Option, Result, Some}
-use Rattle.incremental.specs.declared.Stop.TheVariants.{Refused, Wanted}
-use Rattle.incremental.specs.declared.Stop.{Stop}
 
 -- ---- the versions
 asked-writable : (n : ℕ) (v : Version) → AsksFor n v → writable n ≡ Some v
@@ -57,15 +55,6 @@ room_refused true (decided (accept z)) f e = inl (cc)
 room_refused false (decided (accept z)) f e = never cc
 room_refused short (decided (refuse g)) f e = inr e
 room_refused short (wants k) f e = never cc
-
-decided_wants : (short : Bool) (c : Decision Acceptable) (k : ℕ) → roomed short (decided c) ≡ wants k → ⊥
-decided_wants short (accept x) k e = never cc
-decided_wants short (refuse f) k e = never cc
-
-room_wants : (short : Bool) (n : ℕ) (y : Answer Acceptable) (k : ℕ) → roomed short (whole n y) ≡ wants k → ⊥
-room_wants short n (decided (accept x)) k e = decided_wants short (sized (ltb n (size_of x)) (ltb (size_of x) n) x) k e
-room_wants short n (decided (refuse f)) k e = decided_wants short (refuse f) k e
-room_wants short n (wants j) k e = decided_wants short (refuse (refusal 16 0 declared_size_at)) k e
 
 -- ---- the place after an acceptance
 module _ (file buffer output : List ℕ) (a : Acceptance) (buffer' output' : List ℕ)
@@ -100,7 +89,7 @@ module _ (file buffer output : List ℕ) (a : Acceptance) (buffer' output' : Lis
   laid-reads = let e = found.1 ∙ sym reader.1 in rw (← e) h.reads
 
 -- ---- the statements
-module _ (version : ℕ) (d : Description) (buffer output : List ℕ) (r : Result Acceptance Stop) (buffer' output' : List ℕ) (n : Numbers d)
+module _ (version : ℕ) (d : Description) (buffer output : List ℕ) (r : Result Acceptance Refusal) (buffer' output' : List ℕ) (n : Numbers d)
     (h : Writes version d buffer output r buffer' output') where
   abbrev answer : Answer Acceptable
   answer = write_answer version d (length buffer) (length output)
@@ -123,8 +112,8 @@ module _ (version : ℕ) (d : Description) (buffer output : List ℕ) (r : Resul
       go (Some v) q = y v (writable-asked version v q)
       go None q = n (answer-other q)
 
-  refused_by : (f : Refusal) → answer ≡ decided (refuse f) → r ≡ Err (Refused f)
-  refused_by f e = same_values r (Err (Refused f)) (h.reads.verdict ∙ ap answer_values e)
+  refused_by : (f : Refusal) → answer ≡ decided (refuse f) → r ≡ Err f
+  refused_by f e = same_verdicts r (Err f) (h.reads.verdict ∙ ap answer_values e)
 
   file-written : (v : Version) (q : AsksFor version v) (a : Acceptance) → r ≡ Ok a → FileWritten v d buffer output a buffer' output'
   file-written v q a e =
@@ -154,28 +143,19 @@ module _ (version : ℕ) (d : Description) (buffer output : List ℕ) (r : Resul
   written : (a : Acceptance) → r ≡ Ok a → (v : Version) × AsksFor version v × FileWritten v d buffer output a buffer' output'
   written a e =
       by-asked (λ v k. (v, k, file-written v k a e)) λ y.
-      let x = accepted_answer answer a (ap values_of (sym e) ∙ h.reads.verdict) in
+      let x = accepted_answer answer a (ap values_of (ap verdict_in (sym e)) ∙ h.reads.verdict) in
       never (cc x.1)
 
-  refused : (f : Refusal) → r ≡ Err (Refused f) → answer ≡ decided (refuse f)
-  refused f e = refused_answer answer f (ap values_of (sym e) ∙ h.reads.verdict)
+  refused : (f : Refusal) → r ≡ Err f → answer ≡ decided (refuse f)
+  refused f e = refused_answer answer f (ap values_of (ap verdict_in (sym e)) ∙ h.reads.verdict)
 
-  occurs : (f : Refusal) → r ≡ Err (Refused f) → Occurs f.number
+  occurs : (f : Refusal) → r ≡ Err f → Occurs f.number
   occurs f e =
       by-asked
       (λ v k.
       let w = written_known version v (asked-writable version v k) in
       ⊎_elim (λ q. inr (inr (inr (inr q)))) (refused_number v w.0 w.1 d n (length buffer) f) (room_refused _ _ f (sym (answer-is v k) ∙ refused f e)))
       (λ y. let x = refused f e in inl (cc))
-
-  no_request : (k : ℕ) → r ≡ Err (Wanted k) → ⊥
-  no_request k e =
-      let x : answer ≡ wants k = wanted_answer answer k (ap values_of (sym e) ∙ h.reads.verdict) in
-      by-asked
-      (λ v q.
-      let p = laid_out v d in
-      room_wants (ltb (length output) (length p)) (length p) (prefix_answer p (length buffer)) k (sym (answer-is v q) ∙ x))
-      (λ y. never (cc))
 
   says : WriterSays version d buffer output r buffer' output'
   says =
@@ -185,7 +165,7 @@ module _ (version : ℕ) (d : Description) (buffer output : List ℕ) (r : Resul
             let p = laid_out v d in
             let s : roomed (ltb (length output) (length p)) (file_answer p (length buffer)) ≡ decided (accept x) =
             rw (le-ltb (length output) (length p) room) (ap (roomed false) e) in
-            same_values r (Ok x.fields) (h.reads.verdict ∙ ap answer_values (answer-is v q ∙ s));
+            same_verdicts r (Ok x.fields) (h.reads.verdict ∙ ap answer_values (answer-is v q ∙ s));
         refused_alike = λ v q f e.
             refused_by f (answer-is v q ∙ ap (roomed (ltb (length output) (length (laid_out v d)))) e);
         short = λ v q x e room.
@@ -200,7 +180,6 @@ module _ (version : ℕ) (d : Description) (buffer output : List ℕ) (r : Resul
               h.reads.buffer ∙ ap (λ (y : Answer Acceptable). buffer_after y (length buffer)) x,
             );
         never = occurs;
-        no_request = no_request;
       }
 
 pub writers_say : WritersSay

@@ -48,9 +48,10 @@ use Rattle.claims.specs.Settled.{Settled}
 use Rattle.std.specs.Prelude.{None, Ok, Result, Some}
 use Rattle.incremental.specs.declared.Stop.{Stop}
 use Rattle.path_search.specs.Search.{path_entry}
+use Rattle.incremental.specs.declared.Refusal.{Refusal}
 
 -- a refusal or a request
-abbrev pub NotAccepted : Result Acceptance Stop → Type 0
+abbrev pub NotAccepted : {E : Type 0} → Result Acceptance E → Type 0
 NotAccepted v = (a : Acceptance) → v ≡ Ok a → ⊥
 
 -- checks 1 to 6 pass on the bytes `p`; the version, its constants, the name's length and the sections are those of `o`
@@ -68,10 +69,10 @@ pub record Claims : Type 1 where
   -- ---- the demands of document 00
   -- Demand 1: whatever isn't an acceptance leaves the working buffer filled with 4,294,967,295.
   pub filled_prefix : (p buffer : List ℕ) (v : Result Acceptance Stop) (after : List ℕ) → ReadsPrefix p buffer v after → NotAccepted v → after ≡ filled (length buffer)
-  pub filled_file : (p buffer : List ℕ) (v : Result Acceptance Stop) (after : List ℕ) → ReadsFile p buffer v after → NotAccepted v → after ≡ filled (length buffer)
+  pub filled_file : (p buffer : List ℕ) (v : Result Acceptance Refusal) (after : List ℕ) → ReadsFile p buffer v after → NotAccepted v → after ≡ filled (length buffer)
   -- Demand 2: with a working place for each trace entry that has a next index, a file is accepted exactly when the layout allows it, and every field is
   -- the one that the layout gives.
-  pub demand_2 : (p buffer : List ℕ) (v : Result Acceptance Stop) (after : List ℕ) → ReadsFile p buffer v after → AcceptedExactly p buffer v after
+  pub demand_2 : (p buffer : List ℕ) (v : Result Acceptance Refusal) (after : List ℕ) → ReadsFile p buffer v after → AcceptedExactly p buffer v after
   -- Demand 3: take any bytes, any two prefixes of them, the second at least as long as the first, and two working buffers of equal
   -- length, whatever they hold. What the prefix reader accepts or refuses early stands.
   pub demand_3 : (xs : List ℕ) (i j : ℕ) (buffer buffer' : List ℕ) (v w : Result Acceptance Stop) (after after' : List ℕ)

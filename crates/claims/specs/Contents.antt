@@ -21,7 +21,7 @@ use Rattle.volumes.specs.declared.Cursor.{Cursor}
 use Rattle.std.specs.Prelude.{Err, Ok, Option, Result, Some}
 use Rattle.volumes.specs.declared.StepFault.TheVariants.{Past, Unended}
 use Rattle.volumes.specs.declared.StepFault.{StepFault}
-use Rattle.incremental.specs.declared.Stop.{Stop}
+use Rattle.incremental.specs.declared.Refusal.{Refusal}
 
 -- where the string after k others starts: k steps of the cursor, which stays where it can't go on
 abbrev pub step_on : ℕ → Result Cursor StepFault → ℕ
@@ -85,5 +85,5 @@ pub record ContentsGiven (p : List ℕ) (o : Opening) : Type 0 where
 
 -- the statement, over the promises of the whole-file reader and of the queries
 abbrev pub Contents : Type 0
-Contents = (file buffer : List ℕ) (v : Result Acceptance Stop) (after : List ℕ) (a : Acceptance) → ReadsFile file buffer v after → v ≡ Ok a
+Contents = (file buffer : List ℕ) (v : Result Acceptance Refusal) (after : List ℕ) (a : Acceptance) → ReadsFile file buffer v after → v ≡ Ok a
     → (o : Opening) × Allowed file o × ContentsGiven file o

@@ -6,7 +6,8 @@ use Rattle.sections.specs.Fields.{link_count}
 use Rattle.head.specs.declared.checks.Opening.{Opening}
 use Rattle.trace.specs.Links.{chains}
 use Rattle.reader.specs.declared.verdict.Acceptance.{Acceptance}
-use Rattle.reader.specs.Checks.{nexts_in, ReadsPrefix, ReadsFile}
+use Rattle.reader.specs.Verdict.{Reads}
+use Rattle.reader.specs.Checks.{nexts_in, file_answer, ReadsPrefix}
 use Rattle.reader.specs.Allowed.{Allowed}
 use Rattle.claims.specs.Examples.{full, full_chains}
 use Rattle.std.specs.Prelude.{Err, Ok, Result}
@@ -23,10 +24,10 @@ pub data Reader : Type 0 where
   part : Reader
   whole : Reader
 
--- it meets the reader's promise on all inputs
+-- it meets the reader's promise on all inputs; the promise of the whole-file reader is said of a verdict, as `ReadsFile` says it
 abbrev pub Meets : Reader → Program → Type 0
 Meets part f = (p buffer : List ℕ) → ReadsPrefix p buffer (f.verdict p buffer) (f.left p buffer)
-Meets whole f = (p buffer : List ℕ) → ReadsFile p buffer (f.verdict p buffer) (f.left p buffer)
+Meets whole f = (p buffer : List ℕ) → Reads (file_answer p (length buffer)) (length buffer) (f.verdict p buffer) (f.left p buffer)
 
 -- no program that answers in one of these ways meets its reader's promise
 pub record EmptyPrograms : Type 0 where

@@ -15,8 +15,8 @@ use Rattle.reader.specs.Checks.{ReadsFile}
 use Rattle.reader.specs.Allowed.{Allowed, given_record}
 use Rattle.std.specs.Prelude.{Ok, Option, Result, Some}
 use Rattle.volumes.specs.declared.Reference.{Reference}
-use Rattle.incremental.specs.declared.Stop.{Stop}
 use Rattle.query.specs.declared.VolumeFacts.{VolumeFacts}
+use Rattle.incremental.specs.declared.Refusal.{Refusal}
 
 -- `r` is that place of the borrowed file, whole: its very bytes
 pub record Lies (file : Bor (List ℕ)) (w : Place) (r : Bor (List ℕ)) : Type 0 where
@@ -47,7 +47,7 @@ pub record AllShown (file : Bor (List ℕ)) (o : Opening) : Type 0 where
 
 -- the statement, over the promises of the whole-file reader and of the queries
 abbrev pub EveryName : Type 0
-EveryName = (file : Bor (List ℕ)) (buffer : List ℕ) (v : Result Acceptance Stop) (after : List ℕ) (a : Acceptance)
+EveryName = (file : Bor (List ℕ)) (buffer : List ℕ) (v : Result Acceptance Refusal) (after : List ℕ) (a : Acceptance)
     → ReadsFile file.now buffer v after
     → v ≡ Ok a
     → (o : Opening) × Allowed file.now o × (a ≡ given_record o file.now) × AllShown file o

@@ -16,7 +16,7 @@ use Rattle.reader.specs.Checks.{file_answer, ReadsFile}
 use Rattle.reader.specs.Allowed.{Allowed, given_record}
 use Rattle.query.specs.Queries.{entry_place, volume_asked, reference_asked}
 use Rattle.std.specs.Prelude.{Ok, Result, Some}
-use Rattle.incremental.specs.declared.Stop.{Stop}
+use Rattle.incremental.specs.declared.Refusal.{Refusal}
 
 -- ---- the files
 abbrev pub u16 : ℕ → List ℕ
@@ -145,7 +145,7 @@ full_record v =
 -- a file that the layout allows, and that so is accepted wherever each trace entry has a working place
 pub record Example (p : List ℕ) (a : Acceptance) : Type 0 where
   pub allowed : (o : Opening) × Allowed p o × (given_record o p ≡ a)
-  pub accepted : (buffer : List ℕ) (v : Result Acceptance Stop) (after : List ℕ) → a.trace_count ≤ length buffer → ReadsFile p buffer v after → v ≡ Ok a
+  pub accepted : (buffer : List ℕ) (v : Result Acceptance Refusal) (after : List ℕ) → a.trace_count ≤ length buffer → ReadsFile p buffer v after → v ≡ Ok a
 
 pub record SmallestFile : Type 0 where
   pub long : length (smallest 1) ≡ 148

@@ -57,7 +57,7 @@ pub record Offsets : Type 0 where
   -- the offset is the one that the table gives
   pub table_prefix : (p buffer : List ℕ) (v : Result Acceptance Stop) (after : List ℕ) (r : Refusal) → ReadsPrefix p buffer v after → v ≡ Err (Refused r)
       → r.offset ≡ offset_in p r.number r.index
-  pub table_file : (p buffer : List ℕ) (v : Result Acceptance Stop) (after : List ℕ) (r : Refusal) → ReadsFile p buffer v after → v ≡ Err (Refused r)
+  pub table_file : (p buffer : List ℕ) (v : Result Acceptance Refusal) (after : List ℕ) (r : Refusal) → ReadsFile p buffer v after → v ≡ Err r
       → r.offset ≡ offset_in p r.number r.index
   -- the field at fault, of four bytes at least, lies in the prefix
   pub inside : (p buffer : List ℕ) (v : Result Acceptance Stop) (after : List ℕ) (r : Refusal) → ReadsPrefix p buffer v after → v ≡ Err (Refused r)

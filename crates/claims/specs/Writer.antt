@@ -18,8 +18,6 @@ use Rattle.reader.specs.Checks.{file_answer, ReadsFile}
 use Rattle.writer.specs.LaidOut.{Description, Numbers, laid_out, before_zero, pairs, trace_at, strings_at}
 use Rattle.writer.specs.Writes.{Writes}
 use Rattle.std.specs.Prelude.{Err, Ok, Result, Some}
-use Rattle.incremental.specs.declared.Stop.TheVariants.{Refused, Wanted}
-use Rattle.incremental.specs.declared.Stop.{Stop}
 
 -- "A writer for versions 17 and 23": the version that a number asks for
 abbrev pub AsksFor : ℕ → Version → Type 0
@@ -63,28 +61,27 @@ pub record FileWritten (v : Version) (d : Description) (buffer output : List ℕ
       → le 4 (laid_out v d) (entry_offset (trace_at (layout_of v) d) (trace_entry (layout_of v)) i + 4) ≡ second_of d.trace i
 
 -- what the promise says, with the working buffer and the place before and after
-pub record WriterSays (version : ℕ) (d : Description) (buffer output : List ℕ) (r : Result Acceptance Stop) (buffer' output' : List ℕ) : Type 0 where
+pub record WriterSays (version : ℕ) (d : Description) (buffer output : List ℕ) (r : Result Acceptance Refusal) (buffer' output' : List ℕ) : Type 0 where
   -- after an acceptance the file is written
   pub written : (a : Acceptance) → r ≡ Ok a → (v : Version) × AsksFor version v × FileWritten v d buffer output a buffer' output'
   -- "It answers with that file's acceptance record": where the reader accepts the file and the place has room for it
   pub accepted_alike : (v : Version) → AsksFor version v → (x : Acceptable) → file_answer (laid_out v d) (length buffer) ≡ decided (accept x)
       → length (laid_out v d) ≤ length output → r ≡ Ok x.fields
   -- "Every file it can't write is named by the reader's own number, found as if the file had been laid out", with index and file offset
-  pub refused_alike : (v : Version) → AsksFor version v → (f : Refusal) → file_answer (laid_out v d) (length buffer) ≡ decided (refuse f) → r ≡ Err (Refused f)
+  pub refused_alike : (v : Version) → AsksFor version v → (f : Refusal) → file_answer (laid_out v d) (length buffer) ≡ decided (refuse f) → r ≡ Err f
   -- "20, index 0, place too short for the laid-out file, checked last"
   pub short : (v : Version) → AsksFor version v → (x : Acceptable) → file_answer (laid_out v d) (length buffer) ≡ decided (accept x)
-      → length output < length (laid_out v d) → r ≡ Err (Refused (refusal 20 0 0))
+      → length output < length (laid_out v d) → r ≡ Err (refusal 20 0 0)
   -- "any other getting 1"
-  pub other : (version ≡ 17 → ⊥) → (version ≡ 23 → ⊥) → r ≡ Err (Refused (refusal 1 0 version_at))
+  pub other : (version ≡ 17 → ⊥) → (version ≡ 23 → ⊥) → r ≡ Err (refusal 1 0 version_at)
   -- "the place unchanged in every refusal", and the working buffer filled
-  pub unchanged : (f : Refusal) → r ≡ Err (Refused f) → (output' ≡ output) × (buffer' ≡ filled (length buffer))
-  -- a laid-out file is never refused with 2, 5, 6, 16, 17 or 21, and no more bytes are asked for
-  pub never : (f : Refusal) → r ≡ Err (Refused f) → Occurs f.number
-  pub no_request : (k : ℕ) → r ≡ Err (Wanted k) → ⊥
+  pub unchanged : (f : Refusal) → r ≡ Err f → (output' ≡ output) × (buffer' ≡ filled (length buffer))
+  -- a laid-out file is never refused with 2, 5, 6, 16, 17 or 21
+  pub never : (f : Refusal) → r ≡ Err f → Occurs f.number
 
 -- the statement, of a description whose numbers fit their widths
 abbrev pub WritersSay : Type 0
-WritersSay = (version : ℕ) (d : Description) (buffer output : List ℕ) (r : Result Acceptance Stop) (buffer' output' : List ℕ)
+WritersSay = (version : ℕ) (d : Description) (buffer output : List ℕ) (r : Result Acceptance Refusal) (buffer' output' : List ℕ)
     → Numbers d
     → Writes version d buffer output r buffer' output'
     → WriterSays version d buffer output r buffer' output'

@@ -24,7 +24,7 @@ use Rattle.head.specs.declared.checks.Opening.{Opening}
 use Rattle.trace.specs.Links.{after}
 use Rattle.reader.specs.declared.verdict.Acceptance.{Acceptance}
 use Rattle.reader.specs.Verdict.{verdict_in, Acceptable, values_of, answer_values, buffer_after}
-use Rattle.reader.proofs.Values.{accepted_answer, same_values}
+use Rattle.reader.proofs.Values.{accepted_answer, same_verdicts}
 use Rattle.reader.specs.Checks.{record_of, prefix_answer, file_answer, ReadsFile}
 use Rattle.reader.proofs.Taken.{head-take, name_ends}
 use Rattle.reader.proofs.Rest.{RestFacts, read_facts, read_complete, whole_accepted, whole-accepts}
@@ -116,11 +116,6 @@ sizes : (o : Opening) (p : List ℕ) (n : ℕ) → (record_of o p n).declared_si
 unfolding record_of
 sizes o p n = refl
 
--- a verdict that makes no request
-full_same : (v : Result Acceptance Refusal) (a : Acceptance) → verdict_in v ≡ Ok a → v ≡ Ok a
-full_same (Ok b) a e = let q : b ≡ a = cc in ap (λ (x : Acceptance). Ok x) q
-full_same (Err f) a e = never cc
-
 -- DEMAND 2
 pub demand_2 : (p buffer : List ℕ) (v : Result Acceptance Refusal) (after : List ℕ) → ReadsFile p buffer v after → AcceptedExactly p buffer v after
 demand_2 p buffer v after r = record { sound = is-allowed; complete = is-accepted }
@@ -150,4 +145,4 @@ demand_2 p buffer v after r = record { sound = is-allowed; complete = is-accepte
         let x : Acceptable = record { fields = given_record o p; table = given_table o p m } in
         let e = read_complete m p o x (opens p o a) (omega (arith, a.complete)) (passes m p o a l) in
         let w = whole-accepts (length p) (prefix_answer p m) x e (sizes o p _ ∙ sym a.complete) in
-        (full_same v (given_record o p) (same_values (verdict_in v) (Ok (given_record o p)) (r.verdict ∙ ap answer_values w)), r.buffer ∙ ap (λ (z : Answer Acceptable). buffer_after z m) w)
+        (same_verdicts v (Ok (given_record o p)) (r.verdict ∙ ap answer_values w), r.buffer ∙ ap (λ (z : Answer Acceptable). buffer_after z m) w)

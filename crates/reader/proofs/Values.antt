@@ -2,11 +2,11 @@
 use mathlib.Core.Path.{◌≡◌, refl, sym, ◌∙◌, ap}
 use Prim.Native.Nat.{ℕ, zero, suc}
 use native.Mathlib.Omega.{arith}
-use Rattle.incremental.specs.Decision.{accept, refuse}
+use Rattle.incremental.specs.Decision.{accept, refuse, refusal}
 use Rattle.incremental.specs.Plan.{Answer, decided, wants}
 use Rattle.incremental.specs.declared.Refusal.{Refusal}
 use Rattle.reader.specs.declared.verdict.Acceptance.{Acceptance}
-use Rattle.reader.specs.Verdict.{Acceptable, Values, values_of, answer_values, accepted_values, refused_values, wanted_values}
+use Rattle.reader.specs.Verdict.{Acceptable, Values, values_of, verdict_in, answer_values, accepted_values, refused_values, wanted_values}
 use Rattle.std.specs.Prelude.{Err, Ok, Result}
 use Rattle.incremental.specs.declared.Stop.TheVariants.{Refused, Wanted}
 use Rattle.incremental.specs.declared.Stop.{Stop}
@@ -47,3 +47,16 @@ values_back (Err (Wanted k)) = refl
 
 pub same_values : (v w : Result Acceptance Stop) → values_of v ≡ values_of w → v ≡ w
 same_values v w e = sym (values_back v) ∙ ap (λ (x : Values). verdict_by x.kind x) e ∙ values_back w
+
+-- and a whole-file reader's verdict
+abbrev full_by : Result Acceptance Stop → Result Acceptance Refusal
+full_by (Ok a) = Ok a
+full_by (Err (Refused r)) = Err r
+full_by (Err (Wanted k)) = Err (refusal 0 0 0)
+
+full_back : (v : Result Acceptance Refusal) → full_by (verdict_in v) ≡ v
+full_back (Ok a) = refl
+full_back (Err r) = refl
+
+pub same_verdicts : (v w : Result Acceptance Refusal) → values_of (verdict_in v) ≡ values_of (verdict_in w) → v ≡ w
+same_verdicts v w e = sym (full_back v) ∙ ap full_by (same_values (verdict_in v) (verdict_in w) e) ∙ full_back w
