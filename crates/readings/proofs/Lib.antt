@@ -1,3 +1,4 @@
+pub mod Keys
 pub mod Shuffle
 pub mod Heap
 pub mod Orders
