@@ -39,20 +39,20 @@ right c l m =
     let e : get_or values (c - 48) 0 ≡ value_or16 (48 + (c - 48)) = eqb-true _ _ (not-false _ (any_false wrong 23 none_wrong (c - 48) (omega arith))) in
     rw q at e
 
-by_value : (c v : ℕ) → v ≡ value_or16 c → (v < 16 → Some v ≡ value_of c) × (16 ≤ v → None ≡ value_of c)
+by_value : (c v : ℕ) → v ≡ value_or16 c → ((v ≡ 16 → ⊥) → Some v ≡ value_of c) × (v ≡ 16 → None ≡ value_of c)
 unfolding value_of value_or16
 by_value c v e =
     by_test (is_digit c)
     (λ d.
     let q : v ≡ digit_value c = e ∙ rw d refl in
     (λ l. rw d (ap Some q), λ l. absurd (omega (arith, q, (digit_law c d).small))))
-    (λ d. let q : v ≡ 16 = e ∙ rw d refl in (λ l. absurd (omega (arith, q)), λ l. rw d refl))
+    (λ d. let q : v ≡ 16 = e ∙ rw d refl in (λ l. absurd (l q), λ l. rw d refl))
 
 module _ (c : ℕ) (l : 48 ≤ c) (m : c ≤ 70) where
-  pub value_some : get_or values (c - 48) 0 < 16 → Some (get_or values (c - 48) 0) ≡ value_of c
+  pub value_some : (get_or values (c - 48) 0 ≡ 16 → ⊥) → Some (get_or values (c - 48) 0) ≡ value_of c
   value_some = (by_value c _ (right c l m)).0
 
-  pub value_none : 16 ≤ get_or values (c - 48) 0 → None ≡ value_of c
+  pub value_none : get_or values (c - 48) 0 ≡ 16 → None ≡ value_of c
   value_none = (by_value c _ (right c l m)).1
 
 -- bytes outside it are no digits

@@ -12,12 +12,12 @@ static VALUES: [u8; 23] = [
     0, 1, 2, 3, 4, 5, 6, 7, 8, 9, 16, 16, 16, 16, 16, 16, 16, 10, 11, 12, 13, 14, 15,
 ];
 
-// Whether a byte is one of 0-9 A-F.
-#[tactic(auto, using(lists::proofs::Tests::tests), unfolding(crate::specs::Hex::is_digit))]
+// Whether a byte is one of 0-9 A-F. By `&` and `|`: with the branches of `matches!` lines are read half as fast.
+#[tactic(auto, unfolding(crate::specs::Hex::is_digit))]
 fn is_digit(b: u8) -> bool
     ensures { result ≡ is_digit b }
 {
-    matches!(b, b'0'..=b'9' | b'A'..=b'F')
+    ((b'0' <= b) & (b <= b'9')) | ((b'A' <= b) & (b <= b'F'))
 }
 
 // So many bytes from `at`, where they are there.
@@ -41,7 +41,8 @@ pub fn are_digits(line: &[u8], at: usize, width: usize) -> bool
     bytes_at(line, at, width).is_some_and(all_digits)
 }
 
-// The value of a digit. Looked up, as a branch on which are letters would be foretold wrong.
+// The value of a digit. Looked up, as a branch on which are letters would be foretold wrong. Not by `value < 16`: digits that are known to
+// be four bits are joined one after another, which is slower.
 #[tactic(auto, using(crate::proofs::Values::table))]
 fn value_of(b: u8) -> Option<u64>
     ensures { result ≡ value_of b }
@@ -50,7 +51,11 @@ fn value_of(b: u8) -> Option<u64>
         return None;
     }
     let value = VALUES[(b - b'0') as usize];
-    if value < 16 { Some(value as u64) } else { None }
+    if value == 16 {
+        None
+    } else {
+        Some(value as u64)
+    }
 }
 
 // The number that up to 16 digits form.
