@@ -9,7 +9,7 @@ ghost use Rattle.hivesaddle.specs.Private.{said_by, saying, values_with};
 use crate::replies::{Reply, put_reply};
 use reader::{Acceptance, RunTimes, Verdict};
 use walk::WalkAnswer;
-use writer::Given;
+use writer::Contents;
 
 // The values of a verdict: a refusal's number, index and offset, or the bytes wanted, or a record; zeros for what it has not.
 fn reply_of(kind: u32, number: u32, index: usize, at: usize, wanted: usize, a: Acceptance) -> Reply
@@ -122,23 +122,18 @@ pub fn hs_write_file(
         strings.now volumes.now volume_count) predecessors.old output.old result predecessors.new
         output.new out.old out.new }
 {
-    let given = Given {
-        version: version,
-        stored_hash: stored_hash,
-        run_time: run_time,
-        run_count: run_count,
-        volume_count: volume_count,
-    };
-    let v = writer::write_file(
-        given,
+    let contents = Contents {
         name,
+        stored_hash,
+        run_time,
+        run_count,
         metrics,
         trace,
         strings,
         volumes,
-        predecessors,
-        output,
-    );
+        volume_count,
+    };
+    let v = writer::write_file(version, contents, predecessors, output);
     put_reply(verdict_reply(v), out)
 }
 

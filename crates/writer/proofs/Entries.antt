@@ -2,7 +2,7 @@
 use mathlib.Core.Path.{◌≡◌, refl, ap, ◌∙◌}
 use mathlib.Core.List.{List, [], ◌∷◌, ◌++◌, append_assoc}
 use Prim.Native.Nat.{ℕ, suc, ◌+◌, ◌-◌, ◌*◌, ◌≤◌, ◌<◌}
-use native.Mathlib.Nat.{sub-zero, suc-mul, mul-le-mul_right}
+use native.Mathlib.Nat.{sub-zero}
 use native.Mathlib.Omega.{arith}
 use lib.ListN.{length, get_or, drop, replicate, length-append, length-replicate, drop_of_length-le}
 use lib.Seq.{drop-cons}
@@ -125,9 +125,6 @@ laying_start {o} {at} sized room = record { sized = sized; room = room; placed =
 module _ {o : List ℕ} {at : ℕ} {f : ℕ → List ℕ} {size count : ℕ} {output : List ℕ} {i : ℕ} (g : Laying o at f size count output i) where
   pub laying_long : length output ≡ length o
   laying_long = laid_long _ _ _ _ g.placed
-
-  pub laying_room : i < count → at + i * size + size ≤ length output
-  laying_room l = let m : suc i * size ≤ count * size = mul-le-mul_right size l in omega (arith, laying_long, suc-mul i size, g.room)
 
   pub laying_step : {output' : List ℕ} {next : ℕ} → next ≡ at + i * size → output' ≡ patch output next (f i) → Laying o at f size count output' (i + 1)
   unfolding entries
