@@ -68,11 +68,9 @@ fn put_pair(output: &mut [u8], at: usize, e: Entry, first: u32, second: u32)
     requires { at + e.size ≤ length output.old }
     ensures { output.new ≡ patch output.old at (pair_of e first second) }
 {
-    let first_at = at + e.first;
-    let second_at = at + e.second;
-    put_field(output, at, first_at, first);
-    put_field(output, first_at + 4, second_at, second);
-    put_zeros(output, second_at + 4, at + e.size);
+    put_zeros(output, at, at + e.size);
+    put_bytes(output, at + e.first, &first.to_le_bytes());
+    put_bytes(output, at + e.second, &second.to_le_bytes());
 }
 
 // An array of entries one behind another, one for each pair of a table; an odd last number is ignored. Where the places in an entry are
