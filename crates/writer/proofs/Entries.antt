@@ -33,8 +33,12 @@ module _ (e : Entry) (a b : ℕ) where
   in-parts n q =
       let k : n ≡ e.first + (4 + (between + (4 + behind))) = omega arith in
       let s : zeros e.first ++ (zeros 4 ++ (zeros between ++ (zeros 4 ++ zeros behind))) ≡ zeros (e.first + (4 + (between + (4 + behind)))) =
-      rw (replicate-append-replicate {A = ℕ} 4 behind 0, replicate-append-replicate {A = ℕ} between (4 + behind) 0,
-      replicate-append-replicate {A = ℕ} 4 (between + (4 + behind)) 0, replicate-append-replicate {A = ℕ} e.first (4 + (between + (4 + behind))) 0) refl in
+      rw (
+        replicate-append-replicate {A = ℕ} 4 behind 0,
+        replicate-append-replicate {A = ℕ} between (4 + behind) 0,
+        replicate-append-replicate {A = ℕ} 4 (between + (4 + behind)) 0,
+        replicate-append-replicate {A = ℕ} e.first (4 + (between + (4 + behind))) 0,
+      ) refl in
       ap zeros k ∙ sym s
 
   before : List ℕ

@@ -63,7 +63,6 @@ fn put_units(output: &mut [u8], at: usize, units: &[u16])
 }
 
 // An entry: the numbers of a pair at their places, and all other bytes zero.
-#[inline(always)]
 fn put_pair(output: &mut [u8], at: usize, e: Entry, first: u32, second: u32)
     requires { at + e.size ≤ length output.old }
     ensures { output.new ≡ patch output.old at (pair_of e first second) }
@@ -73,9 +72,7 @@ fn put_pair(output: &mut [u8], at: usize, e: Entry, first: u32, second: u32)
     put_bytes(output, at + e.second, &second.to_le_bytes());
 }
 
-// An array of entries one behind another, one for each pair of a table; an odd last number is ignored. Where the places in an entry are
-// constants, the stores of one entry are too.
-#[inline(always)]
+// An array of entries one behind another, one for each pair of a table; an odd last number is ignored.
 fn put_pairs(output: &mut [u8], at: usize, e: Entry, table: &[u32])
     requires { at + length table.now / 2 * e.size ≤ length output.old }
     ensures { output.new ≡ patch output.old at (entries (pair_bytes e table.now) (length table.now / 2)) }
