@@ -9,7 +9,7 @@ use lib.Seq.{drop-cons}
 use Rattle.lists.specs.Pairs.{first_of, second_of}
 use Rattle.layout.specs.Versions.{metrics_entry, name_offset_at, name_length_at, trace_entry}
 use Rattle.layout.specs.declared.Layout.{Layout}
-use Rattle.writer.specs.declared.draft.Entry.{Entry}
+use Rattle.writer.specs.declared.draft.Shape.{Shape}
 use Rattle.writer.specs.LaidOut.{number, bytes_of, spread, entries, metrics_bytes, trace_bytes}
 use Rattle.writer.specs.Plans.{Writable}
 use Rattle.writer.specs.Private.{patch, Ordered, with_gaps, numbers_at, pair_of, pair_bytes}
@@ -18,7 +18,7 @@ use Rattle.writer.proofs.Spread.{ordered_end, length-spread}
 use Rattle.writer.proofs.Stores.{patch-none, patch_join, put_over, laid_long, then_laid}
 
 -- an entry: zeros, and the two numbers put over them
-module _ (e : Entry) (a b : ℕ) where
+module _ (e : Shape) (a b : ℕ) where
   abbrev zeros : ℕ → List ℕ
   zeros n = replicate n 0
 
@@ -129,18 +129,18 @@ putting_end {fields = fields} {output = output} {from = from} {i = i} g l =
     patch-none output from ∙ rw e at g.whole
 
 -- ---- entries of one size one behind another
-pub ordered_pair : (e : Entry) (a b : ℕ) → Ordered 0 (number e.first 4 a ∷ number e.second 4 b ∷ []) e.size
+pub ordered_pair : (e : Shape) (a b : ℕ) → Ordered 0 (number e.first 4 a ∷ number e.second 4 b ∷ []) e.size
 unfolding bytes_of
 ordered_pair e a b = omega arith
 
-pub pair_size : (e : Entry) (table : List ℕ) (i : ℕ) → length (pair_bytes e table i) ≡ e.size
+pub pair_size : (e : Shape) (table : List ℕ) (i : ℕ) → length (pair_bytes e table i) ≡ e.size
 pair_size e table i = length-spread 0 _ e.size (ordered_pair e (first_of table i) (second_of table i)) ∙ omega arith
 
 -- those of the two arrays
-abbrev pub metrics_shape : (l : Layout) → Writable l → Entry
+abbrev pub metrics_shape : (l : Layout) → Writable l → Shape
 metrics_shape l w = record { first = name_offset_at l; second = name_length_at l; size = metrics_entry l; ordered = (w.name_length, w.metrics) }
 
-abbrev pub trace_shape : (l : Layout) → Writable l → Entry
+abbrev pub trace_shape : (l : Layout) → Writable l → Shape
 trace_shape l w = record { first = 0; second = 4; size = trace_entry l; ordered = (omega arith, omega (arith, w.trace)) }
 
 module _ (l : Layout) (w : Writable l) (table : List ℕ) where

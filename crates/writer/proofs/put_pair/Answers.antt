@@ -9,7 +9,7 @@ use Rattle.writer.proofs.put_pair.Goals as goal
 
 pub returns : goal.returns
 returns c =
-    let e = c.args.e in
+    let e = c.args.shape in
     let at = c.args.at in
     pair_laid e c.args.first c.args.second _ _ _ _ at (at + e.size - at) (omega arith) (omega (arith, c.requires)) c.put_zeros.ensures
     (c.put_bytes.ensures ∙ ap (patch _ (at + e.first)) (c.to_le_bytes.ensures ∙ low_bytes 4 c.args.first))
