@@ -10,10 +10,8 @@ use lib.Dec.{ltb, eqb}
 use lib.ListN.{length, take, drop}
 use Rattle.std.proofs.lemmas.List.Edits.{sets-eq}
 use Rattle.std.proofs.lemmas.Result.{err_from_is_err_and}
-use Rattle.incremental.specs.declared.Stop.TheVariants.{Refused}
-use Rattle.std.specs.Prelude.{Err, None, Ok, Option, Result, Some, is_err}
+use Rattle.std.specs.Prelude.{Err, None, Ok, Option, Result, Some}
 use Rattle.std.specs.Result.{IsErrAnd}
-use Rattle.lists.specs.Filled.{filled}
 use Rattle.lists.proofs.Tests.{by_test, never}
 use Rattle.layout.specs.Head.{declared_size_at, program_name_at}
 use Rattle.layout.specs.Versions.{version_number, version_of, layout_of, size_limit}
@@ -27,10 +25,9 @@ use Rattle.trace.specs.Links.{predecessors}
 use Rattle.reader.specs.Verdict.{Acceptable}
 use Rattle.reader.specs.Checks.{file_answer}
 use Rattle.reader.specs.declared.verdict.Acceptance.{Acceptance}
-use Rattle.reader.proofs.Readers.{reads_kept, reads_filled}
 use Rattle.writer.specs.declared.draft.Plan.{Plan}
 use Rattle.writer.specs.LaidOut.{Description, Numbers, before_zero, laid_by, laid_out, laid_size}
-use Rattle.writer.specs.Writes.{writable, roomed, placed_answer, output_after, Lays}
+use Rattle.writer.specs.Writes.{writable, roomed, placed_answer, output_after}
 use Rattle.writer.specs.Plans.{Writable, Ready, plan_for, planned}
 use Rattle.writer.specs.Private.{patch, carried_units, section_checks, SectionsAnswered, described, links_in, acceptable_for, record_for, Drafted, DraftedBy}
 use Rattle.writer.proofs.Name.{carried_most}
@@ -153,18 +150,3 @@ module _ (v : Version) (w : Writable (layout_of v)) (d : Description) (r : Numbe
 
 pub read_refused : (file : List ℕ) (m n : ℕ) (f : Refusal) → file_answer file m ≡ decided (refuse f) → placed_answer file m n ≡ decided (refuse f)
 read_refused file m n f e = ap (roomed (ltb n (length file))) e
-
-pub version_laid : (v : Version) (l : Layout) (d : Description) (m : ℕ) (output : List ℕ) (x : Result Acceptance Refusal) (after output' : List ℕ) → l ≡ layout_of v
-    → DraftedBy v l d m output x after output' → DraftedBy v (layout_of v) d m output x after output'
-version_laid v l d m output x after output' e h = rw (← e) h
-
--- ---- the working buffer: an acceptance keeps its table, and after a refusal it is filled
-module _ (answer : Answer Acceptable) (file buffer output after output' : List ℕ) where
-  pub lays_kept : (r : Result Acceptance Refusal) → Drafted answer file output r after output' → is_err r ≡ false → Lays answer file buffer output r after output'
-  lays_kept (Ok a) h q = record { reads = reads_kept answer (length buffer) after (Ok a) a h.verdict refl; placed = h.placed }
-  lays_kept (Err f) h q = never cc
-
-  pub lays_filled : (r : Result Acceptance Refusal) (last : List ℕ) → Drafted answer file output r after output' → is_err r ≡ true → last ≡ filled (length buffer)
-      → Lays answer file buffer output r last output'
-  lays_filled (Ok a) last h q e = never cc
-  lays_filled (Err f) last h q e = record { reads = reads_filled answer (length buffer) after last _ (Refused f) h.verdict refl e; placed = h.placed }

@@ -1,37 +1,82 @@
 -- The pieces that the code puts one behind another are the entries and the fields of the definition.
-use mathlib.Core.Path.{◌≡◌, refl, ap, ◌∙◌}
+use mathlib.Core.Path.{◌≡◌, refl, sym, ap, ◌∙◌}
 use mathlib.Core.List.{List, [], ◌∷◌, ◌++◌, append_assoc}
 use Prim.Native.Nat.{ℕ, suc, ◌+◌, ◌-◌, ◌*◌, ◌≤◌, ◌<◌}
-use native.Mathlib.Nat.{sub-zero, suc-mul, mul-le-mul_right}
+use native.Mathlib.Nat.{sub-zero}
 use native.Mathlib.Omega.{arith}
-use lib.ListN.{length, get_or, drop, replicate, length-append, length-replicate, drop_of_length-le}
+use lib.ListN.{length, get_or, drop, replicate, length-append, length-replicate, replicate-append-replicate, drop_of_length-le}
 use lib.Seq.{drop-cons}
 use Rattle.lists.specs.Pairs.{first_of, second_of}
 use Rattle.layout.specs.Versions.{metrics_entry, name_offset_at, name_length_at, trace_entry}
 use Rattle.layout.specs.declared.Layout.{Layout}
-use Rattle.writer.specs.declared.draft.Entry.{Entry}
+use Rattle.writer.specs.declared.draft.Shape.{Shape}
 use Rattle.writer.specs.LaidOut.{number, bytes_of, spread, entries, metrics_bytes, trace_bytes}
 use Rattle.writer.specs.Plans.{Writable}
 use Rattle.writer.specs.Private.{patch, Ordered, with_gaps, numbers_at, pair_of, pair_bytes}
 use Rattle.writer.proofs.Bytes.{length_bytes, length_entries}
 use Rattle.writer.proofs.Spread.{ordered_end, length-spread}
-use Rattle.writer.proofs.Stores.{patch-none, patch_join, laid_long, then_laid}
+use Rattle.writer.proofs.Stores.{patch-none, patch_join, put_over, laid_long, then_laid}
 
--- zeros and a number
-pub field_size : (k n : ℕ) → length (replicate k 0 ++ bytes_of 4 n) ≡ k + 4
-field_size k n = length-append (replicate k 0) (bytes_of 4 n) ∙ omega (arith, length-replicate {A = ℕ} k 0, length_bytes 4 n)
+-- an entry: zeros, and the two numbers put over them
+module _ (e : Shape) (a b : ℕ) where
+  abbrev zeros : ℕ → List ℕ
+  zeros n = replicate n 0
 
--- an entry
-pub pair_laid : (e : Entry) (a b i j k : ℕ) → i ≡ e.first → j ≡ e.second - (e.first + 4) → k ≡ e.size - (e.second + 4)
-    → ((replicate i 0 ++ bytes_of 4 a) ++ (replicate j 0 ++ bytes_of 4 b)) ++ replicate k 0 ≡ pair_of e a b
-unfolding spread
-pair_laid e a b i j k p q r =
-    let x = e.first in
-    let y = e.second in
-    rw (p, q, r, length_bytes 4 a, length_bytes 4 b, sub-zero x)
-    (append_assoc (replicate x 0 ++ bytes_of 4 a) (replicate (y - (x + 4)) 0 ++ bytes_of 4 b) (replicate (e.size - (y + 4)) 0)
-    ∙ append_assoc (replicate x 0) (bytes_of 4 a) _
-    ∙ ap (λ (s : List ℕ). replicate x 0 ++ (bytes_of 4 a ++ s)) (append_assoc (replicate (y - (x + 4)) 0) (bytes_of 4 b) _))
+  abbrev between : ℕ
+  between = e.second - (e.first + 4)
+
+  abbrev behind : ℕ
+  behind = e.size - (e.second + 4)
+
+  -- where the first number is put, and where the second
+  in-parts : (n : ℕ) → n ≡ e.size → zeros n ≡ zeros e.first ++ (zeros 4 ++ (zeros between ++ (zeros 4 ++ zeros behind)))
+  in-parts n q =
+      let k : n ≡ e.first + (4 + (between + (4 + behind))) = omega arith in
+      let s : zeros e.first ++ (zeros 4 ++ (zeros between ++ (zeros 4 ++ zeros behind))) ≡ zeros (e.first + (4 + (between + (4 + behind)))) =
+      rw (
+        replicate-append-replicate {A = ℕ} 4 behind 0,
+        replicate-append-replicate {A = ℕ} between (4 + behind) 0,
+        replicate-append-replicate {A = ℕ} 4 (between + (4 + behind)) 0,
+        replicate-append-replicate {A = ℕ} e.first (4 + (between + (4 + behind))) 0,
+      ) refl in
+      ap zeros k ∙ sym s
+
+  before : List ℕ
+  before = zeros e.first ++ (bytes_of 4 a ++ zeros between)
+
+  before-second : length before ≡ e.second
+  unfolding before
+  before-second =
+      length-append (zeros e.first) (bytes_of 4 a ++ zeros between)
+      ∙ omega (arith, length-append (bytes_of 4 a) (zeros between), length_bytes 4 a, length-replicate {A = ℕ} e.first 0, length-replicate {A = ℕ} between 0)
+
+  parts-are : before ++ (bytes_of 4 b ++ zeros behind) ≡ pair_of e a b
+  unfolding before spread
+  parts-are =
+      rw (length_bytes 4 a, length_bytes 4 b, sub-zero e.first)
+      (append_assoc (zeros e.first) (bytes_of 4 a ++ zeros between) (bytes_of 4 b ++ zeros behind)
+      ∙ ap (λ (s : List ℕ). zeros e.first ++ s) (append_assoc (bytes_of 4 a) (zeros between) (bytes_of 4 b ++ zeros behind)))
+
+  pub pair_laid : (o o₁ o₂ o₃ : List ℕ) (at n : ℕ) → n ≡ e.size → at + e.size ≤ length o → o₁ ≡ patch o at (zeros n) → o₂ ≡ patch o₁ (at + e.first) (bytes_of 4 a)
+      → o₃ ≡ patch o₂ (at + e.second) (bytes_of 4 b) → o₃ ≡ patch o at (pair_of e a b)
+  unfolding before
+  pair_laid o o₁ o₂ o₃ at n q h r₁ r₂ r₃ =
+      let first : at + e.first ≡ at + length (zeros e.first) = omega (arith, length-replicate {A = ℕ} e.first 0) in
+      let second : at + e.second ≡ at + length before = omega (arith, before-second) in
+      let rest = zeros between ++ (zeros 4 ++ zeros behind) in
+      let z : o₁ ≡ patch o at (zeros e.first ++ (zeros 4 ++ rest)) = r₁ ∙ ap (patch o at) (in-parts n q) in
+      let long : length (zeros e.first ++ (zeros 4 ++ rest)) ≡ e.size = ap length (sym (in-parts n q)) ∙ length-replicate {A = ℕ} n 0 ∙ q in
+      let y : o₂ ≡ patch o at (zeros e.first ++ (bytes_of 4 a ++ rest)) =
+      r₂ ∙ ap (λ (s : List ℕ). patch s (at + e.first) (bytes_of 4 a)) z
+      ∙ ap (λ (k : ℕ). patch (patch o at (zeros e.first ++ (zeros 4 ++ rest))) k (bytes_of 4 a)) first
+      ∙ put_over o (zeros e.first) (zeros 4) rest (bytes_of 4 a) at (length_bytes 4 a) (omega (arith, long, h)) in
+      let m : zeros e.first ++ (bytes_of 4 a ++ rest) ≡ before ++ (zeros 4 ++ zeros behind) = simp append_assoc in
+      let again : length (before ++ (zeros 4 ++ zeros behind)) ≡ e.size =
+      length-append before (zeros 4 ++ zeros behind) ∙ omega (arith, before-second, length-append (zeros 4) (zeros behind), length-replicate {A = ℕ} behind 0) in
+      r₃ ∙ ap (λ (s : List ℕ). patch s (at + e.second) (bytes_of 4 b)) (y ∙ ap (patch o at) m)
+      ∙ ap (λ (k : ℕ). patch (patch o at (before ++ (zeros 4 ++ zeros behind))) k (bytes_of 4 b)) second
+      ∙ put_over o before (zeros 4) (zeros behind) (bytes_of 4 b) at (length_bytes 4 b) (omega (arith, again, h))
+      ∙ ap (patch o at) parts-are
 
 -- ---- numbers at their places: what is put and what is left make up the whole
 pub record Putting (o : List ℕ) (fields : List (ℕ × ℕ)) (start : ℕ) (output : List ℕ) (from i : ℕ) : Type 0 where
@@ -84,18 +129,18 @@ putting_end {fields = fields} {output = output} {from = from} {i = i} g l =
     patch-none output from ∙ rw e at g.whole
 
 -- ---- entries of one size one behind another
-pub ordered_pair : (e : Entry) (a b : ℕ) → Ordered 0 (number e.first 4 a ∷ number e.second 4 b ∷ []) e.size
+pub ordered_pair : (e : Shape) (a b : ℕ) → Ordered 0 (number e.first 4 a ∷ number e.second 4 b ∷ []) e.size
 unfolding bytes_of
 ordered_pair e a b = omega arith
 
-pub pair_size : (e : Entry) (table : List ℕ) (i : ℕ) → length (pair_bytes e table i) ≡ e.size
+pub pair_size : (e : Shape) (table : List ℕ) (i : ℕ) → length (pair_bytes e table i) ≡ e.size
 pair_size e table i = length-spread 0 _ e.size (ordered_pair e (first_of table i) (second_of table i)) ∙ omega arith
 
 -- those of the two arrays
-abbrev pub metrics_shape : (l : Layout) → Writable l → Entry
+abbrev pub metrics_shape : (l : Layout) → Writable l → Shape
 metrics_shape l w = record { first = name_offset_at l; second = name_length_at l; size = metrics_entry l; ordered = (w.name_length, w.metrics) }
 
-abbrev pub trace_shape : (l : Layout) → Writable l → Entry
+abbrev pub trace_shape : (l : Layout) → Writable l → Shape
 trace_shape l w = record { first = 0; second = 4; size = trace_entry l; ordered = (omega arith, omega (arith, w.trace)) }
 
 module _ (l : Layout) (w : Writable l) (table : List ℕ) where
@@ -125,9 +170,6 @@ laying_start {o} {at} sized room = record { sized = sized; room = room; placed =
 module _ {o : List ℕ} {at : ℕ} {f : ℕ → List ℕ} {size count : ℕ} {output : List ℕ} {i : ℕ} (g : Laying o at f size count output i) where
   pub laying_long : length output ≡ length o
   laying_long = laid_long _ _ _ _ g.placed
-
-  pub laying_room : i < count → at + i * size + size ≤ length output
-  laying_room l = let m : suc i * size ≤ count * size = mul-le-mul_right size l in omega (arith, laying_long, suc-mul i size, g.room)
 
   pub laying_step : {output' : List ℕ} {next : ℕ} → next ≡ at + i * size → output' ≡ patch output next (f i) → Laying o at f size count output' (i + 1)
   unfolding entries

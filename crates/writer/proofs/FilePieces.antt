@@ -11,7 +11,7 @@ use Rattle.layout.specs.declared.Layout.{Layout}
 use Rattle.writer.specs.declared.contents.Contents.{Contents}
 use Rattle.writer.specs.declared.draft.Plan.{Plan}
 use Rattle.writer.specs.LaidOut.{Description, number, spread, entries, head, metrics_bytes, trace_bytes, laid_by, name_kept, laid_size, pairs}
-use Rattle.writer.specs.Plans.{description_of}
+use Rattle.writer.specs.Writes.{description_of}
 use Rattle.writer.specs.Plans.{Ready}
 use Rattle.writer.proofs.Bytes.{length_entries}
 use Rattle.writer.proofs.Entries.{metrics_size, trace_size}

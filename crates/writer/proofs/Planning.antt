@@ -5,7 +5,7 @@ use mathlib.Core.List.{List, [], ◌∷◌}
 use Prim.Native.Nat.{ℕ, zero, suc, ◌+◌, ◌*◌, ◌≤◌, ◌<◌, max, min}
 use native.Mathlib.Nat.{mul-one, mul-le-mul_left}
 use native.Mathlib.Omega.{arith}
-use borrow.Author.Tests.{lt-ltb, le-ltb, ltb-true, ltb-false, eq-eqb, ne_eqb}
+use borrow.Author.Tests.{lt-ltb, ltb-true, ltb-false, eq-eqb, ne_eqb}
 use lib.Dec.{eqb, ltb}
 use lib.ListN.{length, take, drop, length-take, take-append-drop}
 use lib.Seq.{take-take, take-append_seam, take_all}
@@ -31,17 +31,6 @@ module _ (l : Layout) (w : Writable l) (d : Description) where
 
   pub plan_large : size_limit < laid_size l d → None ≡ planned l d
   plan_large h = sym (ap (λ (b : Bool). pick b None (Some (plan_for l d))) (lt-ltb _ _ h))
-
-  pub plan_fits : laid_size l d ≤ size_limit → Some (plan_for l d) ≡ planned l d
-  plan_fits h = sym (ap (λ (b : Bool). pick b None (Some (plan_for l d))) (le-ltb _ _ h))
-
-  -- no sum wraps
-  pub plan_low : pairs d.metrics ≤ size_limit → pairs d.trace ≤ size_limit → length d.strings ≤ size_limit → length d.volumes ≤ size_limit
-      → laid_size l d ≤ 4294967296
-  plan_low a b c e =
-      let x : pairs d.metrics * metrics_entry l ≤ pairs d.metrics * 32 = mul-le-mul_left (pairs d.metrics) w.metrics_small in
-      let y : pairs d.trace * trace_entry l ≤ pairs d.trace * 12 = mul-le-mul_left (pairs d.trace) (omega arith) in
-      omega arith
 
 -- ---- the name
 

@@ -5,8 +5,8 @@ use Prim.Native.Nat.{ℕ, zero, suc, ◌+◌, ◌/◌, ◌%◌, ◌^◌, ◌≤�
 use native.Mathlib.Nat.{div-one, div-div-eq-div-mul, pow-zero, pow-suc}
 use native.Mathlib.Omega.{arith}
 use borrow.Rule.Slice.PartMut.{put_mid}
-use lib.ListN.{length, get_or, set, take, drop, length-append}
-use lib.Seq.{take-suc, sets, length-sets}
+use lib.ListN.{length, get_or, set, take, drop, length-append, length-take}
+use lib.Seq.{take-suc, sets, length-sets, take_at, drop_at, drop-append-add}
 use Rattle.std.specs.Int.{byte_at, bytes_low_first}
 use Rattle.std.proofs.lemmas.List.Edits.{sets-eq}
 use Rattle.std.proofs.lemmas.List.{drop-drop}
@@ -25,6 +25,33 @@ pub patch_join : (o : List ℕ) (at : ℕ) (x y : List ℕ) (next : ℕ) → nex
 unfolding patch
 patch_join o at [] y next e = let q : next ≡ at = omega arith in ap (λ (k : ℕ). sets o k y) q
 patch_join o at (v ∷ x) y next e = patch_join (set o at v) (suc at) x y next (omega arith)
+
+-- bytes put over as many of those that were put
+pub put_over : (o x q r y : List ℕ) (at : ℕ) → length y ≡ length q → at + length (x ++ (q ++ r)) ≤ length o
+    → patch (patch o at (x ++ (q ++ r))) (at + length x) y ≡ patch o at (x ++ (y ++ r))
+unfolding patch
+put_over o x q r y at n h =
+    let s = sets o at (x ++ (q ++ r)) in
+    let a = take at o in
+    let d = drop (at + length (x ++ (q ++ r))) o in
+    let whole : length (x ++ (q ++ r)) ≡ length x + (length q + length r) = length-append x (q ++ r) ∙ ap (λ (k : ℕ). length x + k) (length-append q r) in
+    let again : length (x ++ (y ++ r)) ≡ length x + (length y + length r) = length-append x (y ++ r) ∙ ap (λ (k : ℕ). length x + k) (length-append y r) in
+    let front : length (a ++ x) ≡ at + length x = length-append a x ∙ omega (arith, length-take at o) in
+    let f : (a ++ (x ++ (q ++ r))) ++ d ≡ (a ++ x) ++ (q ++ (r ++ d)) = simp append_assoc in
+    let e : s ≡ (a ++ x) ++ (q ++ (r ++ d)) = sets-eq (x ++ (q ++ r)) o at h ∙ f in
+    let t : take (at + length x) s ≡ a ++ x = ap (take (at + length x)) e ∙ take_at (a ++ x) (q ++ (r ++ d)) _ front in
+    let b : at + length x + length y ≡ length (a ++ x) + length q = omega (arith, front, n) in
+    let u : drop (at + length x + length y) s ≡ r ++ d =
+    ap (drop (at + length x + length y)) e ∙ ap (λ (k : ℕ). drop k ((a ++ x) ++ (q ++ (r ++ d)))) b
+    ∙ drop-append-add (a ++ x) (q ++ (r ++ d)) (length q) ∙ drop_at q (r ++ d) _ refl in
+    let m : ((a ++ x) ++ y) ++ (r ++ d) ≡ (a ++ (x ++ (y ++ r))) ++ d = simp append_assoc in
+    let same : length (x ++ (q ++ r)) ≡ length (x ++ (y ++ r)) = omega (arith, whole, again, n) in
+    sets-eq y s (at + length x) (omega (arith, length-sets o at (x ++ (q ++ r)), whole, n, h))
+    ∙ ap (λ (z : List ℕ). (z ++ y) ++ drop (at + length x + length y) s) t
+    ∙ ap (λ (z : List ℕ). ((a ++ x) ++ y) ++ z) u
+    ∙ m
+    ∙ ap (λ (k : ℕ). (a ++ (x ++ (y ++ r))) ++ drop (at + k) o) same
+    ∙ sym (sets-eq (x ++ (y ++ r)) o at (omega (arith, same, h)))
 
 -- nothing
 pub patch-none : (o : List ℕ) (at : ℕ) → o ≡ patch o at []

@@ -5,9 +5,8 @@ use Rattle.layout.specs.Versions.{head_end, time_count, run_time_at, run_count_a
 use Rattle.layout.specs.Versions.{has_next, first_section, form_required, size_limit, layout_of}
 use Rattle.layout.specs.declared.Version.{Version}
 use Rattle.layout.specs.declared.Layout.{Layout}
-use Rattle.writer.specs.declared.contents.Contents.{Contents}
 use Rattle.writer.specs.declared.draft.Plan.{Plan}
-use Rattle.writer.specs.LaidOut.{Description, description, Numbers, name_kept, pairs, trace_at, strings_at, volumes_at, laid_size}
+use Rattle.writer.specs.LaidOut.{Description, Numbers, name_kept, pairs, trace_at, strings_at, volumes_at, laid_size}
 
 -- ---- the layouts that are written
 
@@ -26,11 +25,6 @@ pub record Writable (l : Layout) : Type 0 where
   pub metrics_small : metrics_entry l ≤ 32
 
 -- ---- a description
-
--- that of a file's contents
-abbrev pub description_of : Contents → Description
-description_of c =
-    description c.name.now c.stored_hash c.run_time c.run_count c.metrics.now c.trace.now c.strings.now c.volumes.now c.volume_count
 
 -- how many entries its tables have, where its sections stand, and the size of the file
 abbrev pub plan_for : Layout → Description → Plan

@@ -22,7 +22,7 @@ use Rattle.reader.specs.Verdict.{Acceptable, verdict_in}
 use Rattle.reader.specs.Private.{verdict_of}
 use Rattle.writer.specs.declared.contents.Contents.{Contents}
 use Rattle.writer.specs.declared.draft.Plan.{Plan}
-use Rattle.writer.specs.declared.draft.Entry.{Entry}
+use Rattle.writer.specs.declared.draft.Shape.{Shape}
 use Rattle.writer.specs.Writes.{placed_answer, output_after}
 use Rattle.writer.specs.LaidOut.{Field, number, spread, Description, before_zero, laid_by, name_kept, pairs, metrics_at, trace_at, strings_at}
 use Rattle.writer.specs.LaidOut.{volumes_at, laid_size}
@@ -66,10 +66,10 @@ fields_behind l p g =
     ∷ []
 
 -- an entry that has the numbers of a pair
-abbrev pub pair_of : Entry → ℕ → ℕ → List ℕ
+abbrev pub pair_of : Shape → ℕ → ℕ → List ℕ
 pair_of e first second = spread 0 (number e.first 4 first ∷ number e.second 4 second ∷ []) e.size
 
-abbrev pub pair_bytes : Entry → List ℕ → ℕ → List ℕ
+abbrev pub pair_bytes : Shape → List ℕ → ℕ → List ℕ
 pair_bytes e table i = pair_of e (first_of table i) (second_of table i)
 
 -- ---- a description

@@ -8,10 +8,16 @@ use Rattle.incremental.specs.Decision.{accept, refuse, refusal}
 use Rattle.incremental.specs.Plan.{Answer, decided, wants}
 use Rattle.reader.specs.Verdict.{Acceptable, Reads, verdict_in}
 use Rattle.reader.specs.Checks.{file_answer}
-use Rattle.writer.specs.LaidOut.{Description, laid_out}
+use Rattle.writer.specs.LaidOut.{Description, description, laid_out}
+use Rattle.writer.specs.declared.contents.Contents.{Contents}
 use Rattle.reader.specs.declared.verdict.Acceptance.{Acceptance}
 use Rattle.std.specs.Prelude.{None, Option, Result, Some}
 use Rattle.incremental.specs.declared.Refusal.{Refusal}
+
+-- the description that a file's contents are
+abbrev pub description_of : Contents → Description
+description_of c =
+    description c.name.now c.stored_hash c.run_time c.run_count c.metrics.now c.trace.now c.strings.now c.volumes.now c.volume_count
 
 -- the versions that are written, by their numbers
 unfoldable pub writable : ℕ → Option Version

@@ -1,6 +1,7 @@
 // What the bytes of a file are laid by.
 ghost use Rattle.std.specs.Prelude.{◌+◌, ◌≤◌};
-ghost use Rattle.writer.specs.Plans.{description_of, Ready};
+ghost use Rattle.writer.specs.Writes.{description_of};
+ghost use Rattle.writer.specs.Plans.{Ready};
 
 use crate::Contents;
 use layout::{Layout, Version};
@@ -32,7 +33,7 @@ pub(crate) struct Draft<'a> {
 
 // Where the two numbers of a pair stand in an entry of that size, which has no other numbers.
 #[derive(Clone, Copy, Debug, PartialEq, Eq)]
-pub(crate) struct Entry {
+pub(crate) struct Shape {
     pub first: usize,
     pub second: usize,
     pub size: usize,

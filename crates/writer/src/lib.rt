@@ -5,10 +5,10 @@
 ghost use Rattle.std.specs.Prelude.{◌≡◌, ◌++◌, ◌+◌, ◌-◌, ◌*◌, ◌/◌, ◌≤◌, length, replicate};
 ghost use Rattle.layout.specs.Versions.{first_section};
 ghost use Rattle.writer.specs.LaidOut.{bytes_of, unit_bytes, entries, head, laid_by};
-ghost use Rattle.writer.specs.Plans.{description_of};
+ghost use Rattle.writer.specs.Writes.{description_of};
 ghost use Rattle.writer.specs.Private.{patch, Ordered, with_gaps, numbers_at, pair_of, pair_bytes, fields_behind};
 
-use crate::draft::{Draft, Entry};
+use crate::draft::{Draft, Shape};
 
 mod contents;
 mod draft;
@@ -63,105 +63,118 @@ fn put_units(output: &mut [u8], at: usize, units: &[u16])
 }
 
 // An entry: the numbers of a pair at their places, and all other bytes zero.
-#[inline(always)]
-fn put_pair(output: &mut [u8], at: usize, e: Entry, first: u32, second: u32)
-    requires { at + e.size ≤ length output.old }
-    ensures { output.new ≡ patch output.old at (pair_of e first second) }
+fn put_pair(output: &mut [u8], at: usize, shape: Shape, first: u32, second: u32)
+    requires { at + shape.size ≤ length output.old }
+    ensures { output.new ≡ patch output.old at (pair_of shape first second) }
 {
-    let first_at = at + e.first;
-    let second_at = at + e.second;
-    put_field(output, at, first_at, first);
-    put_field(output, first_at + 4, second_at, second);
-    put_zeros(output, second_at + 4, at + e.size);
+    put_zeros(output, at, at + shape.size);
+    put_bytes(output, at + shape.first, &first.to_le_bytes());
+    put_bytes(output, at + shape.second, &second.to_le_bytes());
 }
 
-// An array of entries one behind another, one for each pair of a table; an odd last number is ignored. Where the places in an entry are
-// constants, the stores of one entry are too.
-#[inline(always)]
-fn put_pairs(output: &mut [u8], at: usize, e: Entry, table: &[u32])
-    requires { at + length table.now / 2 * e.size ≤ length output.old }
-    ensures { output.new ≡ patch output.old at (entries (pair_bytes e table.now) (length table.now / 2)) }
+// An array of entries one behind another, one for each pair of a table; an odd last number is ignored.
+fn put_pairs(output: &mut [u8], at: usize, shape: Shape, table: &[u32])
+    requires { at + length table.now / 2 * shape.size ≤ length output.old }
+    ensures { output.new ≡ patch output.old at (entries (pair_bytes shape table.now) (length table.now / 2)) }
 {
     for i in 0..table.len() / 2 {
-        put_pair(output, at + i * e.size, e, table[2 * i], table[2 * i + 1]);
+        put_pair(
+            output,
+            at + i * shape.size,
+            shape,
+            table[2 * i],
+            table[2 * i + 1],
+        );
     }
 }
 
 // The fields of the head behind the program name, and zeros between them, from the name's end on.
-fn put_behind(output: &mut [u8], from: usize, w: Draft)
-    requires { (from ≤ 76) × (first_section w.layout ≤ length output.old) }
-    ensures { output.new ≡ patch output.old from (with_gaps from (fields_behind w.entry.layout w.entry.plan w.entry.contents)) }
+fn put_behind(output: &mut [u8], from: usize, draft: Draft)
+    requires { (from ≤ 76) × (first_section draft.layout ≤ length output.old) }
+    ensures { output.new ≡ patch output.old from (with_gaps from (fields_behind draft.entry.layout draft.entry.plan draft.entry.contents)) }
 {
-    let l = w.layout;
-    let p = w.plan;
-    let time_at = l.run_time_at as usize;
-    let time = w.contents.run_time;
+    let layout = draft.layout;
+    let plan = draft.plan;
+    let contents = draft.contents;
+    let time_at = layout.run_time_at as usize;
+    let time = contents.run_time;
     put_fields(
         output,
         from,
         &[
-            (layout::STORED_HASH_AT, w.contents.stored_hash),
-            (layout::METRICS_OFFSET_AT, l.first_section as u32),
-            (layout::METRICS_COUNT_AT, p.metrics),
-            (layout::TRACE_OFFSET_AT, p.trace_at),
-            (layout::TRACE_COUNT_AT, p.trace),
-            (layout::STRINGS_OFFSET_AT, p.strings_at),
-            (layout::STRINGS_SIZE_AT, p.strings),
-            (layout::VOLUMES_OFFSET_AT, p.volumes_at),
-            (layout::VOLUMES_COUNT_AT, w.contents.volume_count),
-            (layout::VOLUMES_SIZE_AT, p.volumes),
+            (layout::STORED_HASH_AT, contents.stored_hash),
+            (layout::METRICS_OFFSET_AT, layout.first_section as u32),
+            (layout::METRICS_COUNT_AT, plan.metrics),
+            (layout::TRACE_OFFSET_AT, plan.trace_at),
+            (layout::TRACE_COUNT_AT, plan.trace),
+            (layout::STRINGS_OFFSET_AT, plan.strings_at),
+            (layout::STRINGS_SIZE_AT, plan.strings),
+            (layout::VOLUMES_OFFSET_AT, plan.volumes_at),
+            (layout::VOLUMES_COUNT_AT, contents.volume_count),
+            (layout::VOLUMES_SIZE_AT, plan.volumes),
             (time_at, (time % 4294967296) as u32),
             (time_at + 4, (time / 4294967296) as u32),
-            (l.run_count_at as usize, w.contents.run_count),
+            (layout.run_count_at as usize, contents.run_count),
         ],
     );
 }
 
 // The head: what stands before the first section.
-fn put_head(output: &mut [u8], w: Draft)
-    requires { first_section w.layout ≤ length output.old }
-    ensures { output.new ≡ patch output.old 0 (head w.entry.version w.entry.layout (description_of w.entry.contents)) }
+fn put_head(output: &mut [u8], draft: Draft)
+    requires { first_section draft.layout ≤ length output.old }
+    ensures { output.new ≡ patch output.old 0 (head draft.entry.version draft.entry.layout (description_of draft.entry.contents)) }
 {
     put_fields(
         output,
         0,
         &[
-            (layout::VERSION_AT, u32::from(w.version)),
+            (layout::VERSION_AT, u32::from(draft.version)),
             (layout::SIGNATURE_AT, layout::SIGNATURE),
-            (layout::DECLARED_SIZE_AT, w.plan.size),
+            (layout::DECLARED_SIZE_AT, draft.plan.size),
         ],
     );
     let name_at = layout::PROGRAM_NAME_AT;
-    put_units(output, name_at, &w.contents.name[..w.units]);
-    put_behind(output, name_at + 2 * w.units, w);
+    put_units(output, name_at, &draft.contents.name[..draft.units]);
+    put_behind(output, name_at + 2 * draft.units, draft);
     put_zeros(
         output,
-        w.layout.run_count_at as usize + 4,
-        w.layout.first_section as usize,
+        draft.layout.run_count_at as usize + 4,
+        draft.layout.first_section as usize,
     );
 }
 
 // The whole file.
-fn put_file(output: &mut [u8], w: Draft)
-    requires { w.plan.size ≤ length output.old }
-    ensures { output.new ≡ patch output.old 0 (laid_by w.entry.version w.entry.layout (description_of w.entry.contents)) }
+fn put_file(output: &mut [u8], draft: Draft)
+    requires { draft.plan.size ≤ length output.old }
+    ensures { output.new ≡ patch output.old 0 (laid_by draft.entry.version draft.entry.layout (description_of draft.entry.contents)) }
 {
-    let l = w.layout;
-    let p = w.plan;
-    let c = w.contents;
-    let name_and_length = Entry {
-        first: l.name_offset_at as usize,
-        second: l.name_length_at as usize,
-        size: l.metrics_entry as usize,
+    let layout = draft.layout;
+    let plan = draft.plan;
+    let contents = draft.contents;
+    let name_and_length = Shape {
+        first: layout.name_offset_at as usize,
+        second: layout.name_length_at as usize,
+        size: layout.metrics_entry as usize,
     };
-    let next_and_blocks = Entry {
+    // The size is that of both versions: the loop is quicker by a constant.
+    let next_and_blocks = Shape {
         first: 0,
         second: 4,
         size: 12,
     };
-    put_head(output, w);
-    put_pairs(output, l.first_section as usize, name_and_length, c.metrics);
-    put_pairs(output, p.trace_at as usize, next_and_blocks, c.trace);
-    put_bytes(output, p.strings_at as usize, c.strings);
-    put_bytes(output, p.volumes_at as usize, c.volumes);
+    put_head(output, draft);
+    put_pairs(
+        output,
+        layout.first_section as usize,
+        name_and_length,
+        contents.metrics,
+    );
+    put_pairs(
+        output,
+        plan.trace_at as usize,
+        next_and_blocks,
+        contents.trace,
+    );
+    put_bytes(output, plan.strings_at as usize, contents.strings);
+    put_bytes(output, plan.volumes_at as usize, contents.volumes);
 }

@@ -2,7 +2,8 @@
 ghost use Rattle.std.specs.Prelude.{◌≡◌, ◌≤◌, length};
 ghost use Rattle.layout.specs.Versions.{layout_of};
 ghost use Rattle.writer.specs.Writes.{writable, write_answer, file_for, Writes};
-ghost use Rattle.writer.specs.Plans.{description_of, Writable, planned};
+ghost use Rattle.writer.specs.Writes.{description_of};
+ghost use Rattle.writer.specs.Plans.{Writable, planned};
 ghost use Rattle.writer.specs.Private.{carried_units, record_for, SectionsAnswered, Drafted, DraftedBy};
 
 use crate::Contents;
@@ -14,20 +15,20 @@ use reader::{Acceptance, RunTimes};
 
 // What the lengths give: a plan, where its size is within the limit. Each length is compared before it is multiplied, so that no product
 // wraps.
-fn plan_of(l: Layout, c: Contents) -> Option<Plan>
-    requires { Writable l }
-    ensures { result ≡ planned l (description_of c.entry) }
+fn plan_of(layout: Layout, contents: Contents) -> Option<Plan>
+    requires { Writable layout }
+    ensures { result ≡ planned layout (description_of contents.entry) }
 {
     let limit = layout::SIZE_LIMIT as usize;
-    let metrics = c.metrics.len() / 2;
-    let trace = c.trace.len() / 2;
-    let strings = c.strings.len();
-    let volumes = c.volumes.len();
+    let metrics = contents.metrics.len() / 2;
+    let trace = contents.trace.len() / 2;
+    let strings = contents.strings.len();
+    let volumes = contents.volumes.len();
     if limit < metrics.max(trace).max(strings).max(volumes) {
         return None;
     }
-    let trace_at = l.first_section as usize + metrics * (l.metrics_entry as usize);
-    let strings_at = trace_at + trace * (l.trace_entry as usize);
+    let trace_at = layout.first_section as usize + metrics * (layout.metrics_entry as usize);
+    let strings_at = trace_at + trace * (layout.trace_entry as usize);
     let size = strings_at + strings + volumes;
     if limit < size {
         return None;
@@ -55,45 +56,56 @@ fn carried_units(name: &[u16]) -> Option<usize>
 }
 
 // Checks 7 to 15. Where they pass, the buffer is the table of predecessors.
-fn check_sections(w: Draft, predecessors: &mut [u32]) -> Result<usize, Refusal>
-    ensures { SectionsAnswered w.entry.layout (description_of w.entry.contents) (length predecessors.old) result predecessors.new }
+fn check_sections(draft: Draft, predecessors: &mut [u32]) -> Result<usize, Refusal>
+    ensures { SectionsAnswered draft.entry.layout (description_of draft.entry.contents) (length predecessors.old) result predecessors.new }
 {
-    let l = w.layout;
-    let p = w.plan;
-    let c = w.contents;
-    check(7, sections::places_fault(predecessors.len(), p.trace))?;
+    let layout = draft.layout;
+    let plan = draft.plan;
+    let contents = draft.contents;
+    check(7, sections::places_fault(predecessors.len(), plan.trace))?;
     check(
         8,
-        sections::entries_fault(c.volume_count, l.volume_entry, c.volumes.len()),
+        sections::entries_fault(
+            contents.volume_count,
+            layout.volume_entry,
+            contents.volumes.len(),
+        ),
     )?;
-    let names = Pairs { table: c.metrics };
-    let start = l.first_section as u32;
+    let names = Pairs {
+        table: contents.metrics,
+    };
+    let start = layout.first_section as u32;
     check(
         9,
-        names::misfit_fault(&names, l, start, p.metrics, c.strings.len()),
+        names::misfit_fault(&names, layout, start, plan.metrics, contents.strings.len()),
     )?;
     check(
         10,
-        names::unsound_fault(&names, l, start, p.metrics, c.strings),
+        names::unsound_fault(&names, layout, start, plan.metrics, contents.strings),
     )?;
     let nexts = trace::Pairs {
-        table: c.trace,
-        pairs: p.trace,
+        table: contents.trace,
+        pairs: plan.trace,
     };
-    let chains = trace::check_links(nexts, p.trace_at, l.trace_entry, predecessors)?;
-    volumes::check_volumes(c.volumes, l, p.volumes_at, c.volume_count)?;
+    let chains = trace::check_links(nexts, plan.trace_at, layout.trace_entry, predecessors)?;
+    volumes::check_volumes(
+        contents.volumes,
+        layout,
+        plan.volumes_at,
+        contents.volume_count,
+    )?;
     Ok(chains)
 }
 
 // The record of the file that is written.
-fn record_of(w: Draft, chains: usize) -> Acceptance
-    ensures { result ≡ record_for w.entry.version w.entry.layout (description_of w.entry.contents) chains }
+fn record_of(draft: Draft, chains: usize) -> Acceptance
+    ensures { result ≡ record_for draft.entry.version draft.entry.layout (description_of draft.entry.contents) chains }
 {
-    let p = w.plan;
-    let c = w.contents;
+    let plan = draft.plan;
+    let contents = draft.contents;
     let times = RunTimes {
         count: 1,
-        latest: c.run_time,
+        latest: contents.run_time,
         second: 0,
         third: 0,
         fourth: 0,
@@ -103,30 +115,34 @@ fn record_of(w: Draft, chains: usize) -> Acceptance
         eighth: 0,
     };
     Acceptance {
-        version: u32::from(w.version),
-        declared_size: p.size,
-        name_units: w.units,
-        stored_hash: c.stored_hash,
+        version: u32::from(draft.version),
+        declared_size: plan.size,
+        name_units: draft.units,
+        stored_hash: contents.stored_hash,
         times,
-        run_count: c.run_count,
-        metrics_count: p.metrics,
-        trace_count: p.trace,
-        volume_count: c.volume_count,
+        run_count: contents.run_count,
+        metrics_count: plan.metrics,
+        trace_count: plan.trace,
+        volume_count: contents.volume_count,
         chain_count: chains,
     }
 }
 
 // The writer, where checks 1 to 4 have passed.
-fn write_draft(w: Draft, predecessors: &mut [u32], output: &mut [u8]) -> Result<Acceptance, Refusal>
-    ensures { DraftedBy w.entry.version w.entry.layout (description_of w.entry.contents) (length predecessors.old) output.old result
+fn write_draft(
+    draft: Draft,
+    predecessors: &mut [u32],
+    output: &mut [u8],
+) -> Result<Acceptance, Refusal>
+    ensures { DraftedBy draft.entry.version draft.entry.layout (description_of draft.entry.contents) (length predecessors.old) output.old result
         predecessors.new output.new }
 {
-    let chains = check_sections(w, predecessors)?;
-    if output.len() < w.plan.size as usize {
+    let chains = check_sections(draft, predecessors)?;
+    if output.len() < draft.plan.size as usize {
         return Err(refuse(20, 0, 0));
     }
-    crate::put_file(output, w);
-    Ok(record_of(w, chains))
+    crate::put_file(output, draft);
+    Ok(record_of(draft, chains))
 }
 
 // The writer for a version.

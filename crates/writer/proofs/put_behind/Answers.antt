@@ -6,10 +6,10 @@ use Rattle.writer.proofs.put_behind.Goals as goal
 
 pub put_fields-requires : goal.put_fields-requires
 put_fields-requires c =
-    let w = c.args.w in
+    let w = c.args.draft in
     behind_ordered w.layout w.ready.writable w.plan w.contents _ _ c.requires.0 c.requires.1
 
 pub returns : goal.returns
 returns c =
-    let w = c.args.w in
+    let w = c.args.draft in
     c.put_fields.ensures ∙ ap (patch c.args.output.now c.args.from) (behind_joined w.layout w.ready.writable w.plan w.contents c.args.from)

@@ -6,12 +6,12 @@ use Rattle.writer.proofs.put_file.Goals as goal
 
 pub returns : goal.returns
 returns c =
-    let v = c.args.w.version in
-    let l = c.args.w.layout in
-    let d = c.args.w.contents in
-    let p = c.args.w.plan in
-    let n = c.args.w.units in
-    let r = c.args.w.ready in
+    let v = c.args.draft.version in
+    let l = c.args.draft.layout in
+    let d = c.args.draft.contents in
+    let p = c.args.draft.plan in
+    let n = c.args.draft.units in
+    let r = c.args.draft.ready in
     let m = meets v l d p n r in
     five_laid _ _ _ _ _ _ _ _ _ _ _ _ _ _ _ _ _ c.put_head.ensures c.put_pairs.ensures c.put_pairs-2.ensures c.put_bytes.ensures
     c.put_bytes-2.ensures

@@ -12,15 +12,15 @@ use Rattle.writer.proofs.put_head.Goals as goal
 
 pub put_fields-requires : goal.put_fields-requires
 put_fields-requires c =
-    let w = c.args.w in
+    let w = c.args.draft in
     first_ordered w.layout w.ready.writable w.plan w.contents c.from.result [] (omega arith) _ c.requires
 
 pub slice_bounds-put_units-end : goal.slice_bounds-put_units-end
-slice_bounds-put_units-end c = let w = c.args.w in omega (arith, length-take w.units w.contents.name.now, name_fits w.version w.layout w.contents w.plan w.units w.ready)
+slice_bounds-put_units-end c = let w = c.args.draft in omega (arith, length-take w.units w.contents.name.now, name_fits w.version w.layout w.contents w.plan w.units w.ready)
 
 pub returns : goal.returns
 returns c =
-    let w = c.args.w in
+    let w = c.args.draft in
     let f = w.ready.writable in
     let us = take w.units w.contents.name.now in
     let few : length us ≡ w.units = length-take w.units w.contents.name.now ∙ omega (arith, name_fits w.version w.layout w.contents w.plan w.units w.ready) in

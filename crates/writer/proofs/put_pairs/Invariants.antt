@@ -6,4 +6,4 @@ use Rattle.writer.proofs.Entries.{Laying}
 use Rattle.writer.proofs.put_pairs.Given as goal
 
 abbrev pub invariant-loop-i : goal.invariant-loop-i
-invariant-loop-i l = Laying l.initial.output l.at (pair_bytes l.e l.table) l.e.size (length l.table / 2) l.output l.i
+invariant-loop-i l = Laying l.initial.output l.at (pair_bytes l.shape l.table) l.shape.size (length l.table / 2) l.output l.i

@@ -21,14 +21,14 @@ checks-first file m n f e = ap (roomed (ltb n (length file))) e
 
 pub returns-in_err-chains : goal.returns-in_err-chains
 returns-in_err-chains c =
-    drafted_exit _ _ _ _ _ _ c.from_residual.ensures.1 (checks-first _ _ _ _ (sections_refused _ _ _ _ _ c.args.w.ready _ _ _ c.in_err-chains.ensures))
+    drafted_exit _ _ _ _ _ _ c.from_residual.ensures.1 (checks-first _ _ _ _ (sections_refused _ _ _ _ _ c.args.draft.ready _ _ _ c.in_err-chains.ensures))
     place_kept
 
-pub returns-then-output-w : goal.returns-then-output-w
-returns-then-output-w c =
-    drafted_refused _ _ _ _ _ _ c.refuse.ensures (place_short _ _ _ _ _ c.args.w.ready _ _ _ c.in_ok-chains.ensures _ c.if-output-w.true)
+pub returns-then-output-draft : goal.returns-then-output-draft
+returns-then-output-draft c =
+    drafted_refused _ _ _ _ _ _ c.refuse.ensures (place_short _ _ _ _ _ c.args.draft.ready _ _ _ c.in_ok-chains.ensures _ c.if-output-draft.true)
     place_kept
 
 pub returns : goal.returns
 returns c =
-    file_laid _ _ _ _ _ c.args.w.ready _ _ _ c.in_ok-chains.ensures _ _ _ c.if-output-w.false c.put_file.ensures c.record_of.ensures
+    file_laid _ _ _ _ _ c.args.draft.ready _ _ _ c.in_ok-chains.ensures _ _ _ c.if-output-draft.false c.put_file.ensures c.record_of.ensures
