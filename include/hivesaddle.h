@@ -535,7 +535,7 @@ uint32_t hs_year_table(const uint8_t *lines, size_t length, const uint32_t *hash
  *   hs_entry_reference         852      hs_replay_begin            336
  *   hs_directories             740      hs_replay_feed             480
  *   hs_references              740      hs_replay_finish           128
- *   hs_find_path_from        1,028      hs_year_table           57,564
+ *   hs_find_path_from        1,028      hs_year_table           41,420
  *   hs_cost                    724      hs_catalogue_write           8
  *   hs_interface                 0      hs_catalogue_read          428
  */
