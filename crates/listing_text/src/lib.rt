@@ -20,9 +20,10 @@ const FILE_LIMIT: usize = 49_151;
 fn shown_unit(u: u16) -> u8
     ensures { result ≡ shown_unit u }
 {
-    match u {
-        33..=126 => u as u8,
-        _ => b'?',
+    if (33..=126).contains(&u) {
+        u as u8
+    } else {
+        b'?'
     }
 }
 
