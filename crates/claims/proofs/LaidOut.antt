@@ -34,7 +34,8 @@ use Rattle.reader.specs.Checks.{opening, file_answer}
 use Rattle.reader.specs.Allowed.{Allowed}
 use Rattle.reader.proofs.Allowed.{opens as allowed-opens}
 use Rattle.writer.specs.LaidOut.{Description, Numbers, laid_by, laid_out, head, before_zero, name_kept, pairs, metrics_at, trace_at, strings_at, volumes_at, laid_size}
-use Rattle.writer.specs.Private.{Writable, head_for, links_in, section_checks, acceptable_for}
+use Rattle.writer.specs.Plans.{Writable}
+use Rattle.writer.specs.Private.{head_for, links_in, section_checks, acceptable_for}
 use Rattle.writer.proofs.Facts.{LaidFacts}
 use Rattle.writer.proofs.Bytes.{le_left}
 use Rattle.writer.proofs.Planning.{carried_prefix}
