@@ -1,8 +1,7 @@
 // The checks on what a file is to be made from, in the reader's order, and the writer.
 ghost use Rattle.std.specs.Prelude.{◌≡◌, ◌≤◌, length};
 ghost use Rattle.layout.specs.Versions.{layout_of};
-ghost use Rattle.writer.specs.Writes.{writable, write_answer, file_for, Writes};
-ghost use Rattle.writer.specs.Writes.{description_of};
+ghost use Rattle.writer.specs.Writes.{description_of, writable, write_answer, file_for, Writes};
 ghost use Rattle.writer.specs.Plans.{Writable, planned};
 ghost use Rattle.writer.specs.Private.{carried_units, record_for, SectionsAnswered, Drafted, DraftedBy};
 
@@ -129,7 +128,7 @@ fn record_of(draft: Draft, chains: usize) -> Acceptance
 }
 
 // The writer, where checks 1 to 4 have passed.
-fn write_draft(
+fn write_planned(
     draft: Draft,
     predecessors: &mut [u32],
     output: &mut [u8],
@@ -166,7 +165,7 @@ fn write_version(
         plan,
         units,
     };
-    write_draft(draft, predecessors, output)
+    write_planned(draft, predecessors, output)
 }
 
 // The version that is written under a number.

@@ -5,8 +5,7 @@ use Prim.Native.Nat.{ℕ}
 use Rattle.incremental.specs.Decision.{refuse}
 use Rattle.incremental.specs.Plan.{decided}
 use Rattle.incremental.specs.declared.Refusal.{Refusal}
-use Rattle.writer.specs.Writes.{description_of}
-use Rattle.writer.specs.Writes.{output_after}
+use Rattle.writer.specs.Writes.{description_of, output_after}
 use Rattle.writer.proofs.Answering.{drafted_exit, read_refused, given_there, given_missing, plan_is, carried_is, version_large, version_endless}
 use Rattle.writer.proofs.write.write_version.Goals as goal
 

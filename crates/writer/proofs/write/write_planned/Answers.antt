@@ -10,7 +10,7 @@ use Rattle.incremental.specs.declared.Refusal.{Refusal}
 use Rattle.reader.specs.Checks.{file_answer}
 use Rattle.writer.specs.Writes.{roomed, placed_answer, output_after}
 use Rattle.writer.proofs.Answering.{drafted_exit, drafted_refused, sections_refused, place_short, file_laid}
-use Rattle.writer.proofs.write.write_draft.Goals as goal
+use Rattle.writer.proofs.write.write_planned.Goals as goal
 
 place_kept : (file output : List ℕ) (f : Refusal) → output ≡ output_after (decided (refuse f)) file output
 place_kept file output f = refl
