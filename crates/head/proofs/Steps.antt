@@ -11,7 +11,7 @@ use Rattle.layout.specs.declared.Layout.{Layout}
 use Rattle.incremental.specs.Decision.{accept}
 use Rattle.incremental.specs.Plan.{Answer, decided, done, run}
 use Rattle.sections.specs.Fields.{size_fault}
-use Rattle.incremental.proofs.Plan.{onward, run_steps, reach_on, check_on, check_refused, decide_it, given_some, given_none}
+use Rattle.incremental.proofs.Plan.{run_steps}
 use Rattle.head.specs.declared.checks.Start.{Start}
 use Rattle.incremental.specs.declared.Fault.{Fault}
 use Rattle.std.specs.Prelude.{Option, Result}

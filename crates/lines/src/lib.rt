@@ -1,7 +1,7 @@
 // Lines of bytes: where each ends and how many there are, and lines of digits.
 #![tactic(auto)]
 
-ghost use Rattle.std.specs.Prelude.{◌≡◌, true, suc, ◌+◌, ◌*◌, ◌≤◌, ◌<◌, ℕ, length, take, drop, MatchOption, eqb};
+ghost use Rattle.std.specs.Prelude.{◌≡◌, true, suc, ◌*◌, ◌≤◌, ◌<◌, length};
 ghost use Rattle.std.specs.List.{count_by};
 ghost use Rattle.lines.specs.Lines.{lines_in, line_end, is_line, leading};
 ghost use Rattle.lines.specs.Private.{is_feed, LineEnd};

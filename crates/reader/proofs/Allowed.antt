@@ -1,5 +1,4 @@
 -- DEMAND 2, the proof: what checks 1 to 6 and 7 to 15 accept, in both directions, is what the layout allows.
-use Rattle.lists.proofs.Tests.{never}
 use Rattle.incremental.specs.declared.Refusal.{Refusal}
 use mathlib.Core.Path.{◌≡◌, refl, sym, ◌∙◌, ap}
 use mathlib.Core.List.{List}
@@ -29,7 +28,7 @@ use Rattle.reader.specs.Checks.{record_of, prefix_answer, file_answer, ReadsFile
 use Rattle.reader.proofs.Taken.{head-take, name_ends}
 use Rattle.reader.proofs.Rest.{RestFacts, read_facts, read_complete, whole_accepted, whole-accepts}
 use Rattle.reader.specs.Allowed.{Allowed, given_record, given_table, AcceptedExactly}
-use Rattle.std.specs.Prelude.{Ok, Result, Err}
+use Rattle.std.specs.Prelude.{Ok, Result}
 
 -- a section that is within S ends by S, for an empty one ends at H
 within_end : (h size : ℕ) (s : Section) → h ≤ size → s.end ≡ pick (eqb s.len 0) h (s.at + s.len) → Within h size s → s.end ≤ size

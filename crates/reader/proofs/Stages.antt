@@ -11,7 +11,7 @@ use Rattle.layout.specs.Versions.{head_end, volume_entry, trace_entry}
 use Rattle.incremental.specs.Decision as decision
 use Rattle.incremental.specs.Decision.{Decision, accept, refuse, refusal, decision_of}
 use Rattle.incremental.specs.Plan.{Plan, decide, Answer, decided, wants, run, and_then, reach, check, done, answer_of, ◌>>=◌, ◌>>◌}
-use Rattle.incremental.proofs.Plan.{onward, answer_then, reach_here, reach_short, reach_wants}
+use Rattle.incremental.proofs.Plan.{reach_here, reach_short, reach_wants}
 use Rattle.incremental.proofs.Plan.{reach_on, check_refused, check_on, decide_it, run_steps}
 use Rattle.incremental.proofs.Plan.{AnswerHolds, holds_reach, holds_check, holds_accept}
 use Rattle.incremental.specs.declared.Refusal.{Refusal}
@@ -39,7 +39,6 @@ use Rattle.std.specs.Prelude.{Err, None, Ok, Option, Result, Some}
 use Rattle.incremental.specs.declared.Fault.{Fault}
 use Rattle.incremental.specs.declared.Stop.TheVariants.{Refused, Wanted}
 use Rattle.incremental.specs.declared.Stop.{Stop}
-use Rattle.incremental.specs.Decision.{fault}
 
 -- ---- 7 and 8
 

@@ -14,12 +14,12 @@ use Rattle.lists.proofs.Count.{any_more}
 use Rattle.lists.proofs.Tests.{by_test}
 use Rattle.lists.specs.First.{first_from}
 use Rattle.little_endian.specs.Number.{le}
-use Rattle.layout.specs.Versions.{size_limit, head_end, metrics_entry, trace_entry, has_next, form_required, forms, form_at}
+use Rattle.layout.specs.Versions.{size_limit, head_end, metrics_entry, trace_entry, has_next}
 use Rattle.layout.specs.declared.Layout.{Layout}
 use Rattle.incremental.specs.Decision.{fault_of}
 use Rattle.sections.specs.declared.Section.{Section}
 use Rattle.sections.specs.declared.Head.{Head}
-use Rattle.sections.specs.Fields.{signature_fault, size_fault, room_for, form_in, link_count, section_of, head_of, size_in, outside}
+use Rattle.sections.specs.Fields.{signature_fault, size_fault, link_count, section_of, head_of, size_in, outside}
 use Rattle.sections.specs.Fields.{offset_field_at, shares, numbered, outside_fault, overlap_fault, places_fault, entries_fault}
 use Rattle.incremental.specs.declared.Fault.{Fault}
 use Rattle.std.specs.Prelude.{None, Option, Some}

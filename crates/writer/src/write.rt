@@ -1,5 +1,5 @@
 // The checks on what a file is to be made from, in the reader's order, and the writer.
-ghost use Rattle.std.specs.Prelude.{◌≡◌, ◌≤◌, length};
+ghost use Rattle.std.specs.Prelude.{◌≡◌, length};
 ghost use Rattle.layout.specs.Versions.{layout_of};
 ghost use Rattle.writer.specs.Writes.{description_of, writable, write_answer, file_for, Writes};
 ghost use Rattle.writer.specs.Plans.{Writable, planned};
