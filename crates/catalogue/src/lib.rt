@@ -1,5 +1,5 @@
 // The catalogue line: size, stored hash, run count and version in digits, and a line feed. A new line has 8 digits for the size, an old
-// one 6: the width below. Both are read, and only new lines are written.
+// one 6: the width below, which is no const parameter, as that is no plainer. Both are read, and only new lines are written.
 #![tactic(auto)]
 
 ghost use Rattle.std.specs.Prelude.{◌≡◌, true, ◌+◌, ◌≤◌, ◌++◌, length, drop};

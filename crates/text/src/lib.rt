@@ -9,7 +9,7 @@ ghost use Rattle.text.specs.Put.{Begun, Puts};
 // The least number of two digits.
 const TWO_DIGITS: u64 = 10;
 
-// A buffer, and the position behind what was put.
+// A buffer, and the position behind what was put. No `fmt::Write`: its clauses speak of an `Ok` alone, and no caller would know that it comes.
 #[derive(Drop)]
 pub struct Text<'a> {
     out: &'a mut [u8],
