@@ -1,15 +1,16 @@
 -- Every promise settles its answer: what is equal to one thing is equal, and each map from the cases of an enum to numbers is one-to-one.
 use mathlib.Core.Path.{◌≡◌, refl, sym, ap, ◌∙◌}
 use mathlib.Core.List.{List}
-use Prim.Native.Nat.{ℕ}
+use Prim.Native.Nat.{ℕ, ◌≤◌, ◌<◌}
 use native.Mathlib.Omega.{arith}
 use lib.Dec.{eqb}
-use lib.ListN.{get_or}
-use denote.Ref.{Bor}
+use lib.ListN.{length, take, get_or}
+use denote.Ref.{Bor, MutBor}
 use Rattle.lists.specs.Answer.{Said}
 use Rattle.lists.specs.Count.{pick}
 use Rattle.lists.specs.Part.{IsPart}
-use Rattle.text.specs.Put.{Put}
+use Rattle.text.specs.Put.{Put, Puts, Begun}
+use Rattle.text.specs.declared.Text.{Text}
 use Rattle.incremental.specs.Decision.{Decision, accept, refuse, refusal, decision_of}
 use Rattle.incremental.specs.Plan.{Answer, decided, wants, run, answer_of}
 use Rattle.catalogue.specs.Line.{LineAnswer, read_answer, no_line, Writing}
@@ -32,8 +33,8 @@ use Rattle.year.specs.declared.Fault.{Fault}
 use Rattle.year.specs.declared.Fault.TheVariants as fault
 use Rattle.year.proofs.Taking.{numbered}
 use Rattle.hivesaddle.specs.Output.{Answered, ReadOut}
-use Rattle.claims.specs.Settled.{Settles₁, Settles₂, SettlesPart, Settled}
-use Rattle.std.specs.Prelude.{IfOk, Result, Ok, Err}
+use Rattle.claims.specs.Settled.{Settles₁, Settles₂, SettlesPart, SettlesText, SettlesBytes, Settled}
+use Rattle.std.specs.Prelude.{IfOk, MatchResult, Result, Ok, Err}
 use Rattle.incremental.specs.declared.Refusal.{Refusal}
 use Rattle.incremental.specs.declared.Stop.TheVariants.{Refused, Wanted}
 use Rattle.incremental.specs.declared.Stop.{Stop}
@@ -120,6 +121,20 @@ part bytes at len r s p q =
 put : (out : List ℕ) (at : ℕ) (bytes : List ℕ) → Settles₁ (Put out at bytes)
 put out at bytes r s a b p q = (cc, cc)
 
+begun : (out : MutBor (List ℕ)) (at : ℕ) → SettlesText (Begun out at)
+begun out at r s p q =
+    record { buffer = p.buffer ∙ sym q.buffer; bytes = p.bytes ∙ sym q.bytes; position = p.position ∙ sym q.position }
+
+puts : (t : Text) (bytes : List ℕ) → SettlesText (Puts t bytes)
+puts t bytes r s p q = let h = put _ _ _ _ _ _ _ p.text q.text in record { buffer = p.buffer ∙ sym q.buffer; bytes = h.1; position = h.0 }
+
+handed_on : (file : List ℕ) (k : ℕ)
+    → SettlesBytes (λ r. MatchResult r (λ b. (k ≤ length file) × (b.now ≡ take k file)) (λ s. (length file < k) × (s ≡ Wanted k)))
+handed_on file k (Ok b) (Ok c) p q = ap Ok (p.1 ∙ sym q.1)
+handed_on file k (Ok b) (Err x) p q = absurd (omega (arith, p.0, q.0))
+handed_on file k (Err x) (Ok c) p q = absurd (omega (arith, p.0, q.0))
+handed_on file k (Err x) (Err y) p q = ap Err (p.1 ∙ sym q.1)
+
 answered : (said : Said) (out : List ℕ) → Settles₁ (λ r. Answered said r out)
 answered said out r s a b p q = (cc, cc)
 
@@ -160,12 +175,17 @@ settled =
     record {
       lists_part = part;
       sections_part_of = λ bytes s. part bytes s.at s.len;
-      text_put = λ out at b. put out at _;
-      text_put_all = put;
-      text_put_decimal = λ out at n. put out at _;
-      text_put_hex = λ out at width x. put out at _;
+      text_new = λ out. begun out 0;
+      text_resume = begun;
+      text_put = λ t b. puts t _;
+      text_put_all = puts;
+      text_put_decimal = λ t n. puts t _;
+      text_put_hex = λ t width x. puts t _;
       catalogue_read_line = λ line r s p q. told read_answer line_back read_line_lem r s (p ∙ sym q);
       catalogue_write_line = λ f out r s a b p q. (written f out r s a b p q, cc);
+      incremental_reach = handed_on;
+      incremental_check = λ n f r s p q. told decision_of decision_back decision r s (p ∙ sym q);
+      incremental_given = λ n at o r s p q. told decision_of decision_back decision r s (p ∙ sym q);
       head_read_start = λ bytes r s p q. told answer_of answer_back answer r s (p ∙ sym q);
       head_read_open = λ bytes r s p q. told answer_of answer_back answer r s (p ∙ sym q);
       trace_check_links = λ at nexts m r s a b p q. (told decision_of decision_back decision r s (p.answer ∙ sym q.answer), cc);

@@ -1,14 +1,18 @@
 -- EVERY PROMISE SETTLES ITS ANSWER (document 01, "What the contracts have to settle"): two answers, with two sets of lists afterwards, that
 -- both meet the promise of a public function on the same inputs, are the same. Where a promise is plainly an equation for its answer and for
 -- each list that it changes, that is so at a glance; every other public function of a library has a row here, under its name.
-use Rattle.std.specs.Prelude.{◌≡◌, List, [], ◌∷◌, ℕ}
-use Rattle.std.specs.Borrow.{Bor}
+use Rattle.std.specs.Prelude.{◌≡◌, List, [], ◌∷◌, ℕ, ◌≤◌, ◌<◌, length, take, Option, Result, Ok, Err, MatchResult}
+use Rattle.std.specs.Borrow.{Bor, MutBor}
 use Rattle.lists.specs.Part.{IsPart}
 use Rattle.digits.specs.Hex.{hex_digits}
 use Rattle.text.specs.Decimal.{decimal}
-use Rattle.text.specs.Put.{Put}
+use Rattle.text.specs.Put.{Put, Puts, Begun}
+use Rattle.text.specs.declared.Text.{Text}
 use Rattle.layout.specs.declared.Layout.{Layout}
-use Rattle.incremental.specs.Decision.{decision_of}
+use Rattle.incremental.specs.Decision.{decision_of, check, given}
+use Rattle.incremental.specs.declared.Fault.{Fault}
+use Rattle.incremental.specs.declared.Stop.{Stop}
+use Rattle.incremental.specs.declared.Stop.TheVariants.{Wanted}
 use Rattle.incremental.specs.Plan.{run, answer_of}
 use Rattle.catalogue.specs.Line.{reading, read_answer, Writing}
 use Rattle.catalogue.specs.declared.Fields.{Fields}
@@ -67,16 +71,40 @@ pub record SamePart (r s : Bor (List ℕ)) : Type 0 where
 abbrev pub SettlesPart : (Bor (List ℕ) → Type 0) → Type 0
 SettlesPart P = (r s : Bor (List ℕ)) → P r → P s → SamePart r s
 
-pub record Settled : Type 0 where
+-- two texts that are one: the same bytes up to the same position of one buffer
+pub record SameText (r s : Text) : Type 0 where
+  pub buffer : r.out.ghost_name ≡ s.out.ghost_name
+  pub bytes : r.out.now ≡ s.out.now
+  pub position : r.at ≡ s.at
+
+abbrev pub SettlesText : (Text → Type 0) → Type 0
+SettlesText P = (r s : Text) → P r → P s → SameText r s
+
+-- bytes that are handed on, or what stops
+abbrev pub bytes_in : Result (Bor (List ℕ)) Stop → Result (List ℕ) Stop
+bytes_in (Ok b) = Ok b.now
+bytes_in (Err x) = Err x
+
+abbrev pub SettlesBytes : (Result (Bor (List ℕ)) Stop → Type 0) → Type 0
+SettlesBytes P = (r s : Result (Bor (List ℕ)) Stop) → P r → P s → bytes_in r ≡ bytes_in s
+
+pub record Settled : Type 1 where
   -- ---- parts of lists, texts, lines
   pub lists_part : (bytes : Bor (List ℕ)) (at len : ℕ) → SettlesPart (IsPart bytes at len)
   pub sections_part_of : (bytes : Bor (List ℕ)) (s : Section) → SettlesPart (IsPart bytes s.at s.len)
-  pub text_put : (out : List ℕ) (at b : ℕ) → Settles₁ (Put out at (b ∷ []))
-  pub text_put_all : (out : List ℕ) (at : ℕ) (s : List ℕ) → Settles₁ (Put out at s)
-  pub text_put_decimal : (out : List ℕ) (at n : ℕ) → Settles₁ (Put out at (decimal n))
-  pub text_put_hex : (out : List ℕ) (at width x : ℕ) → Settles₁ (Put out at (hex_digits width x))
+  pub text_new : (out : MutBor (List ℕ)) → SettlesText (Begun out 0)
+  pub text_resume : (out : MutBor (List ℕ)) (at : ℕ) → SettlesText (Begun out at)
+  pub text_put : (t : Text) (b : ℕ) → SettlesText (Puts t (b ∷ []))
+  pub text_put_all : (t : Text) (s : List ℕ) → SettlesText (Puts t s)
+  pub text_put_decimal : (t : Text) (n : ℕ) → SettlesText (Puts t (decimal n))
+  pub text_put_hex : (t : Text) (width x : ℕ) → SettlesText (Puts t (hex_digits width x))
   pub catalogue_read_line : (line : List ℕ) → Settles (λ r. read_answer r ≡ reading line)
   pub catalogue_write_line : (f : Fields) (out : List ℕ) → Settles₁ (Writing f out)
+  -- ---- checks
+  pub incremental_reach : (file : List ℕ) (k : ℕ)
+      → SettlesBytes (λ r. MatchResult r (λ b. (k ≤ length file) × (b.now ≡ take k file)) (λ s. (length file < k) × (s ≡ Wanted k)))
+  pub incremental_check : (n : ℕ) (f : Option Fault) → Settles (λ r. decision_of r ≡ check n f)
+  pub incremental_given : {A : Type 0} (n at : ℕ) (o : Option A) → Settles (λ r. decision_of r ≡ given n at o)
   -- ---- heads and sections
   pub head_read_start : (file : List ℕ) → Settles (λ r. answer_of r ≡ run start_plan file)
   pub head_read_open : (file : List ℕ) → Settles (λ r. answer_of r ≡ run open_plan file)

@@ -1,5 +1,5 @@
 -- What only private contracts need: how the bytes come into the place, and the checks on a description in place of its file.
-use Rattle.std.specs.Prelude.{◌≡◌, List, [], ◌∷◌, ◌++◌, ℕ, ◌+◌, ◌-◌, ◌*◌, ◌≤◌, eqb, length, take, replicate, None, Ok, Option, Result, Some}
+use Rattle.std.specs.Prelude.{◌≡◌, List, [], ◌∷◌, ◌++◌, ℕ, ◌+◌, ◌-◌, ◌*◌, ◌≤◌, eqb, length, take, replicate, None, Err, Ok, Option, Result, Some}
 use Rattle.std.proofs.lemmas.List.Edits.{sets}
 use Rattle.lists.specs.Count.{pick}
 use Rattle.lists.specs.Pairs.{first_of, second_of}
@@ -8,8 +8,8 @@ use Rattle.layout.specs.Head.{trace_offset_at, trace_count_at, strings_offset_at
 use Rattle.layout.specs.Versions.{version_number, head_end, run_time_at, run_count_at, metrics_entry, volume_entry, trace_entry}
 use Rattle.layout.specs.declared.Version.{Version}
 use Rattle.layout.specs.declared.Layout.{Layout}
-use Rattle.incremental.specs.Decision.{Decision, accept, check, decision_of, ◌>>=◌, ◌>>◌}
-use Rattle.incremental.specs.Plan.{Answer}
+use Rattle.incremental.specs.Decision.{Decision, accept, refuse, check, decision_of, ◌>>=◌, ◌>>◌}
+use Rattle.incremental.specs.Plan.{Answer, decided}
 use Rattle.incremental.specs.declared.Refusal.{Refusal}
 use Rattle.sections.specs.declared.Head.{Head}
 use Rattle.sections.specs.Fields.{section_of, places_fault, entries_fault}
@@ -18,8 +18,7 @@ use Rattle.trace.specs.Links.{link_checks, predecessors, firsts}
 use Rattle.volumes.specs.Volumes.{volumes_from}
 use Rattle.reader.specs.declared.verdict.Acceptance.{Acceptance}
 use Rattle.reader.specs.declared.verdict.RunTimes.{RunTimes}
-use Rattle.reader.specs.Verdict.{Acceptable, verdict_in}
-use Rattle.reader.specs.Private.{verdict_of}
+use Rattle.reader.specs.Verdict.{Acceptable}
 use Rattle.writer.specs.declared.contents.Contents.{Contents}
 use Rattle.writer.specs.declared.draft.Plan.{Plan}
 use Rattle.writer.specs.declared.draft.Shape.{Shape}
@@ -138,9 +137,14 @@ pub record SectionsAnswered (l : Layout) (d : Description) (m : ℕ) (r : Result
   pub answer : decision_of r ≡ section_checks l d m
   pub holds : (n : ℕ) → r ≡ Ok n → buffer ≡ predecessors (links_in d) m
 
+-- an answer, with the buffer that an acceptance leaves
+abbrev pub given_by : Result Acceptance Refusal → List ℕ → Answer Acceptable
+given_by (Ok a) after = decided (accept (record { fields = a; table = after }))
+given_by (Err f) after = decided (refuse f)
+
 -- the writer's promise but for the buffer after a refusal: an acceptance leaves the table in it
 pub record Drafted (answer : Answer Acceptable) (file output : List ℕ) (r : Result Acceptance Refusal) (buffer' output' : List ℕ) : Type 0 where
-  pub verdict : verdict_of (verdict_in r) buffer' ≡ answer
+  pub verdict : given_by r buffer' ≡ answer
   pub placed : output' ≡ output_after answer file output
 
 -- the same by a version's layout, with m working places

@@ -1,4 +1,3 @@
 pub mod Year
 pub mod Facts
 pub mod Private
-pub mod Inside
