@@ -52,7 +52,11 @@ fn check_form(file: &[u8], start: Start) -> Result<Start, Stop>
 {
     let least = start.layout;
     let known = reach(file, least.form_required as usize)?;
-    let layout = given(21, layout::METRICS_OFFSET_AT, sections::find_form(known, least))?;
+    let layout = given(
+        21,
+        layout::METRICS_OFFSET_AT,
+        sections::find_form(known, least),
+    )?;
     Ok(Start {
         version: start.version,
         layout,

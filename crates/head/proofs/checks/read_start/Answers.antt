@@ -10,7 +10,7 @@ returns-in_err-reach-2 c = search (steps, c.in_err-reach-2.ensures.0, c.in_err-r
 
 pub returns-in_err-check : goal.returns-in_err-check
 unfolding start_plan
-returns-in_err-check c = 
+returns-in_err-check c =
     exit_refused _ _ _ c.from_residual-in_err-check.ensures.1 (search (steps, c.in_err-check.ensures, c.in_ok-reach.ensures.0, c.in_ok-reach.ensures.1, c.in_ok-version.ensures, c.in_ok-reach-2.ensures.0, c.in_ok-reach-2.ensures.1) depth 24 fits 20000)
 
 pub returns-in_err-reach-3 : goal.returns-in_err-reach-3
@@ -19,7 +19,7 @@ returns-in_err-reach-3 c = search (steps, c.in_err-reach-3.ensures.0, c.in_err-r
 
 pub returns-in_err-check-2 : goal.returns-in_err-check-2
 unfolding start_plan
-returns-in_err-check-2 c = 
+returns-in_err-check-2 c =
     exit_refused _ _ _ c.from_residual-in_err-check-2.ensures.1 (search (steps, c.in_err-check-2.ensures, c.in_ok-reach.ensures.0, c.in_ok-reach.ensures.1, c.in_ok-version.ensures, c.in_ok-reach-2.ensures.0, c.in_ok-reach-2.ensures.1, c.in_ok-check.ensures, c.in_ok-reach-3.ensures.0, c.in_ok-reach-3.ensures.1) depth 24 fits 20000)
 
 pub returns-in_err-reach-4 : goal.returns-in_err-reach-4
