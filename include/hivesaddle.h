@@ -521,23 +521,23 @@ uint32_t hs_year_table(const uint8_t *lines, size_t length, const uint32_t *hash
  * fixed size and no function calls itself, so neither the size nor the shape of a file makes it more. Beside the stack a
  * call uses the lists that it is handed, and nothing is allocated.
  *
- *   hs_read_prefix           1,280      hs_hash_xp                   0
- *   hs_read_file             2,224      hs_hash_vista                0
- *   hs_walk                  2,384      hs_hash_2008                 0
- *   hs_write_file            1,072      hs_hash_xp_bytes            80
- *   hs_places                  612      hs_hash_vista_bytes         80
- *   hs_program_name            224      hs_hash_2008_bytes          80
- *   hs_entry_name              692      hs_hash_powers               0
- *   hs_volume                  836      hs_hash_powers_bytes        56
- *   hs_reference               948      hs_hash_swap                65
- *   hs_find_path               820      hs_hash_swap_bytes         144
- *   hs_list_paths              836      hs_replay                  400
- *   hs_entry_reference         852      hs_replay_begin            336
- *   hs_directories             740      hs_replay_feed             480
- *   hs_references              740      hs_replay_finish           128
- *   hs_find_path_from        1,028      hs_year_table           41,420
- *   hs_cost                    724      hs_catalogue_write           8
- *   hs_interface                 0      hs_catalogue_read          428
+ *   hs_read_prefix           1,392      hs_hash_xp                   0
+ *   hs_read_file             2,144      hs_hash_vista                0
+ *   hs_walk                  2,160      hs_hash_2008                 0
+ *   hs_write_file              864      hs_hash_xp_bytes             0
+ *   hs_places                  688      hs_hash_vista_bytes          0
+ *   hs_program_name            224      hs_hash_2008_bytes           0
+ *   hs_entry_name            1,104      hs_hash_powers               0
+ *   hs_volume                  784      hs_hash_powers_bytes         0
+ *   hs_reference               832      hs_hash_swap                80
+ *   hs_find_path             1,104      hs_hash_swap_bytes          80
+ *   hs_list_paths              896      hs_replay                  384
+ *   hs_entry_reference       1,088      hs_replay_begin            160
+ *   hs_directories             800      hs_replay_feed             256
+ *   hs_references              800      hs_replay_finish           128
+ *   hs_find_path_from        1,264      hs_year_table           41,192
+ *   hs_cost                    768      hs_catalogue_write           8
+ *   hs_interface                 0      hs_catalogue_read          120
  */
 
 #ifdef __cplusplus

@@ -64,6 +64,10 @@ pub then_laid : (o output output' x y z : List ℕ) (at next : ℕ) → output �
 then_laid o output output' x y z at next e f n j =
     f ∙ ap (λ (s : List ℕ). patch s next y) e ∙ patch_join o at x y next n ∙ ap (patch o at) j
 
+pub patch_one : (o : List ℕ) (at v : ℕ) → set o at v ≡ patch o at (v ∷ [])
+unfolding patch
+patch_one o at v = refl
+
 pub laid_long : (o output x : List ℕ) (at : ℕ) → output ≡ patch o at x → length output ≡ length o
 unfolding patch
 laid_long o output x at e = ap length e ∙ length-sets o at x
@@ -90,14 +94,15 @@ unfolding unit_bytes
 units_join [] vs = refl
 units_join (u ∷ us) vs = ap (λ (s : List ℕ). bytes_of 2 u ++ s) (units_join us vs) ∙ sym (append_assoc (bytes_of 2 u) (unit_bytes us) (unit_bytes vs))
 
+pub bytes_more : (s : List ℕ) (i : ℕ) → i < length s → take i s ++ get_or s i 0 ∷ [] ≡ take (i + 1) s
+bytes_more s i h = let e : suc i ≡ i + 1 = omega arith in sym (take-suc s i 0 h) ∙ ap (λ (k : ℕ). take k s) e
+
 pub units_more : (us : List ℕ) (i : ℕ) → i < length us → unit_bytes (take i us) ++ bytes_of 2 (get_or us i 0) ≡ unit_bytes (take (i + 1) us)
 unfolding unit_bytes
 units_more us i h =
-    let e : suc i ≡ i + 1 = omega arith in
-    let more : take i us ++ get_or us i 0 ∷ [] ≡ take (i + 1) us = sym (take-suc us i 0 h) ∙ ap (λ (k : ℕ). take k us) e in
     ap (λ (s : List ℕ). unit_bytes (take i us) ++ s) (sym (append-nil (bytes_of 2 (get_or us i 0))))
     ∙ sym (units_join (take i us) (get_or us i 0 ∷ []))
-    ∙ ap unit_bytes more
+    ∙ ap unit_bytes (bytes_more us i h)
 
 -- three pieces one behind another, and more
 pub three_laid : (o o₁ o₂ o₃ x y z w : List ℕ) (at p q : ℕ) → o₁ ≡ patch o at x → o₂ ≡ patch o₁ p y → o₃ ≡ patch o₂ q z → p ≡ at + length x

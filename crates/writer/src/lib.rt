@@ -24,11 +24,14 @@ fn put_zeros(output: &mut [u8], from: usize, to: usize)
     output[from..to].fill(0);
 }
 
+// The library asks of C for memcpy and memset alone, and `copy_from_slice` comes out as memmove.
 fn put_bytes(output: &mut [u8], at: usize, bytes: &[u8])
     requires { at + length bytes.now ≤ length output.old }
     ensures { output.new ≡ patch output.old at bytes.now }
 {
-    output[at..at + bytes.len()].copy_from_slice(bytes);
+    for (i, b) in bytes.iter().enumerate() {
+        output[at + i] = *b;
+    }
 }
 
 // A number at a place, and zeros up to it.
