@@ -1,4 +1,3 @@
-pub mod Keys
 pub mod Shuffle
 pub mod Heap
 pub mod Orders
