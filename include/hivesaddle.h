@@ -359,8 +359,8 @@ uint32_t hs_hash_vista_bytes(const uint8_t *text, size_t length);
 uint32_t hs_hash_2008_bytes(const uint8_t *text, size_t length);
 
 /* A second engine, for many paths: it adds up each number times its power of 37, from a table of 1,024 powers, and takes the
- * plain step past 1,024 numbers. It gives the hash of Vista and 2008 of every list. The table is laid out anew in each call,
- * so a list of a few numbers is hashed quicker by hs_hash_vista. */
+ * plain step past 1,024 numbers. It gives the hash of Vista and 2008 of every list. A list of some ten numbers takes as long
+ * by hs_hash_vista. */
 uint32_t hs_hash_powers(const uint32_t *numbers, size_t count);
 uint32_t hs_hash_powers_bytes(const uint8_t *text, size_t length);
 
@@ -521,21 +521,21 @@ uint32_t hs_year_table(const uint8_t *lines, size_t length, const uint32_t *hash
  * fixed size and no function calls itself, so neither the size nor the shape of a file makes it more. Beside the stack a
  * call uses the lists that it is handed, and nothing is allocated.
  *
- *   hs_read_prefix           1,392      hs_hash_xp                   0
- *   hs_read_file             2,144      hs_hash_vista                0
- *   hs_walk                  2,160      hs_hash_2008                 0
- *   hs_write_file              864      hs_hash_xp_bytes             0
+ *   hs_read_prefix           1,360      hs_hash_xp                   0
+ *   hs_read_file             2,112      hs_hash_vista                0
+ *   hs_walk                  2,128      hs_hash_2008                 0
+ *   hs_write_file              944      hs_hash_xp_bytes             0
  *   hs_places                  688      hs_hash_vista_bytes          0
  *   hs_program_name            224      hs_hash_2008_bytes           0
- *   hs_entry_name            1,104      hs_hash_powers               0
+ *   hs_entry_name              736      hs_hash_powers               0
  *   hs_volume                  784      hs_hash_powers_bytes         0
  *   hs_reference               832      hs_hash_swap                80
- *   hs_find_path             1,104      hs_hash_swap_bytes          80
- *   hs_list_paths              896      hs_replay                  384
- *   hs_entry_reference       1,088      hs_replay_begin            160
+ *   hs_find_path               736      hs_hash_swap_bytes          80
+ *   hs_list_paths              896      hs_replay                  376
+ *   hs_entry_reference         768      hs_replay_begin            152
  *   hs_directories             800      hs_replay_feed             256
  *   hs_references              800      hs_replay_finish           128
- *   hs_find_path_from        1,264      hs_year_table           41,192
+ *   hs_find_path_from          896      hs_year_table           41,192
  *   hs_cost                    768      hs_catalogue_write           8
  *   hs_interface                 0      hs_catalogue_read          120
  */

@@ -83,7 +83,7 @@ pub fn u48_at(s: &[u8], at: usize) -> u64
 }
 
 // A loop over the bytes asks how many are left, and then neither test is made, where the call is inlined.
-#[inline]
+#[inline(always)]
 pub fn u64_at(s: &[u8], at: usize) -> u64
     ensures { result ≡ le 8 s.now at }
 {

@@ -172,6 +172,8 @@ fn first_fault<F: Fn(u32) -> bool>(l: Layout, start: u32, entries: u32, fails: F
 }
 
 // Check 9: the first entry whose name does not fit a strings section of that size. The metrics start at `start` in the file.
+// Inside the function that calls them, the loops of this and of check 10 run out of registers and take a fifth longer.
+#[inline(never)]
 #[tactic(auto, using(crate::proofs::Laws::first_fault_is), unfolding(crate::specs::Names::misfit_fault))]
 pub fn misfit_fault<N: Names>(
     names: &N,
@@ -188,6 +190,7 @@ pub fn misfit_fault<N: Names>(
 }
 
 // Check 10: the first entry whose name is not sound.
+#[inline(never)]
 #[tactic(auto, using(crate::proofs::Laws::first_fault_is), unfolding(crate::specs::Names::unsound_fault))]
 pub fn unsound_fault<N: Names>(
     names: &N,

@@ -28,6 +28,8 @@ fn path_from_in(file: &[u8], o: Opening, volume: usize, start: &[u8]) -> Option<
 pub fn find_path_from(file: &[u8], volume: usize, start: &[u8]) -> Option<PathEntry>
     ensures { Answers path_said (path_found_from file.now volume start.now) result }
 {
-    let opening = head::read_open(file).ok()?;
-    path_from_in(file, opening, volume, start)
+    match head::read_open(file) {
+        Ok(o) => path_from_in(file, o, volume, start),
+        Err(_) => None,
+    }
 }

@@ -189,8 +189,10 @@ fn path_in(file: &[u8], o: Opening) -> Option<PathEntry>
 pub fn find_path(file: &[u8]) -> Option<PathEntry>
     ensures { Answers path_said (path_found file.now) result }
 {
-    let opening = head::read_open(file).ok()?;
-    path_in(file, opening)
+    match head::read_open(file) {
+        Ok(o) => path_in(file, o),
+        Err(_) => None,
+    }
 }
 
 // All pairs, where checks 1 to 6 pass.

@@ -1,5 +1,5 @@
 -- What is asked of a file is told by what a call for its checks gave: an opening, a refusal or a request for more.
-use mathlib.Core.Path.{◌≡◌, sym, ap, ◌∙◌}
+use mathlib.Core.Path.{◌≡◌, refl, sym, ap, ◌∙◌}
 use mathlib.Core.List.{List, []}
 use Prim.Native.Nat.{ℕ}
 use Rattle.lists.specs.Answer.{Said, Answers}
@@ -41,6 +41,14 @@ module _ {A : Type 0} (t : Plan A) (p : List ℕ) (r : Result A Stop) (k : Optio
       go : (x : Result A Stop) → result_ok x ≡ Some a → x ≡ Ok a
       go (Ok b) q = let w : b ≡ a = cc in ap (λ (c : A). Ok c) w
       go (Err x) q = never cc
+
+-- the same by the call's own answer
+module _ {A B : Type 0} (t : Plan A) (p : List ℕ) (r : Result A Stop) (said : B → Said) (none v : B) (some : A → B) (e : answer_of r ≡ run t p) where
+  pub asked_ok : (a : A) → r ≡ Ok a → v ≡ some a → Answers said (asked (run t p) none some) v
+  asked_ok a q h = asked_some t p r (result_ok r) e refl said none v some a (ap result_ok q) h
+
+  pub asked_err : (s : Stop) → r ≡ Err s → v ≡ none → Answers said (asked (run t p) none some) v
+  asked_err s q h = asked_none t p r (result_ok r) e refl said none v some (ap result_ok q) h
 
 -- what checks 1 to 6 gave is what holds of an opening
 pub opened_met : (p : List ℕ) (r : Result Opening Stop) (k : Option Opening) (o : Opening) → answer_of r ≡ run open_plan p → k ≡ result_ok r → k ≡ Some o → OpenFacts p o

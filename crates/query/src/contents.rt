@@ -140,6 +140,8 @@ fn entry_reference_in(file: &[u8], o: Opening, i: usize) -> Option<Option<Refere
 pub fn entry_reference(file: &[u8], i: usize) -> Option<Option<Reference>>
     ensures { Answers entry_reference_said (entry_reference_asked file.now i) result }
 {
-    let opening = head::read_open(file).ok()?;
-    entry_reference_in(file, opening, i)
+    match head::read_open(file) {
+        Ok(o) => entry_reference_in(file, o, i),
+        Err(_) => None,
+    }
 }

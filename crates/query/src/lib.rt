@@ -116,8 +116,10 @@ pub(crate) fn entry_in(file: &[u8], o: Opening, i: usize) -> Option<Place>
 pub fn entry_place(file: &[u8], i: usize) -> Option<Place>
     ensures { Answers place_said (entry_place file.now i) result }
 {
-    let opening = head::read_open(file).ok()?;
-    entry_in(file, opening, i)
+    match head::read_open(file) {
+        Ok(o) => entry_in(file, o, i),
+        Err(_) => None,
+    }
 }
 
 // That name as the bytes of the file.

@@ -113,6 +113,7 @@ impl<'a> Entry<'a> {
     }
 
     // The number of file references: 0 where their data has no bytes.
+    #[inline(always)]
     fn reference_count(self) -> u32
         ensures { result ≡ reference_count self.entry.section.now self.entry.at }
     {

@@ -1,12 +1,13 @@
 -- A file that opens is asked; one that is refused or too short for checks 1 to 6 shows nothing.
-use Rattle.query.proofs.Asked.{asking}
+use Rattle.head.proofs.Facts.{open_met}
+use Rattle.query.proofs.Asked.{asked_ok, asked_err}
 use Rattle.query.proofs.contents.entry_reference.Goals as goal
 
-pub returns-in_err-opening : goal.returns-in_err-opening
-returns-in_err-opening c = search (asking, c.in_err-opening.was)
+pub returns-in-Ok : goal.returns-in-Ok
+returns-in-Ok c = search asked_ok
 
 pub entry_reference_in-requires : goal.entry_reference_in-requires
-entry_reference_in-requires c = search (asking, c.in_ok-opening.was)
+entry_reference_in-requires c = search open_met
 
-pub returns : goal.returns
-returns c = search (asking, c.in_ok-opening.was)
+pub returns-in-Err : goal.returns-in-Err
+returns-in-Err c = search asked_err
