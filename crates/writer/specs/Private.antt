@@ -1,5 +1,5 @@
 -- What only private contracts need: how the bytes come into the place, and the checks on a description in place of its file.
-use Rattle.std.specs.Prelude.{◌≡◌, List, [], ◌∷◌, ◌++◌, ℕ, ◌+◌, ◌-◌, ◌*◌, ◌≤◌, eqb, length, take, replicate, None, Err, Ok, Option, Result, Some}
+use Rattle.std.specs.Prelude.{◌≡◌, List, [], ◌∷◌, ◌++◌, ℕ, ◌+◌, ◌-◌, ◌*◌, ◌^◌, ◌≤◌, ◌<◌, eqb, length, get_or, take, replicate, None, Err, Ok, Option, Result, Some}
 use Rattle.std.proofs.lemmas.List.Edits.{sets}
 use Rattle.lists.specs.Count.{pick}
 use Rattle.lists.specs.Pairs.{first_of, second_of}
@@ -25,6 +25,12 @@ use Rattle.writer.specs.declared.draft.Shape.{Shape}
 use Rattle.writer.specs.Writes.{placed_answer, output_after}
 use Rattle.writer.specs.LaidOut.{Field, number, spread, Description, before_zero, laid_by, name_kept, pairs, metrics_at, trace_at, strings_at}
 use Rattle.writer.specs.LaidOut.{volumes_at, laid_size}
+
+-- ---- the numbers of slices have their widths
+pub record Widths (name metrics trace : List ℕ) : Type 0 where
+  pub units : (k : ℕ) → get_or name k 0 < 65536
+  pub fields : (k : ℕ) → get_or metrics k 0 < 256 ^ 4
+  pub links : (k : ℕ) → get_or trace k 0 < 256 ^ 4
 
 -- ---- bytes into the place
 

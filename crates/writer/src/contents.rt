@@ -1,8 +1,5 @@
-ghost use Rattle.writer.specs.LaidOut.{description, Numbers};
-
 // What a file is made from: the program name in 16-bit units, tables of pairs (name offset, name length; next index, block count), two
-// sections in bytes, and the numbers that stand nowhere else. That each number has its width is true of every value; it is a field since
-// a proof knows it of a slice that is a parameter, and not of one in a struct.
+// sections in bytes, and the numbers that stand nowhere else.
 #[derive(Clone, Copy)]
 pub struct Contents<'a> {
     pub name: &'a [u16],
@@ -14,5 +11,4 @@ pub struct Contents<'a> {
     pub strings: &'a [u8],
     pub volumes: &'a [u8],
     pub volume_count: u32,
-    pub ghost numbers: { Numbers (description name.now stored_hash run_time run_count metrics.now trace.now strings.now volumes.now volume_count) },
 }

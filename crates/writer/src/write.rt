@@ -3,7 +3,7 @@ ghost use Rattle.std.specs.Prelude.{◌≡◌, length};
 ghost use Rattle.layout.specs.Versions.{layout_of};
 ghost use Rattle.writer.specs.Writes.{description_of, writable, write_answer, file_for, Writes};
 ghost use Rattle.writer.specs.Plans.{Writable, planned};
-ghost use Rattle.writer.specs.Private.{carried_units, record_for, SectionsAnswered, Drafted, DraftedBy};
+ghost use Rattle.writer.specs.Private.{carried_units, record_for, SectionsAnswered, Drafted, DraftedBy, Widths};
 
 use crate::Contents;
 use crate::draft::{Draft, Plan};
@@ -144,6 +144,11 @@ fn write_planned(
     Ok(record_of(draft, chains))
 }
 
+// Each number of a slice has its width: a proof knows that of a slice that is a parameter, and not of one in a struct.
+fn have_widths(name: &[u16], metrics: &[u32], trace: &[u32])
+    ensures { Widths name.now metrics.now trace.now }
+{}
+
 // The writer for a version.
 fn write_version(
     version: Version,
@@ -155,6 +160,7 @@ fn write_version(
     ensures { DraftedBy version (layout_of version) (description_of contents.entry) (length predecessors.old) output.old result
         predecessors.new output.new }
 {
+    have_widths(contents.name, contents.metrics, contents.trace);
     let layout = Layout::of(version);
     let plan = given(3, layout::DECLARED_SIZE_AT, plan_of(layout, contents))?;
     let units = given(4, layout::PROGRAM_NAME_AT, carried_units(contents.name))?;
