@@ -123,6 +123,7 @@ pub empty_programs : EmptyPrograms
 unfolding record_of
 empty_programs =
     record {
+      reads_file = λ r left h. h;
       can_be_met = λ k. (honest k, meets_honest k);
       settled = agree;
       refuses_always = λ k f h n. never (cc (one-run k f h, (n (smallest 1) []).1));

@@ -6,7 +6,7 @@ use native.Mathlib.Omega.{arith}
 use lib.Dec.{eqb}
 use lib.ListN.{length, take, get_or}
 use denote.Ref.{Bor, MutBor}
-use Rattle.lists.specs.Answer.{Said}
+use Rattle.lists.specs.Answer.{Said, Answers}
 use Rattle.lists.specs.Count.{pick}
 use Rattle.lists.specs.Part.{IsPart}
 use Rattle.text.specs.Put.{Put, Puts, Begun}
@@ -33,8 +33,12 @@ use Rattle.year.specs.declared.Fault.{Fault}
 use Rattle.year.specs.declared.Fault.TheVariants as fault
 use Rattle.year.proofs.Taking.{numbered}
 use Rattle.hivesaddle.specs.Output.{Answered, ReadOut}
-use Rattle.claims.specs.Settled.{Settles₁, Settles₂, SettlesPart, SettlesText, SettlesBytes, Settled}
-use Rattle.std.specs.Prelude.{IfOk, MatchResult, Result, Ok, Err}
+use Rattle.claims.specs.Settled.{Settles, Settles₁, Settles₂, SettlesPart, SettlesText, SettlesBytes, SettlesStep, Settled}
+use Rattle.std.specs.Prelude.{IfErr, IfOk, IfSome, IsSome, MatchResult, None, Result, Ok, Err, Some, ◌↔◌, drop, map}
+use Rattle.path_hash.specs.Hash.{eight_at}
+use Rattle.std.specs.Result.{result_ok}
+use Rattle.layout.specs.declared.UnknownVersion.{UnknownVersion}
+use Rattle.layout.specs.Versions.{version_of, known_said}
 use Rattle.incremental.specs.declared.Refusal.{Refusal}
 use Rattle.incremental.specs.declared.Stop.TheVariants.{Refused, Wanted}
 use Rattle.incremental.specs.declared.Stop.{Stop}
@@ -128,6 +132,20 @@ begun out at r s p q =
 puts : (t : Text) (bytes : List ℕ) → SettlesText (Puts t bytes)
 puts t bytes r s p q = let h = put _ _ _ _ _ _ _ p.text q.text in record { buffer = p.buffer ∙ sym q.buffer; bytes = h.1; position = h.0 }
 
+eight_step : {T : Type 0} (value : T → ℕ) (h : ℕ) (numbers : List T)
+    → SettlesStep (λ r. (IsSome r ↔ (8 ≤ length numbers)) × IfSome r (λ p. (p.0 ≡ eight_at h (map value numbers) 0) × (p.1.now ≡ drop 8 numbers)))
+eight_step value h numbers (Some a) (Some b) p q = ap Some (let e = p.1.0 ∙ sym q.1.0 in let f = p.1.1 ∙ sym q.1.1 in cc)
+eight_step value h numbers (Some a) None p q = let z = q.0.1 (p.0.0 refl) in cc
+eight_step value h numbers None (Some b) p q = let z = p.0.1 (q.0.0 refl) in cc
+eight_step value h numbers None None p q = refl
+
+-- a number is a version's, or the error has it
+version : (n : ℕ) → Settles (λ r. Answers known_said (version_of n) (result_ok r) × IfErr r (λ (u : UnknownVersion). u.0 ≡ n))
+version n (Ok v) (Ok w) p q = let h = p.0.answer ∙ sym q.0.answer in cc
+version n (Ok v) (Err e) p q = let h = p.0.answer ∙ sym q.0.answer in cc
+version n (Err d) (Ok w) p q = let h = p.0.answer ∙ sym q.0.answer in cc
+version n (Err d) (Err e) p q = ap (λ (u : UnknownVersion). Err u) (ap (λ (k : ℕ). record { 0 = k }) (p.1 ∙ sym q.1))
+
 handed_on : (file : List ℕ) (k : ℕ)
     → SettlesBytes (λ r. MatchResult r (λ b. (k ≤ length file) × (b.now ≡ take k file)) (λ s. (length file < k) × (s ≡ Wanted k)))
 handed_on file k (Ok b) (Ok c) p q = ap Ok (p.1 ∙ sym q.1)
@@ -183,9 +201,13 @@ settled =
       text_put_hex = λ t width x. puts t _;
       catalogue_read_line = λ line r s p q. told read_answer line_back read_line_lem r s (p ∙ sym q);
       catalogue_write_line = λ f out r s a b p q. (written f out r s a b p q, cc);
+      path_hash_eight_step = eight_step;
+      layout_try_from = version;
+      layout_of_form = λ start r s p q. p ∙ sym q;
       incremental_reach = handed_on;
       incremental_check = λ n f r s p q. told decision_of decision_back decision r s (p ∙ sym q);
       incremental_given = λ n at o r s p q. told decision_of decision_back decision r s (p ∙ sym q);
+      sections_find_form = λ l b r s p q. p ∙ sym q;
       head_read_start = λ bytes r s p q. told answer_of answer_back answer r s (p ∙ sym q);
       head_read_open = λ bytes r s p q. told answer_of answer_back answer r s (p ∙ sym q);
       trace_check_links = λ at nexts m r s a b p q. (told decision_of decision_back decision r s (p.answer ∙ sym q.answer), cc);

@@ -30,6 +30,7 @@ use Rattle.writer.proofs.Answering.{is_other, written_known}
 use Rattle.claims.specs.Writer.{AsksFor, Occurs, FileWritten, WriterSays, WritersSay}
 use Rattle.claims.proofs.LaidOut.{o, accepted_fits, record_given, refused_number, opening_is, unit_written, name_shown_lem, entry_written}
 use Rattle.std.specs.Prelude.{Err, None, Ok, Option, Result, Some}
+use Rattle.incremental.specs.declared.Stop.TheVariants.{Wanted}
 
 -- ---- the versions
 asked-writable : (n : ℕ) (v : Version) → AsksFor n v → writable n ≡ Some v
@@ -42,6 +43,10 @@ unfolding writable
 writable-asked n v e =
     by_test (eqb n 17) (λ p. inl (eqb-true n 17 p, cc)) λ p.
     by_test (eqb n 23) (λ q. inr (eqb-true n 23 q, cc)) λ q. never cc
+
+no_wish : (r : Result Acceptance Refusal) (k : ℕ) → verdict_in r ≡ Err (Wanted k) → ⊥
+no_wish (Ok a) k e = cc
+no_wish (Err f) k e = cc
 
 -- ---- what the reader answered, by what the writer answers
 room_accepted : (short : Bool) (y : Answer Acceptable) (x : Acceptable) → roomed short y ≡ decided (accept x) → (short ≡ false) × (y ≡ decided (accept x))
@@ -180,6 +185,7 @@ module _ (version : ℕ) (d : Description) (buffer output : List ℕ) (r : Resul
               h.reads.buffer ∙ ap (λ (y : Answer Acceptable). buffer_after y (length buffer)) x,
             );
         never = occurs;
+        no_request = no_wish r;
       }
 
 pub writers_say : WritersSay

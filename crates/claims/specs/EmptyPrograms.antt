@@ -6,8 +6,8 @@ use Rattle.sections.specs.Fields.{link_count}
 use Rattle.head.specs.declared.checks.Opening.{Opening}
 use Rattle.trace.specs.Links.{chains}
 use Rattle.reader.specs.declared.verdict.Acceptance.{Acceptance}
-use Rattle.reader.specs.Verdict.{Reads}
-use Rattle.reader.specs.Checks.{nexts_in, file_answer, ReadsPrefix}
+use Rattle.reader.specs.Verdict.{Reads, verdict_in}
+use Rattle.reader.specs.Checks.{nexts_in, file_answer, ReadsPrefix, ReadsFile}
 use Rattle.reader.specs.Allowed.{Allowed}
 use Rattle.claims.specs.Examples.{full, full_chains}
 use Rattle.std.specs.Prelude.{Err, Ok, Result}
@@ -31,6 +31,10 @@ Meets whole f = (p buffer : List ℕ) → Reads (file_answer p (length buffer)) 
 
 -- no program that answers in one of these ways meets its reader's promise
 pub record EmptyPrograms : Type 0 where
+  -- what meets `ReadsFile` meets this, as a verdict
+  pub reads_file : (r : List ℕ → List ℕ → Result Acceptance Refusal) (left : List ℕ → List ℕ → List ℕ)
+      → ((p buffer : List ℕ) → ReadsFile p buffer (r p buffer) (left p buffer))
+      → Meets whole (record { verdict = λ p buffer. verdict_in (r p buffer); left = left })
   -- the promises can be met, and settle what a program gives
   pub can_be_met : (k : Reader) → (f : Program) × Meets k f
   pub settled : (k : Reader) (f g : Program) → Meets k f → Meets k g → (p buffer : List ℕ)

@@ -1,14 +1,19 @@
 -- EVERY PROMISE SETTLES ITS ANSWER (document 01, "What the contracts have to settle"): two answers, with two sets of lists afterwards, that
 -- both meet the promise of a public function on the same inputs, are the same. Where a promise is plainly an equation for its answer and for
 -- each list that it changes, that is so at a glance; every other public function of a library has a row here, under its name.
-use Rattle.std.specs.Prelude.{◌≡◌, List, [], ◌∷◌, ℕ, ◌≤◌, ◌<◌, length, take, Option, Result, Ok, Err, MatchResult}
+use Rattle.std.specs.Prelude.{◌≡◌, List, [], ◌∷◌, ℕ, ◌≤◌, ◌<◌, length, take, Option, Some, None, IsSome, IfSome, Result, Ok, Err, MatchResult, IfErr, ◌↔◌, drop, map}
 use Rattle.std.specs.Borrow.{Bor, MutBor}
+use Rattle.std.specs.Result.{result_ok}
 use Rattle.lists.specs.Part.{IsPart}
+use Rattle.lists.specs.Answer.{Answers}
+use Rattle.lists.specs.Answer.{Answers}
 use Rattle.digits.specs.Hex.{hex_digits}
 use Rattle.text.specs.Decimal.{decimal}
 use Rattle.text.specs.Put.{Put, Puts, Begun}
 use Rattle.text.specs.declared.Text.{Text}
 use Rattle.layout.specs.declared.Layout.{Layout}
+use Rattle.layout.specs.declared.UnknownVersion.{UnknownVersion}
+use Rattle.layout.specs.Versions.{version_of, known_said, forms, form_at}
 use Rattle.incremental.specs.Decision.{decision_of, check, given}
 use Rattle.incremental.specs.declared.Fault.{Fault}
 use Rattle.incremental.specs.declared.Stop.{Stop}
@@ -17,6 +22,8 @@ use Rattle.incremental.specs.Plan.{run, answer_of}
 use Rattle.catalogue.specs.Line.{reading, read_answer, Writing}
 use Rattle.catalogue.specs.declared.Fields.{Fields}
 use Rattle.sections.specs.declared.Section.{Section}
+use Rattle.sections.specs.Fields.{form_in}
+use Rattle.path_hash.specs.Hash.{eight_at}
 use Rattle.power_hash.specs.Powers.{swap_answer, swap_said}
 use Rattle.head.specs.Checks.{start_plan, open_plan}
 use Rattle.trace.specs.Links.{LinkListAnswer}
@@ -88,6 +95,14 @@ bytes_in (Err x) = Err x
 abbrev pub SettlesBytes : (Result (Bor (List ℕ)) Stop → Type 0) → Type 0
 SettlesBytes P = (r s : Result (Bor (List ℕ)) Stop) → P r → P s → bytes_in r ≡ bytes_in s
 
+-- a hash, and numbers that are left
+abbrev pub step_in : {T : Type 0} → Option (ℕ × Bor (List T)) → Option (ℕ × List T)
+step_in (Some p) = Some (p.0, p.1.now)
+step_in None = None
+
+abbrev pub SettlesStep : {T : Type 0} → (Option (ℕ × Bor (List T)) → Type 0) → Type 0
+SettlesStep P = (r s : _) → P r → P s → step_in r ≡ step_in s
+
 pub record Settled : Type 1 where
   -- ---- parts of lists, texts, lines
   pub lists_part : (bytes : Bor (List ℕ)) (at len : ℕ) → SettlesPart (IsPart bytes at len)
@@ -100,12 +115,19 @@ pub record Settled : Type 1 where
   pub text_put_hex : (t : Text) (width x : ℕ) → SettlesText (Puts t (hex_digits width x))
   pub catalogue_read_line : (line : List ℕ) → Settles (λ r. read_answer r ≡ reading line)
   pub catalogue_write_line : (f : Fields) (out : List ℕ) → Settles₁ (Writing f out)
+  -- ---- what is hashed
+  pub path_hash_eight_step : {T : Type 0} (value : T → ℕ) (h : ℕ) (numbers : List T)
+      → SettlesStep (λ r. (IsSome r ↔ (8 ≤ length numbers)) × IfSome r (λ p. (p.0 ≡ eight_at h (map value numbers) 0) × (p.1.now ≡ drop 8 numbers)))
+  -- ---- versions and forms
+  pub layout_try_from : (n : ℕ) → Settles (λ r. Answers known_said (version_of n) (result_ok r) × IfErr r (λ (u : UnknownVersion). u.0 ≡ n))
+  pub layout_of_form : (start : ℕ) → Settles (λ r. r ≡ form_at start forms)
   -- ---- checks
   pub incremental_reach : (file : List ℕ) (k : ℕ)
       → SettlesBytes (λ r. MatchResult r (λ b. (k ≤ length file) × (b.now ≡ take k file)) (λ s. (length file < k) × (s ≡ Wanted k)))
   pub incremental_check : (n : ℕ) (f : Option Fault) → Settles (λ r. decision_of r ≡ check n f)
   pub incremental_given : {A : Type 0} (n at : ℕ) (o : Option A) → Settles (λ r. decision_of r ≡ given n at o)
   -- ---- heads and sections
+  pub sections_find_form : (l : Layout) (b : List ℕ) → Settles (λ r. r ≡ form_in l b)
   pub head_read_start : (file : List ℕ) → Settles (λ r. answer_of r ≡ run start_plan file)
   pub head_read_open : (file : List ℕ) → Settles (λ r. answer_of r ≡ run open_plan file)
   pub trace_check_links : (at : ℕ → ℕ) (nexts : List ℕ) (m : ℕ) → Settles₁ (LinkListAnswer at nexts m)

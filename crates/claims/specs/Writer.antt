@@ -13,11 +13,12 @@ use Rattle.incremental.specs.declared.Refusal.{Refusal}
 use Rattle.lists.specs.Filled.{filled}
 use Rattle.query.specs.Queries.{program_place, entry_place}
 use Rattle.reader.specs.declared.verdict.Acceptance.{Acceptance}
-use Rattle.reader.specs.Verdict.{Acceptable}
+use Rattle.reader.specs.Verdict.{Acceptable, verdict_in}
 use Rattle.reader.specs.Checks.{file_answer, ReadsFile}
 use Rattle.writer.specs.LaidOut.{Description, Numbers, laid_out, before_zero, pairs, trace_at, strings_at}
 use Rattle.writer.specs.Writes.{Writes}
 use Rattle.std.specs.Prelude.{Err, Ok, Result, Some}
+use Rattle.incremental.specs.declared.Stop.TheVariants.{Wanted}
 
 -- "A writer for versions 17 and 23": the version that a number asks for
 abbrev pub AsksFor : ℕ → Version → Type 0
@@ -76,8 +77,9 @@ pub record WriterSays (version : ℕ) (d : Description) (buffer output : List �
   pub other : (version ≡ 17 → ⊥) → (version ≡ 23 → ⊥) → r ≡ Err (refusal 1 0 version_at)
   -- "the place unchanged in every refusal", and the working buffer filled
   pub unchanged : (f : Refusal) → r ≡ Err f → (output' ≡ output) × (buffer' ≡ filled (length buffer))
-  -- a laid-out file is never refused with 2, 5, 6, 16, 17 or 21
+  -- a laid-out file is never refused with 2, 5, 6, 16, 17 or 21, and no more bytes are asked for
   pub never : (f : Refusal) → r ≡ Err f → Occurs f.number
+  pub no_request : (k : ℕ) → verdict_in r ≡ Err (Wanted k) → ⊥
 
 -- the statement, of a description whose numbers fit their widths
 abbrev pub WritersSay : Type 0

@@ -1,7 +1,7 @@
 // Where a file keeps its fields: the head's, which every version has, and the constants of each version, kept together.
 #![tactic(auto)]
 
-ghost use Rattle.std.specs.Prelude.{◌≡◌, ◌<◌, ◌^◌};
+ghost use Rattle.std.specs.Prelude.{◌≡◌, ◌<◌, ◌^◌, IfErr};
 ghost use Rattle.lists.specs.Answer.{Answers};
 ghost use Rattle.layout.specs.Head.{entry_offset};
 ghost use Rattle.std.specs.Result.{result_ok};
@@ -190,7 +190,7 @@ impl From<Version> for u32 {
 impl TryFrom<u32> for Version {
     type Error = UnknownVersion;
 
-    ghost try_from_gives = { λ n r. Answers known_said (version_of n) (result_ok r) };
+    ghost try_from_gives = { λ n r. Answers known_said (version_of n) (result_ok r) × IfErr r (λ u. u.0 ≡ n) };
 
     #[tactic(auto, unfolding(crate::specs::Versions::version_of))]
     fn try_from(number: u32) -> Result<Self, UnknownVersion> {

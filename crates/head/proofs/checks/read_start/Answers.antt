@@ -28,7 +28,7 @@ returns-in_err-reach-4 c =
     exit_wanted _ _ _ _ c.from_residual-in_err-reach-4.ensures.1 c.in_err-reach-4.ensures.1
     (reach_on 4 _ _ c.in_ok-reach.field-0.now _ c.in_ok-reach.ensures.0 c.in_ok-reach.ensures.1
     (given_on 1 0 _ _ _ c.ok.result c.in_ok-version.version _ c.in_ok-version.ensures
-    (version_read _ _ _ _ c.try_from.ensures c.ok.ensures.value c.u32_at-number.ensures)
+    (version_read _ _ _ _ c.try_from.ensures.0 c.ok.ensures.value c.u32_at-number.ensures)
     (reach_on 8 _ _ c.in_ok-reach-2.field-0.now _ c.in_ok-reach-2.ensures.0 c.in_ok-reach-2.ensures.1
     (check_on 2 _ _ _ _ _ _ c.in_ok-check.ensures c.signature_fault.ensures
     (reach_on 16 _ _ c.in_ok-reach-3.field-0.now _ c.in_ok-reach-3.ensures.0 c.in_ok-reach-3.ensures.1
@@ -41,7 +41,7 @@ returns-in_err-name_units c =
     exit_refused _ _ _ c.from_residual-in_err-name_units.ensures.1
     (reach_on 4 _ _ c.in_ok-reach.field-0.now _ c.in_ok-reach.ensures.0 c.in_ok-reach.ensures.1
     (given_on 1 0 _ _ _ c.ok.result c.in_ok-version.version _ c.in_ok-version.ensures
-    (version_read _ _ _ _ c.try_from.ensures c.ok.ensures.value c.u32_at-number.ensures)
+    (version_read _ _ _ _ c.try_from.ensures.0 c.ok.ensures.value c.u32_at-number.ensures)
     (reach_on 8 _ _ c.in_ok-reach-2.field-0.now _ c.in_ok-reach-2.ensures.0 c.in_ok-reach-2.ensures.1
     (check_on 2 _ _ _ _ _ _ c.in_ok-check.ensures c.signature_fault.ensures
     (reach_on 16 _ _ c.in_ok-reach-3.field-0.now _ c.in_ok-reach-3.ensures.0 c.in_ok-reach-3.ensures.1
@@ -54,7 +54,7 @@ unfolding start_plan
 returns c =
     reach_on 4 _ _ c.in_ok-reach.field-0.now _ c.in_ok-reach.ensures.0 c.in_ok-reach.ensures.1
     (given_on 1 0 _ _ _ c.ok.result c.in_ok-version.version _ c.in_ok-version.ensures
-    (version_read _ _ _ _ c.try_from.ensures c.ok.ensures.value c.u32_at-number.ensures)
+    (version_read _ _ _ _ c.try_from.ensures.0 c.ok.ensures.value c.u32_at-number.ensures)
     (reach_on 8 _ _ c.in_ok-reach-2.field-0.now _ c.in_ok-reach-2.ensures.0 c.in_ok-reach-2.ensures.1
     (check_on 2 _ _ _ _ _ _ c.in_ok-check.ensures c.signature_fault.ensures
     (reach_on 16 _ _ c.in_ok-reach-3.field-0.now _ c.in_ok-reach-3.ensures.0 c.in_ok-reach-3.ensures.1
