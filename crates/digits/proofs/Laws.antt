@@ -6,7 +6,7 @@ use Prim.Native.Nat.{ℕ, zero, suc, ◌+◌, ◌-◌, ◌≤◌, ◌<◌}
 use native.Mathlib.Omega.{arith}
 use lib.Dec.{leb}
 use lib.ListN.{length, get_or, take, drop, length-take, length-drop}
-use lib.Seq.{paste, take-suc, take_all, get_or-take, get_or-drop}
+use lib.Seq.{paste, length-paste, take-suc, take_all, get_or-take, get_or-drop}
 use native.Mathlib.Nat.{zero-add}
 use Rattle.std.specs.List.{fold}
 use Rattle.std.proofs.lemmas.List.Sums.{fold_push}
@@ -18,6 +18,7 @@ use Rattle.std.specs.Option.{unwrap_or}
 use Rattle.lists.proofs.Count.{any_yes, any_no, any_more, any_false, true-false}
 use Rattle.digits.specs.Hex.{is_digit, hex_at, hex_digits, are_digits, number_in, written}
 use Rattle.digits.specs.Private.{Digits}
+use Rattle.digits.proofs.Hex.{length_digits}
 
 -- ---- whether bytes are digits
 module _ (s : List ℕ) (at w : ℕ) where
@@ -75,6 +76,12 @@ module _ (s : List ℕ) (at w : ℕ) where
   pub written_fits : (x : ℕ) → at + w ≤ length s → written s at w x ≡ paste s at (hex_digits w x) w
   unfolding written
   written_fits x l = rw (le-leb (at + w) (length s) l)
+
+  pub written_length : (x : ℕ) → length (written s at w x) ≡ length s
+  unfolding written
+  written_length x =
+      by_test (leb (at + w) (length s))
+      (λ e. rw e (length-paste s at (hex_digits w x) w (leb-true _ _ e) (omega (arith, length_digits w x)))) (λ e. rw e)
 
 -- digits among digits
 pub digits_within : (s : List ℕ) (at w from k : ℕ) → Digits s at w → at ≤ from → from + k ≤ at + w → Digits s from k

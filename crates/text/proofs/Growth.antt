@@ -74,6 +74,10 @@ module _ {o : List ℕ} {at : ℕ} {a : List ℕ} {r : ℕ} {p b : List ℕ} {q 
 
 -- ---- what a text that was put says
 module _ (o : List ℕ) (at : ℕ) (s : List ℕ) (r : ℕ) (n : List ℕ) (h : Put o at s r n) (l : at ≤ length o) where
+  -- the position stays in the buffer
+  pub put_within : r ≤ length n
+  put_within = omega (arith, h.position, length-take (length o - at) s, put_length o at s r n h)
+
   -- where there is room for all of it, all of it stands there
   pub put_whole : at + length s ≤ length o → take (r - at) (drop at n) ≡ s
   put_whole m =
