@@ -115,7 +115,8 @@ pub fn hs_read_file(file: &[u8], predecessors: &mut [u32], out: &mut [u64]) -> u
     ensures { FileOut file.now predecessors.old result predecessors.new out.old out.new }
 {
     let v = reader::read_file(file, predecessors);
-    put_reply(full_reply(v), out)
+    let reply = full_reply(v);
+    put_reply(reply, out)
 }
 
 // The writer of test files: 0 written, 1 refused; `out` as the readers'.
