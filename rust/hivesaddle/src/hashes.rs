@@ -85,8 +85,8 @@ pub fn hash_2008_bytes(text: &[u8]) -> u32 {
 
 /// [`hash_vista`] by a second engine, for many paths: it adds up each number
 /// times its power of 37, from a table of 1,024 powers. Past 1,024 numbers it
-/// takes the plain step. The table is laid out anew in each call, so a list of
-/// a few numbers is hashed quicker by [`hash_vista`].
+/// takes the plain step. A list of some ten numbers takes as long by
+/// [`hash_vista`].
 ///
 /// ```
 /// assert_eq!(hivesaddle::hash_powers(&[]), 314159);
