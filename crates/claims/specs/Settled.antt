@@ -6,7 +6,6 @@ use Rattle.std.specs.Borrow.{Bor, MutBor}
 use Rattle.std.specs.Result.{result_ok}
 use Rattle.lists.specs.Part.{IsPart}
 use Rattle.lists.specs.Answer.{Answers}
-use Rattle.lists.specs.Answer.{Answers}
 use Rattle.digits.specs.Hex.{hex_digits}
 use Rattle.text.specs.Decimal.{decimal}
 use Rattle.text.specs.Put.{Put, Puts, Begun}
